@@ -1,18 +1,16 @@
 -- What was read of the six fields of a record, and what follows for the whole.
-use Rattle.std.proofs.Common.{◌≡◌, ℕ, ◌^◌, ◌<◌, ◌↔◌, List, [], ◌∷◌, ◌++◌, length, take, drop, get_or, Option, Some, None, refl, sym, ap, subst, ◌∙◌, arith}
+use Rattle.std.proofs.Common.{◌≡◌, ℕ, ◌^◌, ◌<◌, ◌↔◌, List, [], ◌∷◌, ◌++◌, length, take, drop, get_or, refl, sym, ap, subst, ◌∙◌, arith}
 use Rattle.std.proofs.lemmas.List.Elements.{All-nil, All-cons, All-append}
 use Rattle.std.specs.Prelude.{All, IfSome, IfOk, IfErr, MatchResult, Result, Ok, Err, decimal, map}
 use Rattle.std.specs.Borrow.{Bor}
 use Rattle.std.specs.List.{join_with_byte}
 use Rattle.std.proofs.lemmas.List.Splits.{join_with_byte-slice_split}
-use Rattle.pb_board.specs.declared.piece.Colour.{Colour}
-use Rattle.pb_board.specs.declared.piece.Colour.TheVariants.{White, Black}
 use Rattle.pb_board.specs.declared.refusal.SetupError.{SetupError}
 use Rattle.pb_board.specs.declared.refusal.SetupError.TheVariants as fault
 use Rattle.pb_board.specs.declared.refusal.FenError.{FenError}
 use Rattle.pb_board.specs.declared.refusal.FenError.TheVariants as refusal
 use Rattle.pb_board.specs.Board.{Place}
-use Rattle.pb_board.specs.Position.{Position, Record, IsSetup, HasOneKing, HasNoEdgePawn, EnPassantHolds, OnEnPassantRank, WasSteppedOver}
+use Rattle.pb_board.specs.Position.{Position, Record, IsSetup, HasKings, HasNoEdgePawn, EnPassantHolds, OnEnPassantRank}
 use Rattle.pb_board.specs.Fields.{field, fields}
 use Rattle.pb_board.specs.Parts.{AreParts, IsRefusedAs, refusal_of}
 use Rattle.pb_board.specs.Text.{castling_text, en_passant_text, fen_text, placement_text, setup_fields, turn_text}
@@ -20,10 +18,6 @@ use Rattle.pb_board.specs.Position.{IsRecord, record_of}
 use Rattle.pb_board.specs.Refusal.{IsDueFen, IsFault, IsFirstFault, SpellsBoard, SpellsSquare, fen_errors, of_setup}
 use Rattle.pb_board.proofs.Unique.{placement_injective, turn_injective, en_passant_injective, fields_of_text, on_rank, one_record, one_setup}
 use Rattle.pb_board.proofs.Dues.{IsFirstDue, first_here, first_later, first_front, first_behind, first_map, none_first}
-
-en_passant_holds : (board : List Place) (turn : Colour) (ep : Option ℕ) → IfSome ep (OnEnPassantRank turn) → IfSome ep (WasSteppedOver board turn) → EnPassantHolds board turn ep
-en_passant_holds board turn None h k = h
-en_passant_holds board turn (Some q) h k = (h, k)
 
 -- the first four pieces of a text are these
 pub record Begins (pieces four : List (List ℕ)) : Type 0 where
@@ -50,10 +44,6 @@ all_three P x y z h k l = All-cons P x (y ∷ z ∷ []) h (all_two P y z k l)
 
 all_four : {A : Type 0} (P : A → Type 0) (w x y z : A) → P w → P x → P y → P z → All P (w ∷ x ∷ y ∷ z ∷ [])
 all_four P w x y z g h k l = All-cons P w (x ∷ y ∷ z ∷ []) g (all_three P x y z h k l)
-
-is_en_passant : (board : List Place) (turn : Colour) (ep : Option ℕ) → EnPassantHolds board turn ep → IfSome ep (WasSteppedOver board turn)
-is_en_passant board turn None h = h
-is_en_passant board turn (Some q) h = h.1
 
 module _ (pieces four : List (List ℕ)) (p : Position) (cut : Begins pieces four) (h : AreParts p four) where
   placement_is : field pieces 0 ≡ placement_text p.board
@@ -84,9 +74,7 @@ module _ (pieces four : List (List ℕ)) (p : Position) (cut : Begins pieces fou
       (λ due. due p.board spells_board) (λ due. due p.turn turn_is) (λ due. due p.rights castling_is) (λ due. due p.turn p.ep spells_square)
 
   kings_due : IsFault fault.Kings p → IsDueFen pieces refusal.Kings
-  kings_due bad x s white black =
-      let same = only_board x s in
-      bad (subst (λ w. HasOneKing w White) same white) (subst (λ w. HasOneKing w Black) same black)
+  kings_due bad x s kings = bad (subst HasKings (only_board x s) kings)
 
   pawns_due : IsFault fault.Pawns p → IsDueFen pieces refusal.Pawns
   pawns_due bad x s none = bad (subst HasNoEdgePawn (only_board x s) none)
@@ -96,13 +84,13 @@ module _ (pieces four : List (List ℕ)) (p : Position) (cut : Begins pieces fou
       let same = only_board x s in
       let side : t ≡ p.turn = turn_injective t p.turn (sym sp.0 ∙ turn_is) in
       let square : q ≡ p.ep = en_passant_injective t q p.ep sp.2 (subst (λ w. IfSome p.ep (OnEnPassantRank w)) (sym side) h.rank_is) (sym sp.1 ∙ square_is) in
-      bad (en_passant_holds p.board p.turn p.ep h.rank_is (subst (λ w. IfSome w (WasSteppedOver p.board p.turn)) square (subst (λ w. IfSome q (WasSteppedOver p.board w)) side (subst (λ w. IfSome q (WasSteppedOver w t)) same holds))))
+      bad (subst (EnPassantHolds p.board p.turn) square (subst (λ w. EnPassantHolds p.board w q) side (subst (λ w. EnPassantHolds w t q) same holds)))
 
   -- the parts break a rule exactly where the refusal of that rule is due
   fault_is : (e : SetupError) → IsFault e p ↔ IsDueFen pieces (refusal_of e)
-  fault_is fault.Kings = (kings_due, λ due white black. due p.board spells_board white black)
-  fault_is fault.Pawns = (pawns_due, λ due none. due p.board spells_board none)
-  fault_is fault.EnPassant = (en_passant_due, λ due holds. due p.board p.turn p.ep spells_board spells_square (is_en_passant p.board p.turn p.ep holds))
+  fault_is fault.Kings = (kings_due, λ due. due p.board spells_board)
+  fault_is fault.Pawns = (pawns_due, λ due. due p.board spells_board)
+  fault_is fault.EnPassant = (en_passant_due, λ due. due p.board p.turn p.ep spells_board spells_square)
 
   fault_due : (e : SetupError) → IsFirstFault e p → IsFirstDue of_parts (refusal_of e) pieces
   fault_due e f = first_map refusal_of (λ x. IsFault x p) (IsDueFen pieces) (fault.Kings ∷ fault.Pawns ∷ fault.EnPassant ∷ []) e (λ i x lt. fault_is _) f
@@ -110,7 +98,7 @@ module _ (pieces four : List (List ℕ)) (p : Position) (cut : Begins pieces fou
   no_fault_due : IsSetup p → All (NotDue pieces) of_parts
   no_fault_due lawful =
       all_three (NotDue pieces) refusal.Kings refusal.Pawns refusal.EnPassantPawn
-      (λ due. (fault_is fault.Kings).1 due lawful.white_king lawful.black_king) (λ due. (fault_is fault.Pawns).1 due lawful.pawns) (λ due. (fault_is fault.EnPassant).1 due lawful.en_passant)
+      (λ due. (fault_is fault.Kings).1 due lawful.kings) (λ due. (fault_is fault.Pawns).1 due lawful.pawns) (λ due. (fault_is fault.EnPassant).1 due lawful.en_passant)
 
 -- ---- four texts
 

@@ -15,9 +15,10 @@ use Rattle.pb_board.specs.Board.{Place, Board, file, rank}
 use Rattle.pb_board.specs.Position.{OnEnPassantRank}
 use Rattle.pb_board.specs.Piece.{piece_of}
 use Rattle.pb_board.specs.Ranks.{RankText}
+use Rattle.pb_board.specs.Rights.{only_if}
 use Rattle.pb_board.specs.Text.{castling_text, en_passant_text, piece_letter, placement_text, turn_text}
 use Rattle.pb_board.proofs.Placements.{PlacementText, rank_of, ranks_down}
-use Rattle.pb_board.proofs.Spelled.{castling_is, flag_letters, letter_if, or_dash, placement_is}
+use Rattle.pb_board.proofs.Spelled.{castling_is, flag_letters, or_dash, placement_is}
 use Rattle.pb_board.proofs.Numbers.{clock_numeral}
 use Rattle.pb_board.proofs.Joins.{Above}
 
@@ -124,7 +125,7 @@ pub turn_bytes : (turn : Colour) → AreFieldBytes (turn_text turn)
 turn_bytes White = one 119 (high_byte 119 (omega arith) (omega arith))
 turn_bytes Black = one 98 (high_byte 98 (omega arith) (omega arith))
 
-flag_bytes : (flag : Bool) (c : ℕ) → 60 ≤ c → c ≤ 119 → AreFieldBytes (letter_if flag c)
+flag_bytes : (flag : Bool) (c : ℕ) → 60 ≤ c → c ≤ 119 → AreFieldBytes (only_if flag c)
 flag_bytes true c low high = one c (high_byte c low high)
 flag_bytes false c low high = All-nil IsFieldByte
 
@@ -134,9 +135,9 @@ dash_bytes (c ∷ text) h = h
 
 pub castling_bytes : (r : Rights) → AreFieldBytes (castling_text r)
 castling_bytes r =
-    subst AreFieldBytes (castling_is r) (dash_bytes (flag_letters r) (All-append IsFieldByte (letter_if r.white_short 75) _ (flag_bytes r.white_short 75 (omega arith) (omega arith))
-    (All-append IsFieldByte (letter_if r.white_long 81) _ (flag_bytes r.white_long 81 (omega arith) (omega arith))
-    (All-append IsFieldByte (letter_if r.black_short 107) _ (flag_bytes r.black_short 107 (omega arith) (omega arith))
+    subst AreFieldBytes (castling_is r) (dash_bytes (flag_letters r) (All-append IsFieldByte (only_if r.white_short 75) _ (flag_bytes r.white_short 75 (omega arith) (omega arith))
+    (All-append IsFieldByte (only_if r.white_long 81) _ (flag_bytes r.white_long 81 (omega arith) (omega arith))
+    (All-append IsFieldByte (only_if r.black_short 107) _ (flag_bytes r.black_short 107 (omega arith) (omega arith))
     (flag_bytes r.black_long 113 (omega arith) (omega arith))))))
 
 en_passant_bytes_at : (turn : Colour) (q : ℕ) → OnEnPassantRank turn q → IsFieldByte (49 + rank q)

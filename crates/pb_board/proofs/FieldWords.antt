@@ -9,9 +9,10 @@ use Rattle.pb_board.specs.declared.piece.Colour.TheVariants.{White, Black}
 use Rattle.pb_board.specs.declared.setup.Rights.{Rights}
 use Rattle.pb_board.specs.Board.{Board}
 use Rattle.pb_board.specs.Position.{Position, IsSetup}
+use Rattle.pb_board.specs.Rights.{only_if}
 use Rattle.pb_board.specs.Text.{castling_text, en_passant_text, placement_text, setup_fields, turn_text}
 use Rattle.pb_board.proofs.FieldBytes.{IsFieldByte, AreFieldBytes, placement_length, placement_bytes, turn_bytes, castling_bytes, en_passant_bytes}
-use Rattle.pb_board.proofs.Spelled.{castling_is, flag_letters, letter_if, or_dash}
+use Rattle.pb_board.proofs.Spelled.{castling_is, flag_letters, or_dash}
 use Rattle.pb_board.proofs.Unique.{on_rank}
 
 abbrev pub IsPlainByte : ℕ → Type 0
@@ -30,20 +31,20 @@ turn_word : (turn : Colour) → IsWord (turn_text turn)
 turn_word White = word (turn_text White) (omega arith) (omega arith) (turn_bytes White)
 turn_word Black = word (turn_text Black) (omega arith) (omega arith) (turn_bytes Black)
 
-letter_short : (flag : Bool) (c : ℕ) → length (letter_if flag c) ≤ 1
+letter_short : (flag : Bool) (c : ℕ) → length (only_if flag c) ≤ 1
 letter_short true c = omega arith
 letter_short false c = omega arith
 
 flags_short : (r : Rights) → length (flag_letters r) ≤ 4
 flags_short r =
     let short = letter_short r.black_long 113 in
-    let two = letter_if r.black_short 107 ++ letter_if r.black_long 113 in
-    let three = letter_if r.white_long 81 ++ two in
+    let two = only_if r.black_short 107 ++ only_if r.black_long 113 in
+    let three = only_if r.white_long 81 ++ two in
     omega (
       arith,
-      length-append (letter_if r.white_short 75) three,
-      length-append (letter_if r.white_long 81) two,
-      length-append (letter_if r.black_short 107) (letter_if r.black_long 113),
+      length-append (only_if r.white_short 75) three,
+      length-append (only_if r.white_long 81) two,
+      length-append (only_if r.black_short 107) (only_if r.black_long 113),
       short,
       letter_short r.white_short 75,
       letter_short r.white_long 81,

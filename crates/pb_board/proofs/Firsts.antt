@@ -2,12 +2,11 @@
 use Rattle.std.proofs.Common.{◌≡◌, ◌≢◌, ℕ, List, [], ◌∷◌, length, take, Option, sym, subst, ◌∙◌}
 use Rattle.std.specs.Prelude.{IfSome}
 use Rattle.pb_board.specs.declared.piece.Colour.{Colour}
-use Rattle.pb_board.specs.declared.piece.Colour.TheVariants.{White, Black}
 use Rattle.pb_board.specs.declared.setup.Rights.{Rights}
 use Rattle.pb_board.specs.declared.refusal.SetupError.TheVariants as fault
 use Rattle.pb_board.specs.declared.refusal.FenError.TheVariants as refusal
 use Rattle.pb_board.specs.Board.{Board}
-use Rattle.pb_board.specs.Position.{Position, HasOneKing, HasNoEdgePawn, EnPassantHolds, OnEnPassantRank}
+use Rattle.pb_board.specs.Position.{Position, HasKings, HasNoEdgePawn, EnPassantHolds, OnEnPassantRank}
 use Rattle.pb_board.specs.Text.{placement_text, turn_text, castling_text, en_passant_text}
 use Rattle.pb_board.specs.Refusal.{IsDueFen, IsFault, IsFirstFault, of_setup}
 use Rattle.pb_board.proofs.Dues.{IsFirstDue, first_here, first_later}
@@ -16,17 +15,17 @@ use Rattle.pb_board.proofs.Unique.{turn_injective}
 -- ---- parts
 
 module _ (p : Position) where
-  pub kings_first : (HasOneKing p.board White → HasOneKing p.board Black → ⊥) → IsFirstFault fault.Kings p
+  pub kings_first : ¬ HasKings p.board → IsFirstFault fault.Kings p
   kings_first bad = first_here (λ x. IsFault x p) fault.Kings (fault.Pawns ∷ fault.EnPassant ∷ []) bad
 
-  pub pawns_first : HasOneKing p.board White → HasOneKing p.board Black → (HasNoEdgePawn p.board → ⊥) → IsFirstFault fault.Pawns p
-  pawns_first white black bad =
-      first_later (λ x. IsFault x p) fault.Kings fault.Pawns (fault.Pawns ∷ fault.EnPassant ∷ []) (λ due. due white black)
+  pub pawns_first : HasKings p.board → ¬ HasNoEdgePawn p.board → IsFirstFault fault.Pawns p
+  pawns_first kings bad =
+      first_later (λ x. IsFault x p) fault.Kings fault.Pawns (fault.Pawns ∷ fault.EnPassant ∷ []) (λ due. due kings)
       (first_here (λ x. IsFault x p) fault.Pawns (fault.EnPassant ∷ []) bad)
 
-  pub en_passant_first : HasOneKing p.board White → HasOneKing p.board Black → HasNoEdgePawn p.board → (EnPassantHolds p.board p.turn p.ep → ⊥) → IsFirstFault fault.EnPassant p
-  en_passant_first white black pawns bad =
-      first_later (λ x. IsFault x p) fault.Kings fault.EnPassant (fault.Pawns ∷ fault.EnPassant ∷ []) (λ due. due white black)
+  pub en_passant_first : HasKings p.board → HasNoEdgePawn p.board → ¬ EnPassantHolds p.board p.turn p.ep → IsFirstFault fault.EnPassant p
+  en_passant_first kings pawns bad =
+      first_later (λ x. IsFault x p) fault.Kings fault.EnPassant (fault.Pawns ∷ fault.EnPassant ∷ []) (λ due. due kings)
       (first_later (λ x. IsFault x p) fault.Pawns fault.EnPassant (fault.EnPassant ∷ []) (λ due. due pawns) (first_here (λ x. IsFault x p) fault.EnPassant [] bad))
 
 -- ---- texts

@@ -7,10 +7,11 @@ use Rattle.std.proofs.lemmas.List.{get_or_past}
 use Rattle.std.proofs.lemmas.Nat.{and_le_l, pow_pos}
 use Rattle.std.proofs.lemmas.Nat.Bits.{bit_at-zero, bit_at_above, bit_at_and, bit_at_cat_high, bit_at_cat_low, bit_at_ones, bit_at-lt, bit_at-pow_other, bit_at-pow_same, bit_at-trailing_zeros, same_from_bits_below}
 use Rattle.pb_board.specs.declared.piece.Colour.{Colour}
+use Rattle.pb_board.specs.declared.piece.Colour.TheVariants.{White, Black}
 use Rattle.pb_board.specs.declared.piece.Piece.{Piece}
-use Rattle.pb_board.specs.Piece.{king_of, pawn_of}
+use Rattle.pb_board.specs.Piece.{king_of, opponent, pawn_of}
 use Rattle.pb_board.specs.Board.{Board, Holds, rank}
-use Rattle.pb_board.specs.Position.{HasNoEdgePawn, HasOneKing, IsOnlyKing}
+use Rattle.pb_board.specs.Position.{HasKings, HasNoEdgePawn, IsOnlyKing}
 use Rattle.pb_board.proofs.BitboardBits.{same_or_not}
 
 -- what holds a piece is on the board
@@ -24,6 +25,13 @@ holds_on_board board q piece holds =
 -- a king stands alone who stands here, and nowhere else
 pub only_king : (board : Board) (side : Colour) (k : ℕ) → Holds board k (king_of side) → ((q : ℕ) → Holds board q (king_of side) → q ≡ k) → IsOnlyKing board side k
 only_king board side k here nowhere_else q = (nowhere_else q, λ e. subst (λ x. Holds board x (king_of side)) (sym e) here)
+
+-- the kings of both sides, from that of one and that of the other
+pub both_kings : (board : Board) (side : Colour) (own enemy : ℕ) → IsOnlyKing board side own → IsOnlyKing board (opponent side) enemy → HasKings board
+both_kings board White own enemy h k White = (own, h)
+both_kings board White own enemy h k Black = (enemy, k)
+both_kings board Black own enemy h k White = (enemy, k)
+both_kings board Black own enemy h k Black = (own, h)
 
 module _ (board : Board) (side : Colour) (kings : ℕ) (told : (q : ℕ) → (bit_at kings q ≡ 1) ↔ Holds board q (king_of side)) where
   -- a number with the one bit of a square is that of a king who stands there alone
@@ -53,12 +61,12 @@ module _ (board : Board) (side : Colour) (kings : ℕ) (told : (q : ℕ) → (bi
       )
 
   -- so the lowest bit is it
-  pub one_king_bit : kings < 2 ^ 64 → HasOneKing board side → (trailing_zeros w64 kings < 64) × (kings ≡ 2 ^ trailing_zeros w64 kings)
-  one_king_bit small h =
-      let bit = alone_is_a_bit small h.0 h.1 in
-      let lowest = bit_at-trailing_zeros w64 kings (subst (λ n. 0 < n) (sym bit.1) (pow_pos h.0)) small in
-      let is : trailing_zeros w64 kings ≡ h.0 = (h.1 (trailing_zeros w64 kings)).0 ((told (trailing_zeros w64 kings)).0 lowest.1) in
-      (lowest.0, bit.1 ∙ ap (λ k. 2 ^ k) (sym is))
+  pub one_king_bit : kings < 2 ^ 64 → (square : ℕ) → IsOnlyKing board side square → (trailing_zeros w64 kings < 64) × (trailing_zeros w64 kings ≡ square) × (kings ≡ 2 ^ trailing_zeros w64 kings)
+  one_king_bit small square only =
+      let bit = alone_is_a_bit small square only in
+      let lowest = bit_at-trailing_zeros w64 kings (subst (λ n. 0 < n) (sym bit.1) (pow_pos square)) small in
+      let is : trailing_zeros w64 kings ≡ square = (only (trailing_zeros w64 kings)).0 ((told (trailing_zeros w64 kings)).0 lowest.1) in
+      (lowest.0, is, bit.1 ∙ ap (λ k. 2 ^ k) (sym is))
 
 -- the squares of ranks 1 and 8, as a number
 abbrev edge_ranks : ℕ

@@ -1,9 +1,11 @@
 -- The texts of ranks, boards and castling rights are those that the relations tell.
-use Rattle.std.proofs.Common.{◌≡◌, ℕ, zero, suc, ◌+◌, ◌*◌, ◌≤◌, Bool, true, false, eqb, List, [], ◌∷◌, ◌++◌, length, drop, replicate, Some, None, refl, ap, subst, inl, inr, arith}
+use Rattle.std.proofs.Common.{◌≡◌, ℕ, zero, suc, ◌+◌, ◌*◌, ◌≤◌, false, ◌==◌, eqb, List, [], ◌∷◌, ◌++◌, length, drop, replicate, Some, None, refl, ap, subst, inl, inr, arith}
+use Rattle.std.specs.Prelude.{codes, if◌then◌else◌}
 use Rattle.std.proofs.lemmas.List.{length-take}
 use Rattle.pb_board.specs.declared.setup.Rights.{Rights}
 use Rattle.pb_board.specs.Board.{Place}
 use Rattle.pb_board.specs.Ranks.{RankText}
+use Rattle.pb_board.specs.Rights.{of_rights}
 use Rattle.pb_board.specs.Text.{castling_text, empty_squares, placement_text, rank_text}
 use Rattle.pb_board.proofs.Placements.{PlacementText, rank_of}
 
@@ -40,36 +42,18 @@ placement_is board = (
 
 -- ---- castling rights
 
-abbrev pub letter_if : Bool → ℕ → List ℕ
-letter_if true c = c ∷ []
-letter_if false c = []
-
 -- the letters of the flags that are set, in the order K Q k q
 abbrev pub flag_letters : Rights → List ℕ
-flag_letters r = letter_if r.white_short 75 ++ (letter_if r.white_long 81 ++ (letter_if r.black_short 107 ++ letter_if r.black_long 113))
+flag_letters r = of_rights r 75 81 107 113
 
 -- a - in the place of an empty text
 abbrev pub or_dash : List ℕ → List ℕ
 or_dash [] = 45 ∷ []
 or_dash (c ∷ text) = c ∷ text
 
-castling_at : (a b c d : Bool) → (let r : Rights = record { white_short = a; white_long = b; black_short = c; black_long = d } in or_dash (flag_letters r) ≡ castling_text r)
-castling_at true true true true = refl
-castling_at true true true false = refl
-castling_at true true false true = refl
-castling_at true true false false = refl
-castling_at true false true true = refl
-castling_at true false true false = refl
-castling_at true false false true = refl
-castling_at true false false false = refl
-castling_at false true true true = refl
-castling_at false true true false = refl
-castling_at false true false true = refl
-castling_at false true false false = refl
-castling_at false false true true = refl
-castling_at false false true false = refl
-castling_at false false false true = refl
-castling_at false false false false = refl
+dash_is : (text : List ℕ) → or_dash text ≡ (if length text == 0 then codes "-" else text)
+dash_is [] = refl
+dash_is (c ∷ text) = let e : eqb (suc (length text)) 0 ≡ false = grind arith in rw e refl
 
 pub castling_is : (r : Rights) → or_dash (flag_letters r) ≡ castling_text r
-castling_is r = castling_at r.white_short r.white_long r.black_short r.black_long
+castling_is r = dash_is (flag_letters r)

@@ -9,7 +9,7 @@ use Rattle.pb_board.specs.declared.piece.Piece.{Piece}
 use Rattle.pb_board.specs.declared.setup.Rights.{Rights}
 use Rattle.pb_board.specs.Piece.{king_of, pawn_of}
 use Rattle.pb_board.specs.Board.{Place, Board, at, Holds}
-use Rattle.pb_board.specs.Position.{HasNoEdgePawn, IsOnlyKing, IsSetup, position_of}
+use Rattle.pb_board.specs.Position.{HasKings, HasNoEdgePawn, IsOnlyKing, IsSetup, position_of}
 use Rattle.pb_board.specs.Text.{piece_letter}
 use Rattle.pb_board.specs.Initial.{initial_board}
 use Rattle.pb_board.proofs.Kings.{only_king}
@@ -75,20 +75,16 @@ unfolding initial_board edge_test is_it
 edges White = refl
 edges Black = refl
 
-white_king : IsOnlyKing initial_board White 4
+kings : HasKings initial_board
 unfolding initial_board king_test is_it
-white_king = tested_king initial_board White 4 refl refl
-
-black_king : IsOnlyKing initial_board Black 60
-unfolding initial_board king_test is_it
-black_king = tested_king initial_board Black 60 refl refl
+kings White = (4, tested_king initial_board White 4 refl refl)
+kings Black = (60, tested_king initial_board Black 60 refl refl)
 
 pub initial_rules : (rights : Rights) → IsSetup (position_of initial_board White rights None)
 unfolding initial_board
 initial_rules rights = record {
   places = refl;
-  white_king = (4, white_king);
-  black_king = (60, black_king);
+  kings = kings;
   pawns = no_edge_pawn initial_board edges;
   en_passant = tt;
 }

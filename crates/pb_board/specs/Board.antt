@@ -1,11 +1,11 @@
 -- A board, by what stands on each of its squares. A square is its index, 8 * rank + file, with a1
 -- at 0 and h8 at 63.
-use Rattle.std.specs.Prelude.{◌≡◌, ℕ, ◌/◌, ◌%◌, ◌+◌, ◌-◌, Bool, false, ◌&&◌}
+use Rattle.std.specs.Prelude.{◌≡◌, ℕ, ◌/◌, ◌%◌, ◌+◌, ◌-◌, Bool, false}
 use Rattle.std.specs.Prelude.{◌==◌, List, Option, Some, None, slice_index_or}
 use Rattle.pb_board.specs.declared.piece.Colour.{Colour}
 use Rattle.pb_board.specs.declared.piece.Colour.TheVariants.{White, Black}
 use Rattle.pb_board.specs.declared.piece.Piece.{Piece}
-use Rattle.pb_board.specs.Piece.{colour_number, kind_number}
+use Rattle.pb_board.specs.Piece.{piece_number}
 
 -- what stands on a square: a piece or nothing
 abbrev pub Place : Type 0
@@ -48,5 +48,4 @@ IsForward Black n a b = rank a ≡ rank b + n
 -- this piece stands there
 abbrev pub is_piece : Piece → Place → Bool
 is_piece piece None = false
-is_piece piece (Some p) = kind_number p.kind == kind_number piece.kind
-    && colour_number p.colour == colour_number piece.colour
+is_piece piece (Some p) = piece_number p == piece_number piece

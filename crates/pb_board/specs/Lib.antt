@@ -1,5 +1,6 @@
 pub mod Piece
 pub mod Castling
+pub mod Rights
 pub mod Board
 pub mod Position
 pub mod MovedPiece

@@ -1,5 +1,5 @@
 -- Sides and pieces.
-use Rattle.std.specs.Prelude.{ℕ}
+use Rattle.std.specs.Prelude.{ℕ, ◌+◌, ◌-◌, ◌*◌}
 use Rattle.pb_board.specs.declared.piece.Colour.{Colour}
 use Rattle.pb_board.specs.declared.piece.Colour.TheVariants.{White, Black}
 use Rattle.pb_board.specs.declared.piece.Kind.{Kind}
@@ -33,3 +33,7 @@ kind_number Bishop = 2
 kind_number Rook = 3
 kind_number Queen = 4
 kind_number King = 5
+
+-- the pieces in PolyGlot's order: black pawn, white pawn, black knight, ..
+abbrev pub piece_number : Piece → ℕ
+piece_number p = 2 * kind_number p.kind + (1 - colour_number p.colour)

@@ -23,8 +23,9 @@ position_of board turn rights ep = record { board = board; turn = turn; rights =
 abbrev pub IsOnlyKing : Board → Colour → ℕ → Type 0
 IsOnlyKing board side king = (q : ℕ) → Holds board q (piece_of side King) ↔ (q ≡ king)
 
-abbrev pub HasOneKing : Board → Colour → Type 0
-HasOneKing board side = (king : ℕ) × IsOnlyKing board side king
+-- each side has one king
+abbrev pub HasKings : Board → Type 0
+HasKings board = (side : Colour) → (king : ℕ) × IsOnlyKing board side king
 
 -- no pawn stands on rank 1 or 8
 abbrev pub HasNoEdgePawn : Board → Type 0
@@ -40,20 +41,17 @@ beyond Black q = q + 8
 abbrev pub OnEnPassantRank : Colour → ℕ → Type 0
 OnEnPassantRank turn q = rank_for turn q ≡ 5
 
--- the square is empty, and beyond it stands an enemy pawn, as after a double step
-abbrev pub WasSteppedOver : Board → Colour → ℕ → Type 0
-WasSteppedOver board turn q =
-    IsEmpty board q × Holds board (beyond turn q) (piece_of (opponent turn) Pawn)
-
+-- an en passant square is on that rank and empty, and beyond it stands an enemy pawn, as after a
+-- double step
 abbrev pub EnPassantHolds : Board → Colour → Option ℕ → Type 0
-EnPassantHolds board turn ep = IfSome ep (λ q. OnEnPassantRank turn q × WasSteppedOver board turn q)
+EnPassantHolds board turn ep = IfSome ep (λ q. OnEnPassantRank turn q
+    × (IsEmpty board q × Holds board (beyond turn q) (piece_of (opponent turn) Pawn)))
 
 -- The rules that every setup meets. Castling rights are those of the record, wherever the kings and
 -- rooks stand.
 pub record IsSetup (p : Position) : Type 0 where
   pub places : length p.board ≡ 64
-  pub white_king : HasOneKing p.board White
-  pub black_king : HasOneKing p.board Black
+  pub kings : HasKings p.board
   pub pawns : HasNoEdgePawn p.board
   pub en_passant : EnPassantHolds p.board p.turn p.ep
 

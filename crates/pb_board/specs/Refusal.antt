@@ -3,7 +3,6 @@
 use Rattle.std.specs.Prelude.{◌≡◌, ◌≢◌, ℕ, ◌-◌, ◌<◌, ◌^◌, List, [], ◌∷◌, ◌++◌}
 use Rattle.std.specs.Prelude.{length, take, Option, IfSome, All, decimal}
 use Rattle.pb_board.specs.declared.piece.Colour.{Colour}
-use Rattle.pb_board.specs.declared.piece.Colour.TheVariants.{White, Black}
 use Rattle.pb_board.specs.declared.setup.Rights.{Rights}
 use Rattle.pb_board.specs.declared.refusal.SetupError.{SetupError}
 use Rattle.pb_board.specs.declared.refusal.SetupError.TheVariants as fault
@@ -11,8 +10,8 @@ use Rattle.pb_board.specs.declared.refusal.FenError.{FenError}
 use Rattle.pb_board.specs.declared.refusal.FenError.TheVariants as fen
 use Rattle.pb_board.specs.Board.{Board}
 use Rattle.pb_board.specs.Fields.{field}
-use Rattle.pb_board.specs.Position.{Position, HasOneKing, HasNoEdgePawn}
-use Rattle.pb_board.specs.Position.{EnPassantHolds, OnEnPassantRank, WasSteppedOver}
+use Rattle.pb_board.specs.Position.{Position, HasKings, HasNoEdgePawn}
+use Rattle.pb_board.specs.Position.{EnPassantHolds, OnEnPassantRank}
 use Rattle.pb_board.specs.Text.{castling_text, en_passant_text, placement_text, turn_text}
 
 -- this one of the list is due, and none before it
@@ -28,7 +27,7 @@ BreaksAt rule xs n = rule (take (n - 1) xs) × ¬ rule (take n xs)
 
 -- when parts are no setup
 abbrev pub IsFault : SetupError → Position → Type 0
-IsFault fault.Kings p = HasOneKing p.board White → ¬ HasOneKing p.board Black
+IsFault fault.Kings p = ¬ HasKings p.board
 IsFault fault.Pawns p = ¬ HasNoEdgePawn p.board
 IsFault fault.EnPassant p = ¬ EnPassantHolds p.board p.turn p.ep
 
@@ -57,11 +56,10 @@ IsDueFen parts fen.Castling = (rights : Rights) → field parts 2 ≢ castling_t
 IsDueFen parts fen.EnPassantText = (turn : Colour) (ep : Option ℕ) → ¬ SpellsSquare parts turn ep
 IsDueFen parts fen.Half = (n : ℕ) → n < 2 ^ 16 → field parts 4 ≢ decimal n
 IsDueFen parts fen.Full = (n : ℕ) → 0 < n → n < 2 ^ 16 → field parts 5 ≢ decimal n
-IsDueFen parts fen.Kings =
-    (board : Board) → SpellsBoard parts board → HasOneKing board White → ¬ HasOneKing board Black
+IsDueFen parts fen.Kings = (board : Board) → SpellsBoard parts board → ¬ HasKings board
 IsDueFen parts fen.Pawns = (board : Board) → SpellsBoard parts board → ¬ HasNoEdgePawn board
 IsDueFen parts fen.EnPassantPawn = (board : Board) (turn : Colour) (ep : Option ℕ)
-    → SpellsBoard parts board → SpellsSquare parts turn ep → ¬ IfSome ep (WasSteppedOver board turn)
+    → SpellsBoard parts board → SpellsSquare parts turn ep → ¬ EnPassantHolds board turn ep
 
 -- in the order in which they are looked for
 abbrev pub fen_errors : List FenError

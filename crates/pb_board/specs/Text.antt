@@ -1,26 +1,25 @@
 -- The texts of FEN records and of their parts (PGN Standard 1994, section 16.1).
-use Rattle.std.specs.Prelude.{ℕ, ◌+◌, ◌*◌, ◌==◌, List, [], ◌∷◌, ◌++◌, length, map, filter, take}
-use Rattle.std.specs.Prelude.{drop, codes, decimal, slice_index, Option, Some, None, if◌then◌else◌}
+use Rattle.std.specs.Prelude.{ℕ, ◌+◌, ◌*◌, ◌==◌, not, List, [], ◌∷◌, ◌++◌, length, map, take, drop}
+use Rattle.std.specs.Prelude.{codes, decimal, slice_index, Option, Some, None, if◌then◌else◌}
 use Rattle.std.specs.List.{join_with_byte}
 use Rattle.std.specs.Option.{option_map_or}
 use Rattle.pb_board.specs.declared.piece.Colour.{Colour}
 use Rattle.pb_board.specs.declared.piece.Colour.TheVariants.{White, Black}
 use Rattle.pb_board.specs.declared.piece.Piece.{Piece}
 use Rattle.pb_board.specs.declared.setup.Rights.{Rights}
-use Rattle.pb_board.specs.Piece.{colour_number, kind_number}
+use Rattle.pb_board.specs.Piece.{piece_number}
 use Rattle.pb_board.specs.Board.{Place, file, rank}
-use Rattle.pb_board.specs.Castling.{castlings, castling_row}
 use Rattle.pb_board.specs.Fields.{space}
 use Rattle.pb_board.specs.Position.{Position, Record}
+use Rattle.pb_board.specs.Rights.{of_rights, only_if}
 
 -- White's pieces have capital letters
 abbrev pub piece_letter : Piece → ℕ
-piece_letter p =
-    slice_index (codes "PNBRQKpnbrqk") (6 * colour_number p.colour + kind_number p.kind)
+piece_letter p = slice_index (codes "pPnNbBrRqQkK") (piece_number p)
 
 -- the digit of so many empty squares
 abbrev pub empty_squares : ℕ → List ℕ
-empty_squares n = if n == 0 then [] else (48 + n) ∷ []
+empty_squares n = only_if (not (n == 0)) (48 + n)
 
 -- squares in a row, from file a on, after n empty ones
 abbrev pub rank_text : ℕ → List Place → List ℕ
@@ -37,11 +36,9 @@ abbrev pub turn_text : Colour → List ℕ
 turn_text White = codes "w"
 turn_text Black = codes "b"
 
--- the letters of the castling rights, or a -
+-- the letters KQkq of the castling rights, or a -
 abbrev pub castling_text : Rights → List ℕ
-castling_text r =
-    let kept = filter (λ c. (castling_row c).right r) castlings in
-    let letters = map (λ c. slice_index (codes "KQkq") (castling_row c).number) kept in
+castling_text r = let letters = of_rights r 75 81 107 113 in
     if length letters == 0 then codes "-" else letters
 
 -- the letter of the file and the digit of the rank

@@ -1,11 +1,11 @@
 //! The rules that every setup meets.
 
-ghost use Rattle.std.specs.Prelude.{◌≡◌, ◌↔◌, IsTrue, MatchOption, Some, length};
+ghost use Rattle.std.specs.Prelude.{◌≡◌, ◌↔◌, ℕ, IsTrue, MatchOption, Some, length};
 ghost use Rattle.pb_board.specs.declared.piece.Colour.{Colour};
 ghost use Rattle.pb_board.specs.Board.{Board};
 ghost use Rattle.pb_board.specs.Bitboards.{bitboards_of};
 ghost use Rattle.pb_board.specs.Piece.{pawn_of};
-ghost use Rattle.pb_board.specs.Position.{HasOneKing, HasNoEdgePawn, IsOnlyKing, WasSteppedOver};
+ghost use Rattle.pb_board.specs.Position.{EnPassantHolds, HasNoEdgePawn, IsOnlyKing};
 ghost use Rattle.pb_board.specs.Position.{OnEnPassantRank};
 
 use crate::bitboards::{self, Bitboards};
@@ -15,7 +15,7 @@ use crate::square::Square;
 /// The square of this colour's king, if exactly one stands on the board that these squares are of.
 pub(crate) fn one_king(bitboards: Bitboards, colour: Colour) -> Option<Square>
     ensures { (b : Board) → bitboards ≡ bitboards_of b
-        → MatchOption result (¬ HasOneKing b colour) (IsOnlyKing b colour) }
+        → MatchOption result ((king : ℕ) → ¬ IsOnlyKing b colour king) (IsOnlyKing b colour) }
 {
     let kind = Kind::King;
     let kings = bitboards::by_piece(bitboards, Piece { colour, kind });
@@ -30,8 +30,8 @@ pub(crate) fn one_king(bitboards: Bitboards, colour: Colour) -> Option<Square>
 /// The square of this colour's king, where it is known that one stands there alone.
 #[inline(always)]
 pub(crate) fn only_king(bitboards: Bitboards, colour: Colour) -> Square
-    ensures { (b : Board) → bitboards ≡ bitboards_of b → HasOneKing b colour
-        → IsOnlyKing b colour result }
+    ensures { (b : Board) (king : ℕ) → bitboards ≡ bitboards_of b → IsOnlyKing b colour king
+        → result ≡ king }
 {
     let kind = Kind::King;
     let kings = bitboards::by_piece(bitboards, Piece { colour, kind });
@@ -58,7 +58,7 @@ pub(crate) fn is_en_passant_square(
     square: Square,
 ) -> bool
     requires { OnEnPassantRank turn square }
-    ensures { IsTrue result ↔ WasSteppedOver board.now turn square }
+    ensures { IsTrue result ↔ EnPassantHolds board.now turn (Some square) }
 {
     let square = square.index() as usize;
     let beyond = match turn {

@@ -9,11 +9,12 @@ use Rattle.pb_board.specs.declared.piece.Kind.{Kind}
 use Rattle.pb_board.specs.declared.piece.Kind.TheVariants.{Pawn, Knight, Bishop, Rook, Queen, King}
 use Rattle.pb_board.specs.declared.setup.Rights.{Rights}
 use Rattle.pb_board.specs.Position.{Record, IsRecord}
+use Rattle.pb_board.specs.Rights.{only_if}
 use Rattle.pb_board.specs.Text.{castling_text, en_passant_text, fen_text, placement_text, turn_text}
 use Rattle.pb_board.proofs.FieldBytes.{AreFieldBytes, above_space, placement_length, placement_bytes, turn_bytes, castling_bytes, en_passant_bytes, number_bytes}
 use Rattle.pb_board.proofs.Joins.{Above, AllAbove}
 use Rattle.pb_board.proofs.Numbers.{clock_numeral}
-use Rattle.pb_board.proofs.Spelled.{castling_is, flag_letters, letter_if, or_dash}
+use Rattle.pb_board.proofs.Spelled.{castling_is, flag_letters, or_dash}
 use Rattle.pb_board.proofs.Unique.{on_rank}
 use Rattle.pb_moves.specs.Moved.{Moved}
 use Rattle.pb_board.specs.declared.piece.Colour.TheVariants as side
@@ -75,7 +76,7 @@ fen_above f lawful =
       (field_above _ (turn_bytes p.turn), (field_above _ (castling_bytes p.rights), (field_above _ en_passant, (half, (full, tt))))),
     )
 
-letter_short : (flag : Bool) (c : ℕ) → length (letter_if flag c) ≤ 1
+letter_short : (flag : Bool) (c : ℕ) → length (only_if flag c) ≤ 1
 letter_short true c = omega arith
 letter_short false c = omega arith
 
@@ -85,15 +86,15 @@ dash_short (c ∷ text) h = h
 
 castling_short : (r : Rights) → length (castling_text r) ≤ 4
 castling_short r =
-    let last = letter_if r.black_long 113 in
-    let two = letter_if r.black_short 107 ++ last in
-    let three = letter_if r.white_long 81 ++ two in
+    let last = only_if r.black_long 113 in
+    let two = only_if r.black_short 107 ++ last in
+    let three = only_if r.white_long 81 ++ two in
     let Short : List ℕ → Type 0 = λ t. length t ≤ 4 in
     subst Short (castling_is r) (dash_short (flag_letters r) (omega (
       arith,
-      length-append (letter_if r.white_short 75) three,
-      length-append (letter_if r.white_long 81) two,
-      length-append (letter_if r.black_short 107) last,
+      length-append (only_if r.white_short 75) three,
+      length-append (only_if r.white_long 81) two,
+      length-append (only_if r.black_short 107) last,
       letter_short r.white_short 75,
       letter_short r.white_long 81,
       letter_short r.black_short 107,

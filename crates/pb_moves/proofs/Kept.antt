@@ -20,7 +20,7 @@ use Rattle.pb_moves.specs.Successor.{Differs}
 use Rattle.pb_moves.proofs.Differing.{All-two, arrived, each_place, holds_on_board, off_two}
 use Rattle.pb_moves.proofs.Passing.{halfway_between, halfway_empty, crossed}
 use Rattle.pb_moves.proofs.Unique.{piece_is, en_passant_at}
-use Rattle.pb_moves.proofs.Kings.{becomes_king, holds_at, pawn_reach, kings_after, some_one, white_and_black}
+use Rattle.pb_moves.proofs.Kings.{becomes_king, holds_at, pawn_reach, kings_after, some_one}
 
 -- pawns stay off the first and last rank where what arrives does
 pub pawns_kept : (old new : Board) (now : List (ℕ × Place)) → Differs old new now → HasNoEdgePawn old
@@ -166,12 +166,10 @@ pub setup_by_parts : (s : Position) (m : Moved) (p : Piece) (new : Board) (right
     → IsSetup (position_of new (opponent s.turn) rights ep)
 setup_by_parts s m p new rights ep ok stands own x same_ep =
     let k = keeps s m p new ok stands own x in
-    let kings = white_and_black new s.turn (kings_after s m p new ok stands own x) in
     let E : Option ℕ → Type 0 = λ o. EnPassantHolds new (opponent s.turn) o in
     record {
       places = k.places;
-      white_king = kings.0;
-      black_king = kings.1;
+      kings = kings_after s m p new ok stands own x;
       pawns = k.pawns;
       en_passant = subst E (sym same_ep) k.en_passant_holds;
     }

@@ -9,9 +9,9 @@ use Rattle.pb_board.specs.declared.piece.Kind.TheVariants.{Pawn, Knight, King}
 use Rattle.pb_board.specs.declared.piece.Piece.{Piece}
 use Rattle.pb_board.specs.Piece.{opponent, king_of, rook_of}
 use Rattle.pb_board.specs.Board.{Board, Place, file, rank, Holds, IsEmpty, IsForward}
-use Rattle.pb_board.specs.Position.{Position, IsSetup, IsOnlyKing, HasOneKing, beyond}
+use Rattle.pb_board.specs.Position.{Position, IsSetup, IsOnlyKing, HasKings, beyond}
 use Rattle.pb_board.specs.declared.castling.Castling.{Castling}
-use Rattle.pb_board.proofs.Kings.{only_king}
+use Rattle.pb_board.proofs.Kings.{both_kings, only_king}
 use Rattle.pb_moves.specs.Reach.{ReachesBy}
 use Rattle.pb_moves.specs.Moved.{Moved}
 use Rattle.pb_board.specs.Castling.{CastlingRow, castling_row}
@@ -192,24 +192,14 @@ king_goes s m p new k stands own king only (pawn_double x) = absurd (let pawn = 
 king_goes s m p new k stands own king only (pawn_capture x) = absurd (let pawn = x.pawn in cc)
 king_goes s m p new k stands own king only (en_passant x) = absurd (let pawn = x.pawn in cc)
 
-pub has_king : (s : Position) (side : Colour) → IsSetup s → HasOneKing s.board side
-has_king s White ok = ok.white_king
-has_king s Black ok = ok.black_king
-
 -- each side has its king after a move
 pub kings_after : (s : Position) (m : Moved) (p : Piece) (new : Board) → IsSetup s → Holds s.board m.from p → p.colour ≡ s.turn → CaseOf s m p new
-    → HasOneKing new s.turn × HasOneKing new (opponent s.turn)
+    → HasKings new
 kings_after s m p new ok stands own x =
-    let own_king = has_king s s.turn ok in
-    let enemy_king = has_king s (opponent s.turn) ok in (
-      elim (king_or_not p.kind) [
-        | inl king ↦ (m.to, king_goes s m p new own_king.0 stands own king own_king.1 x)
-        | inr other ↦ (own_king.0, king_stays s m p new s.turn own_king.0 ok stands own (no_king p s.turn other) own_king.1 x)
-      ],
-      (enemy_king.0, king_stays s m p new (opponent s.turn) enemy_king.0 ok stands own (enemy_no_king p s.turn own) enemy_king.1 x),
-    )
-
--- both kings, by colour
-pub white_and_black : (new : Board) (side : Colour) → HasOneKing new side × HasOneKing new (opponent side) → HasOneKing new White × HasOneKing new Black
-white_and_black new White kings = kings
-white_and_black new Black kings = (kings.1, kings.0)
+    let own_king = ok.kings s.turn in
+    let enemy_king = ok.kings (opponent s.turn) in
+    let enemy = king_stays s m p new (opponent s.turn) enemy_king.0 ok stands own (enemy_no_king p s.turn own) enemy_king.1 x in
+    elim (king_or_not p.kind) [
+      | inl king ↦ both_kings new s.turn m.to enemy_king.0 (king_goes s m p new own_king.0 stands own king own_king.1 x) enemy
+      | inr other ↦ both_kings new s.turn own_king.0 enemy_king.0 (king_stays s m p new s.turn own_king.0 ok stands own (no_king p s.turn other) own_king.1 x) enemy
+    ]

@@ -8,7 +8,7 @@ use Rattle.pb_board.specs.declared.piece.Kind.TheVariants.{Pawn, Knight, Bishop,
 use Rattle.pb_board.specs.declared.piece.Piece.{Piece}
 use Rattle.pb_board.specs.Piece.{opponent}
 use Rattle.pb_board.specs.Board.{Board, Place, at, IsForward}
-use Rattle.pb_board.specs.Position.{Position, IsSetup, EnPassantHolds, OnEnPassantRank, WasSteppedOver, beyond}
+use Rattle.pb_board.specs.Position.{Position, IsSetup, EnPassantHolds, beyond}
 use Rattle.pb_moves.specs.Attacks.{files_apart, ranks_apart}
 use Rattle.pb_moves.specs.Reach.{ReachesBy}
 use Rattle.pb_board.specs.declared.castling.Castling.{Castling}
@@ -59,7 +59,7 @@ goes_of s m piece new (en_passant x) = x.after
 goes_of s m piece new (castles c x) = x.after
 
 -- the en passant square of a setup is empty, and the pawn that made the double step stands beyond
-pub en_passant_at : (s : Position) (q : ℕ) → IsSetup s → s.ep ≡ Some q → OnEnPassantRank s.turn q × WasSteppedOver s.board s.turn q
+pub en_passant_at : (s : Position) (q : ℕ) → IsSetup s → s.ep ≡ Some q → EnPassantHolds s.board s.turn (Some q)
 en_passant_at s q ok here =
     let P : Option ℕ → Type 0 = λ ep. EnPassantHolds s.board s.turn ep in
     subst P here ok.en_passant

@@ -1,4 +1,4 @@
-use Rattle.std.proofs.Common.{rules, refl}
+use Rattle.std.proofs.Common.{refl}
 use Rattle.std.proofs.lemmas.Bool.{false≢true}
 use Rattle.pb_epd.proofs.Puts.{unlawful_first, unnamed_first}
 use Rattle.pb_epd.proofs.epd.Epd.put.Goals as goal
