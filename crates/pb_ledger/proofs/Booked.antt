@@ -95,7 +95,7 @@ module _ (ledger : LedgerState) (old mid : SinkState) (count : ℕ) where
     same = are.2 ∙ ap (stretch first next) (one_book (counted ledger.basis ledger.accepted) ledger.basis.rules.least are.0 h.book are.1 h.is)
 
     listed : stretch 0 (Some first) h.book ++ entries ≡ stretch 0 next h.book
-    listed = ap (λ l. stretch 0 (Some first) h.book ++ l) same ∙ joined_stretch ledger.basis ledger.accepted h.book h.is first next onward
+    listed = ap (λ l. stretch 0 (Some first) h.book ++ l) same ∙ joined_stretch (counted ledger.basis ledger.accepted) ledger.basis.rules.least h.book h.is first next onward
 
     joined : book_bytes (stretch 0 (Some first) h.book) ++ book_bytes entries ≡ book_bytes (stretch 0 next h.book)
     joined = sym (book_bytes-append (stretch 0 (Some first) h.book) entries) ∙ ap book_bytes listed
@@ -111,7 +111,7 @@ module _ (ledger : LedgerState) (old mid : SinkState) (count : ℕ) where
 
     pub breaks : {E : Type 0} (new : SinkState) (e : E) → Put mid new (Err e) (book_bytes entries) → WritesBook ledger old new (Err fault.Write)
     breaks new e put =
-        let rest = front_stretch ledger.basis ledger.accepted h.book h.is next in
+        let rest = front_stretch (counted ledger.basis ledger.accepted) ledger.basis.rules.least h.book h.is next in
         let a = book_bytes (stretch 0 (Some first) h.book) in
         let cut : a ++ (book_bytes entries ++ book_bytes rest.0) ≡ book_bytes h.book =
         sym (append_assoc a (book_bytes entries) (book_bytes rest.0)) ∙ ap (λ l. l ++ book_bytes rest.0) joined ∙ sym (book_bytes-append (stretch 0 next h.book) rest.0) ∙ ap book_bytes rest.1 in
@@ -126,7 +126,7 @@ module _ (ledger : LedgerState) (old mid : SinkState) (count : ℕ) where
   -- memory was wanting for the next stretch
   pub wants : (next : Option ℕ) → Booking ledger next old mid count → WritesBook ledger old mid (Err fault.Memory)
   wants next h =
-      let rest = front_stretch ledger.basis ledger.accepted h.book h.is next in
+      let rest = front_stretch (counted ledger.basis ledger.accepted) ledger.basis.rules.least h.book h.is next in
       let a = book_bytes (stretch 0 next h.book) in
       let whole : a ++ book_bytes rest.0 ≡ book_bytes h.book = sym (book_bytes-append (stretch 0 next h.book) rest.0) ∙ ap book_bytes rest.1 in
       let front : a ≡ take (length a) (book_bytes h.book) = sym (take-append_seam a (book_bytes rest.0)) ∙ ap (take (length a)) whole in
