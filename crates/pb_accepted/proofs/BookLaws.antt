@@ -1,6 +1,9 @@
--- Laws of the book of a list of games.
-use Rattle.std.proofs.Common.{◌≡◌, ℕ, ◌<◌, ◌⊎◌, List, [], IsPermutation, sym, ap, subst, ◌∙◌, inl, inr, arith}
+-- Laws of the book of plies that count.
+use Rattle.std.proofs.Common.{◌≡◌, ℕ, ◌+◌, ◌<◌, ◌≤◌, ◌⊎◌, List, [], ◌∷◌, IsPermutation, refl, sym, ap, subst, ◌∙◌, inl, inr, arith}
+use Rattle.std.specs.Prelude.{sum_by}
+use Rattle.std.specs.List.{flat_map}
 use Rattle.std.proofs.lemmas.List.Sorted.{sum_by-IsPermutation}
+use Rattle.std.proofs.lemmas.List.Sums.{sum_by-append, sum_by-cons}
 use Rattle.pb_poly.specs.declared.entry.Entry.{Entry}
 use Rattle.pb_poly.specs.Book.{BookBytes, NeverFall, book_bytes}
 use Rattle.pb_games.specs.Submissions.{Submission}
@@ -8,9 +11,11 @@ use Rattle.pb_points.specs.Weight.{scaled, Before}
 use Rattle.pb_points.proofs.Groups.{NeverFall-ordered}
 use Rattle.pb_accepted.specs.Accepting.{Answer, Taken, OneGame}
 use Rattle.pb_accepted.specs.Basis.{Basis}
-use Rattle.pb_accepted.specs.Counting.{points, occurrences, count, times, Occurs, IsGreatest, IsWeight, IsBook}
+use Rattle.pb_accepted.specs.Counting.{count, counted, times, IsGreatest, IsBook}
 use Rattle.pb_accepted.specs.Laws.{NoRepeats, SameMembers}
+use Rattle.pb_accepted.specs.declared.ply_points.PlyPoints.{PlyPoints}
 use Rattle.pb_accepted.proofs.Allowing.{Accepted}
+use Rattle.pb_accepted.proofs.GivenPoints.{counted_of, one, share}
 use Rattle.pb_accepted.proofs.Distinct.{accepts_the_taken, no_repeats, Taken-unique}
 use Rattle.pb_accepted.proofs.Members.{same_in_order, permutation_from_members}
 
@@ -36,67 +41,75 @@ before_both e f (inr h) (inr k) = by h.1 k.1
     by (inr a) (inl b) = omega (arith, a.0)
     by (inr a) (inr b) = omega (arith, a.1, b.1)
 
-pub one_book : (T : Basis) (S : List Submission) (E F : List Entry) → IsBook T S E → IsBook T S F → E ≡ F
-one_book T S E F h k = same_in_order Before before_itself before_both E F h.ordered k.ordered
+pub one_book : (G : List PlyPoints) (least : ℕ) (E F : List Entry) → IsBook G least E → IsBook G least F → E ≡ F
+one_book G least E F h k = same_in_order Before before_itself before_both E F h.ordered k.ordered
     (λ e here. (k.members e).1 ((h.members e).0 here))
     (λ e here. (h.members e).1 ((k.members e).0 here))
 
-pub one_text : (T : Basis) (S : List Submission) (E F : List Entry) (b c : List ℕ) → IsBook T S E → BookBytes E b → IsBook T S F → BookBytes F c → b ≡ c
-one_text T S E F b c h hb k kc = hb.are ∙ ap book_bytes (one_book T S E F h k) ∙ sym kc.are
+pub one_text : (G : List PlyPoints) (least : ℕ) (E F : List Entry) (b c : List ℕ) → IsBook G least E → BookBytes E b → IsBook G least F → BookBytes F c → b ≡ c
+one_text G least E F b c h hb k kc = hb.are ∙ ap book_bytes (one_book G least E F h k) ∙ sym kc.are
 
 -- the keys of a book never fall
-pub never_falls : (T : Basis) (S : List Submission) (E : List Entry) → IsBook T S E → NeverFall E
-never_falls T S E h = NeverFall-ordered E h.ordered
+pub never_falls : (G : List PlyPoints) (least : ℕ) (E : List Entry) → IsBook G least E → NeverFall E
+never_falls G least E h = NeverFall-ordered E h.ordered
+
+-- ---- plies that have the same counts
+
+module _ (least : ℕ) (G H : List PlyPoints) (counts : (k c : ℕ) → count G k c ≡ count H k c) (occur : (k c : ℕ) → times G k c ≡ times H k c) where
+  same_often : (k c : ℕ) → least ≤ times G k c → least ≤ times H k c
+  same_often k c o = omega (arith, o, occur k c)
+
+  same_greatest : (k M : ℕ) → IsGreatest G least k M → IsGreatest H least k M
+  same_greatest k M h = record {
+    above = λ c o. omega (arith, counts k c, h.above c (omega (arith, o, occur k c)));
+    met = (h.met.0, same_often k h.met.0 h.met.1, sym (counts k h.met.0) ∙ h.met.2);
+  }
+
+  same_weight : (k c w : ℕ) → ((M : ℕ) × IsGreatest G least k M × (w ≡ scaled (count G k c) M)) → (M : ℕ) × IsGreatest H least k M × (w ≡ scaled (count H k c) M)
+  same_weight k c w h = (h.0, same_greatest k h.0 h.1, h.2 ∙ ap (λ n. scaled n h.0) (counts k c))
 
 -- ---- lists with the same members
+
+sum_by-flat_map : {X Y : Type 0} (f : Y → ℕ) (g : X → List Y) (xs : List X) → sum_by f (flat_map g xs) ≡ sum_by (λ x. sum_by f (g x)) xs
+sum_by-flat_map f g [] = refl
+sum_by-flat_map f g (x ∷ xs) = sum_by-append f (g x) (flat_map g xs) ∙ ap (λ n. sum_by f (g x) + n) (sum_by-flat_map f g xs) ∙ sym (sum_by-cons (λ y. sum_by f (g y)) x xs)
 
 module _ (T : Basis) (S U : List Submission) (once : NoRepeats S) (each : NoRepeats U) (same : SameMembers S U) where
   reordered : IsPermutation S U
   reordered = permutation_from_members S U once each (λ s. (same s).0) (λ s. (same s).1)
 
-  pub same_count : (k c : ℕ) → count T S k c ≡ count T U k c
-  same_count k c = sym (sum_by-IsPermutation (λ s. points T s.1 k c) S U reordered)
+  same_sum : (f : PlyPoints → ℕ) → sum_by f (counted T S) ≡ sum_by f (counted T U)
+  same_sum f =
+      sum_by-flat_map f (counted_of T) S ∙ sym (sum_by-IsPermutation (λ s. sum_by f (counted_of T s)) S U reordered)
+      ∙ sym (sum_by-flat_map f (counted_of T) U)
 
-  same_times : (k c : ℕ) → times T S k c ≡ times T U k c
-  same_times k c = sym (sum_by-IsPermutation (λ s. occurrences T s.1 k c) S U reordered)
+  pub same_count : (k c : ℕ) → count (counted T S) k c ≡ count (counted T U) k c
+  same_count k c = same_sum (share k c)
 
-module _ (T : Basis) (S U : List Submission) (counts : (k c : ℕ) → count T S k c ≡ count T U k c) (occur : (k c : ℕ) → times T S k c ≡ times T U k c) where
-  same_occurs : (k c : ℕ) → Occurs T S k c → Occurs T U k c
-  same_occurs k c o = omega (arith, o, occur k c)
+  same_times : (k c : ℕ) → times (counted T S) k c ≡ times (counted T U) k c
+  same_times k c = same_sum (one k c)
 
-  back_occurs : (k c : ℕ) → Occurs T U k c → Occurs T S k c
-  back_occurs k c o = omega (arith, o, occur k c)
-
-  same_greatest : (k M : ℕ) → IsGreatest T S k M → IsGreatest T U k M
-  same_greatest k M h = record {
-    above = λ c o. omega (arith, counts k c, h.above c (back_occurs k c o));
-    met = (h.met.0, same_occurs k h.met.0 h.met.1, sym (counts k h.met.0) ∙ h.met.2);
-  }
-
-  same_weight : (k c w : ℕ) → IsWeight T S k c w → IsWeight T U k c w
-  same_weight k c w h = (h.0, same_greatest k h.0 h.1, h.2 ∙ ap (λ n. scaled n h.0) (counts k c))
-
-pub same_book : (T : Basis) (S U : List Submission) → NoRepeats S → NoRepeats U → SameMembers S U → (E : List Entry) → IsBook T S E → IsBook T U E
-same_book T S U once each same E book =
-    let counts = same_count T S U once each same in
-    let occur = same_times T S U once each same in
-    let counts_back : (k c : ℕ) → count T U k c ≡ count T S k c = λ k c. sym (counts k c) in
-    let occur_back : (k c : ℕ) → times T U k c ≡ times T S k c = λ k c. sym (occur k c) in
-    record {
-      ordered = book.ordered;
-      members = λ e. (
-        (λ here. let m = (book.members e).0 here in (same_occurs T S U counts occur e.key e.code m.0, same_weight T S U counts occur e.key e.code e.weight m.1, m.2, m.3)),
-        (λ m. (book.members e).1 (same_occurs T U S counts_back occur_back e.key e.code m.0, same_weight T U S counts_back occur_back e.key e.code e.weight m.1, m.2, m.3)),
-      );
-    }
+  pub same_book : (least : ℕ) (E : List Entry) → IsBook (counted T S) least E → IsBook (counted T U) least E
+  same_book least E book =
+      let G = counted T S in
+      let H = counted T U in
+      let counts_back : (k c : ℕ) → count H k c ≡ count G k c = λ k c. sym (same_count k c) in
+      let times_back : (k c : ℕ) → times H k c ≡ times G k c = λ k c. sym (same_times k c) in
+      record {
+        ordered = book.ordered;
+        members = λ e. (
+          (λ here. let m = (book.members e).0 here in (same_often least G H same_count same_times e.key e.code m.0, same_weight least G H same_count same_times e.key e.code e.weight m.1, m.2, m.3)),
+          (λ m. (book.members e).1 (same_often least H G counts_back times_back e.key e.code m.0, same_weight least H G counts_back times_back e.key e.code e.weight m.1, m.2, m.3)),
+        );
+      }
 
 -- ---- whatever the order of arrival
 
 pub same_bytes : (T : Basis) (K L : List (List ℕ)) (Q R : List Answer) (A B S U : List Submission)
     → OneGame K → Accepted [] K Q A → Taken [] K Q S → OneGame L → Accepted [] L R B → Taken [] L R U → SameMembers S U
-    → (E F : List Entry) (b c : List ℕ) → IsBook T A E → BookBytes E b → IsBook T B F → BookBytes F c → b ≡ c
-same_bytes T K L Q R A B S U one accepted taken other arrived brought same E F b c book bytes twin text =
+    → (least : ℕ) (E F : List Entry) (b c : List ℕ) → IsBook (counted T A) least E → BookBytes E b → IsBook (counted T B) least F → BookBytes F c → b ≡ c
+same_bytes T K L Q R A B S U one accepted taken other arrived brought same least E F b c book bytes twin text =
     let first : A ≡ S = Taken-unique [] K Q A S (accepts_the_taken K Q A one accepted) taken in
     let second : B ≡ U = Taken-unique [] L R B U (accepts_the_taken L R B other arrived) brought in
-    let moved = same_book T S U (no_repeats K Q S taken) (no_repeats L R U brought) same E (subst (λ X. IsBook T X E) first book) in
-    one_text T U E F b c moved bytes (subst (λ X. IsBook T X F) second twin) text
+    let moved = same_book T S U (no_repeats K Q S taken) (no_repeats L R U brought) same least E (subst (λ X. IsBook (counted T X) least E) first book) in
+    one_text (counted T U) least E F b c moved bytes (subst (λ X. IsBook (counted T X) least F) second twin) text

@@ -1,9 +1,11 @@
 -- What the plies of a game give, and what plies do to a tally, one after another.
-use Rattle.std.proofs.Common.{suc, ◌≡◌, ℕ, ◌+◌, ◌*◌, ◌<◌, ◌≤◌, ◌^◌, Bool, true, false, cond, if◌then◌else◌, Option, Some, IsSome, unwrap_or, List, [], ◌∷◌, map, take, length, sum_by, get_or, All, refl, sym, ap, subst, ◌∙◌, inl, inr, arith}
+use Rattle.std.proofs.Common.{◌++◌, suc, ◌≡◌, ℕ, ◌+◌, ◌*◌, ◌<◌, ◌≤◌, ◌^◌, Bool, true, false, cond, if◌then◌else◌, Option, Some, IsSome, unwrap_or, List, [], ◌∷◌, map, take, length, sum_by, get_or, All, refl, sym, ap, subst, ◌∙◌, inl, inr, arith}
 use Rattle.std.proofs.lemmas.Bool.{cases_lt}
-use Rattle.std.proofs.lemmas.List.{get_or_default, length-map, length-take, take-map}
-use Rattle.std.proofs.lemmas.List.Elements.{All-map}
-use Rattle.std.proofs.lemmas.List.Sums.{sum_by-cons, sum_by_more_le, sum_by-le}
+use Rattle.std.proofs.lemmas.Grind.{flat_map-append}
+use Rattle.std.proofs.lemmas.List.{append-nil, get_or_default, length-map, length-take, take-map}
+use Rattle.std.proofs.lemmas.List.Concat.{length-flat_map}
+use Rattle.std.proofs.lemmas.List.Elements.{All-append, All-map}
+use Rattle.std.proofs.lemmas.List.Sums.{sum_by-append, sum_by_more_le, sum_by-le}
 use Rattle.pb_board.specs.declared.piece.Colour.{Colour}
 use Rattle.pb_board.specs.declared.piece.Colour.TheVariants as side
 use Rattle.pb_board.specs.Position.{Position}
@@ -11,16 +13,15 @@ use Rattle.pb_moves.specs.Moved.{Moved}
 use Rattle.pb_moves.specs.Successor.{after}
 use Rattle.pb_moves.specs.Played.{plies_from}
 use Rattle.pb_poly.specs.Key.{key}
-use Rattle.pb_games.specs.declared.game.Game.{Game}
 use Rattle.pb_games.specs.declared.outcome.Outcome.{Outcome}
 use Rattle.pb_games.specs.declared.outcome.Outcome.TheVariants.{White, Black, Draw}
-use Rattle.pb_games.specs.Submissions.{plies}
+use Rattle.pb_games.specs.Submissions.{IsSubmission, Submission, plies}
 use Rattle.pb_points.proofs.Pairs.{is_pair_itself}
 use Rattle.pb_points.specs.Tally.{Content, HasRoomFor, Held, MakesRow, held, is_pair, nothing}
 use Rattle.pb_accepted.specs.declared.ply_points.PlyPoints.{PlyPoints}
 use Rattle.pb_accepted.specs.Basis.{Basis}
-use Rattle.pb_accepted.specs.Counting.{counted, points_for, occurrences, points}
-use Rattle.pb_accepted.specs.PlyPoints.{gained, given_by, ply_points_of, occurring, share, with_ply_points}
+use Rattle.pb_accepted.specs.Counting.{count, counted, given_by, points_for, times}
+use Rattle.pb_accepted.specs.Holding.{with_ply_points}
 
 -- ---- the plies of a game
 
@@ -33,26 +34,60 @@ pub moves_back : (s : Position) (ms : List Moved) → map (λ p. p.1) (plies_fro
 moves_back s [] = refl
 moves_back s (m ∷ ms) = ap (λ rest. m ∷ rest) (moves_back (after s m) ms)
 
+-- what the plies of one game give that count
+abbrev pub counted_of : Basis → Submission → List PlyPoints
+counted_of T s = map (given_by T.words s.1.outcome) (take T.rules.plies (plies s.1))
+
+pub counted_one : (T : Basis) (s : Submission) → counted T (s ∷ []) ≡ counted_of T s
+counted_one T s = append-nil (counted_of T s)
+
+-- one game more gives what it gives alone
+pub counted_more : (T : Basis) (A : List Submission) (s : Submission) → counted T (A ++ s ∷ []) ≡ counted T A ++ counted T (s ∷ [])
+counted_more T A s = flat_map-append (counted_of T) A (s ∷ [])
+
 -- no more plies than moves
-pub length-ply_points_of : (T : Basis) (g : Game) → length (ply_points_of T g) ≤ length g.moves
-length-ply_points_of T g =
-    let many = length-map (counted T g) (given_by T.words g.outcome) in
-    omega (arith, many, length-take T.rules.plies (plies g), length-plies_from g.start.setup g.moves)
+length-counted_of : (T : Basis) (s : Submission) → length (counted_of T s) ≤ length s.1.moves
+length-counted_of T s =
+    let many = length-map (take T.rules.plies (plies s.1)) (given_by T.words s.1.outcome) in
+    omega (arith, many, length-take T.rules.plies (plies s.1), length-plies_from s.1.start.setup s.1.moves)
+
+pub length-counted_one : (T : Basis) (s : Submission) → length (counted T (s ∷ [])) ≤ length s.1.moves
+length-counted_one T s = omega (arith, ap length (counted_one T s), length-counted_of T s)
+
+-- each game has at most 1,024 of them
+pub length-counted : (T : Basis) (A : List Submission) → All IsSubmission A → length (counted T A) ≤ length A * 1024
+length-counted T A games = omega (
+  arith,
+  length-flat_map (counted_of T) A,
+  sum_by-le (λ s. length (counted_of T s)) 1024 A (λ j d lt. omega (arith, length-counted_of T (get_or A j d), (games j d lt).game.few)),
+)
 
 -- what the first plies give is what the plies give that count
-pub counted_ply_points : (T : Basis) (g : Game) (all first : List PlyPoints) → first ≡ take T.rules.plies all → all ≡ map (given_by T.words g.outcome) (plies g) → first ≡ ply_points_of T g
-counted_ply_points T g all first cut are = cut ∙ ap (take T.rules.plies) are ∙ take-map (given_by T.words g.outcome) T.rules.plies (plies g)
+pub counted_ply_points : (T : Basis) (s : Submission) (all first : List PlyPoints) → first ≡ take T.rules.plies all → all ≡ map (given_by T.words s.1.outcome) (plies s.1) → first ≡ counted T (s ∷ [])
+counted_ply_points T s all first cut are =
+    cut ∙ ap (take T.rules.plies) are ∙ take-map (given_by T.words s.1.outcome) T.rules.plies (plies s.1) ∙ sym (counted_one T s)
 
 points_for-le : (o : Outcome) (side : Colour) → points_for o side ≤ 2
 points_for-le White side.White = omega arith
 points_for-le White side.Black = omega arith
 points_for-le Black side.White = omega arith
 points_for-le Black side.Black = omega arith
-points_for-le Draw side = omega arith
+points_for-le Draw side.White = omega arith
+points_for-le Draw side.Black = omega arith
 
 -- no ply has more than two points
-pub small_ply_points : (T : Basis) (g : Game) → All (λ r. r.points ≤ 2) (ply_points_of T g)
-small_ply_points T g = All-map (λ (r : PlyPoints). r.points ≤ 2) (given_by T.words g.outcome) (counted T g) (λ j p lt. points_for-le g.outcome (get_or (counted T g) j p).0.turn)
+small_of : (T : Basis) (s : Submission) → All (λ r. r.points ≤ 2) (counted_of T s)
+small_of T s =
+    let first = take T.rules.plies (plies s.1) in
+    All-map (λ (r : PlyPoints). r.points ≤ 2) (given_by T.words s.1.outcome) first (λ j p lt. points_for-le s.1.outcome (get_or first j p).0.turn)
+
+pub small_ply_points : (T : Basis) (A : List Submission) → All (λ r. r.points ≤ 2) (counted T A)
+small_ply_points T [] = λ j d lt. absurd (omega (arith, lt))
+small_ply_points T (s ∷ A) = All-append (λ (r : PlyPoints). r.points ≤ 2) (counted_of T s) (counted T A) (small_of T s) (small_ply_points T A)
+
+-- the points that a ply gives to this key and this code
+abbrev pub share : ℕ → ℕ → PlyPoints → ℕ
+share k c r = if is_pair r.key r.code k c then r.points else 0
 
 share-le : (k c : ℕ) (r : PlyPoints) → share k c r ≤ r.points
 share-le k c r = by (is_pair r.key r.code k c)
@@ -62,8 +97,8 @@ share-le k c r = by (is_pair r.key r.code k c)
     by false = omega arith
 
 -- plies of at most two points add at most two each
-pub gained-le : (ply_points : List PlyPoints) (k c : ℕ) → All (λ r. r.points ≤ 2) ply_points → gained ply_points k c ≤ length ply_points * 2
-gained-le ply_points k c small = sum_by-le (share k c) 2 ply_points (λ j d lt. omega (arith, share-le k c (get_or ply_points j d), small j d lt))
+pub count-le : (G : List PlyPoints) (k c : ℕ) → All (λ r. r.points ≤ 2) G → count G k c ≤ length G * 2
+count-le G k c small = sum_by-le (share k c) 2 G (λ j d lt. omega (arith, share-le k c (get_or G j d), small j d lt))
 
 -- whether a ply is of this key and this code, as a number
 abbrev pub one : ℕ → ℕ → PlyPoints → ℕ
@@ -76,21 +111,15 @@ one-le k c r = by (is_pair r.key r.code k c)
     by true = omega arith
     by false = omega arith
 
-pub occurring-le : (ply_points : List PlyPoints) (k c : ℕ) → occurring ply_points k c ≤ length ply_points
-occurring-le ply_points k c = let most = sum_by-le (one k c) 1 ply_points (λ j d lt. one-le k c (get_or ply_points j d)) in omega (arith, most)
+pub times-le : (G : List PlyPoints) (k c : ℕ) → times G k c ≤ length G
+times-le G k c = let most = sum_by-le (one k c) 1 G (λ j d lt. one-le k c (get_or G j d)) in omega (arith, most)
 
--- ---- what a game gives, said of its plies and of their points
+-- counts of two lists of plies
+pub count-append : (G H : List PlyPoints) (k c : ℕ) → count (G ++ H) k c ≡ count G k c + count H k c
+count-append G H k c = sum_by-append (share k c) G H
 
--- a sum over a list that is mapped
-sum_by-map : {X Y : Type 0} (f : Y → ℕ) (g : X → Y) (xs : List X) → sum_by f (map g xs) ≡ sum_by (λ x. f (g x)) xs
-sum_by-map f g [] = refl
-sum_by-map f g (x ∷ xs) = sum_by-cons f (g x) (map g xs) ∙ ap (λ n. f (g x) + n) (sum_by-map f g xs) ∙ sym (sum_by-cons (λ y. f (g y)) x xs)
-
-pub gained_points : (T : Basis) (g : Game) (k c : ℕ) → gained (ply_points_of T g) k c ≡ points T g k c
-gained_points T g k c = sum_by-map (share k c) (given_by T.words g.outcome) (counted T g)
-
-pub occurring_times : (T : Basis) (g : Game) (k c : ℕ) → occurring (ply_points_of T g) k c ≡ occurrences T g k c
-occurring_times T g k c = sum_by-map (one k c) (given_by T.words g.outcome) (counted T g)
+pub times-append : (G H : List PlyPoints) (k c : ℕ) → times (G ++ H) k c ≡ times G k c + times H k c
+times-append G H k c = sum_by-append (one k c) G H
 
 -- ---- rows that are made
 
@@ -168,15 +197,15 @@ pub Added-fits : (f g : Content) (ply_points : List PlyPoints) (i : ℕ) → i <
     → HasRoomFor (held g (given_at ply_points i).key (given_at ply_points i).code) (given_at ply_points i).points
 Added-fits f g ply_points i lt small points_fit times_fit e =
     let r = given_at ply_points i in
-    let now : (held g r.key r.code).points ≡ (held f r.key r.code).points + gained (take i ply_points) r.key r.code = ap (λ (h : Held). h.points) (e.sums r.key r.code) in
-    let so_often : (held g r.key r.code).times ≡ (held f r.key r.code).times + occurring (take i ply_points) r.key r.code = ap (λ (h : Held). h.times) (e.sums r.key r.code) in
+    let now : (held g r.key r.code).points ≡ (held f r.key r.code).points + count (take i ply_points) r.key r.code = ap (λ (h : Held). h.points) (e.sums r.key r.code) in
+    let so_often : (held g r.key r.code).times ≡ (held f r.key r.code).times + times (take i ply_points) r.key r.code = ap (λ (h : Held). h.times) (e.sums r.key r.code) in
     let points : (held g r.key r.code).points + r.points ≤ 2 ^ 63 = omega (
       arith,
       now,
       points_fit r.key r.code,
       sum_by_more_le (share r.key r.code) ply_points i (record { key = 0; code = 0; points = 0 }) lt,
       own_share r,
-      gained-le ply_points r.key r.code small,
+      count-le ply_points r.key r.code small,
     ) in
     let times : (held g r.key r.code).times + 1 ≤ 2 ^ 63 = omega (
       arith,
@@ -184,6 +213,6 @@ Added-fits f g ply_points i lt small points_fit times_fit e =
       times_fit r.key r.code,
       sum_by_more_le (one r.key r.code) ply_points i (record { key = 0; code = 0; points = 0 }) lt,
       own_one r,
-      occurring-le ply_points r.key r.code,
+      times-le ply_points r.key r.code,
     ) in
     record { points = points; times = times }

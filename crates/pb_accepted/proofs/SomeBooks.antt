@@ -1,12 +1,10 @@
--- The games of a ledger have a book, and its entries are in their ranges.
+-- Plies that count have a book, and the entries of a ledger's are in their ranges.
 use Rattle.std.proofs.Common.{◌≡◌, ℕ, ◌*◌, ◌/◌, ◌<◌, ◌≤◌, ◌^◌, ◌↔◌, nat_le, zero, suc, Bool, true, false, cond, Option, Some, None, unwrap_or, List, [], ◌∷◌, map, take, All, Contains, refl, sym, ap, subst, ◌∙◌, inl, inr, arith}
 use Rattle.std.specs.Prelude.{sum_by}
-use Rattle.std.specs.List.{flat_map}
 use Rattle.std.specs.Option.{option_map_or}
 use Rattle.std.proofs.Math.Nat.{div-le_of_le-mul}
 use Rattle.std.proofs.lemmas.Bool.{cases_lt, leb-true}
-use Rattle.std.proofs.lemmas.List.Concat.{flat_map-cons}
-use Rattle.std.proofs.lemmas.List.Elements.{All-contains, All-map, Contains-append_left, Contains-append_right}
+use Rattle.std.proofs.lemmas.List.Elements.{All-append, All-contains, All-head, All-map, All-tail}
 use Rattle.std.proofs.lemmas.List.Sums.{sum_by-cons}
 use Rattle.pb_board.specs.declared.piece.Kind.{Kind}
 use Rattle.pb_board.specs.declared.piece.Kind.TheVariants.{Pawn, Knight, Bishop, Rook, Queen, King}
@@ -25,17 +23,19 @@ use Rattle.pb_poly.proofs.Parity.{toggled_below}
 use Rattle.pb_games.specs.Submissions.{IsSubmission, Submission, plies}
 use Rattle.pb_points.specs.declared.row.Row.{Row}
 use Rattle.pb_points.specs.Rows.{frequent}
-use Rattle.pb_points.specs.Tally.{Content, Held, held_of, nothing}
+use Rattle.pb_points.specs.Tally.{Content, Held, held_of, is_pair, nothing}
 use Rattle.pb_points.specs.Weight.{scaled}
 use Rattle.pb_points.proofs.Elements.{all_of, contains_cases, contains_head, contains_tail}
 use Rattle.pb_points.proofs.Pairs.{is_pair_same}
 use Rattle.pb_points.proofs.SomeBooks.{some_book}
 use Rattle.pb_accepted.specs.Basis.{Basis}
-use Rattle.pb_accepted.specs.Counting.{IsBook, count, counted, is_of, occurrences, times}
+use Rattle.pb_accepted.specs.Counting.{IsBook, count, counted, given_by, times}
 use Rattle.pb_accepted.specs.Holding.{IsLedger}
 use Rattle.pb_accepted.specs.Ledger.{LedgerState}
+use Rattle.pb_accepted.specs.declared.ply_points.PlyPoints.{PlyPoints}
 use Rattle.pb_accepted.proofs.Books.{IsBook-rows}
 use Rattle.pb_accepted.proofs.Frequent.{frequent_rows}
+use Rattle.pb_accepted.proofs.GivenPoints.{counted_of, one}
 
 -- ---- elements
 
@@ -56,13 +56,6 @@ module _ {X : Type 0} where
     | inr later ↦ contains_tail (f y) (map f ys) (f x) (contains_map f ys x later)
   ]
 
-  contains_flat_map : {Y : Type 0} (f : X → List Y) (xs : List X) (x : X) (y : Y) → Contains xs x → Contains (f x) y → Contains (flat_map f xs) y
-  contains_flat_map f [] x y h in_x = absurd (omega (arith, h.1))
-  contains_flat_map f (z ∷ zs) x y h in_x = subst (λ l. Contains l y) (sym (flat_map-cons f z zs)) (elim (contains_cases z zs x h) [
-    | inl here ↦ Contains-append_left (f z) (flat_map f zs) y (subst (λ w. Contains (f w) y) (sym here) in_x)
-    | inr later ↦ Contains-append_right (f z) (flat_map f zs) y (contains_flat_map f zs x y later in_x)
-  ])
-
   contains_take : (n : ℕ) (xs : List X) (x : X) → Contains (take n xs) x → Contains xs x
   contains_take zero xs x h = absurd (omega (arith, h.1))
   contains_take (suc n) [] x h = h
@@ -77,60 +70,47 @@ one_true : (b : Bool) → 1 ≤ cond b 1 0 → b ≡ true
 one_true true some = refl
 one_true false some = absurd (omega (arith, some))
 
-record IsPlyOf (T : Basis) (S : List Submission) (k c : ℕ) : Type 0 where
-  game : Submission
-  held : Contains S game
-  ply : Ply
-  counts : Contains (counted T game.1) ply
-  key : key T.words ply.0 ≡ k
-  code : encode_move ply.0 ply.1 ≡ c
-
-ply_of : (T : Basis) (S : List Submission) (k c : ℕ) → 1 ≤ times T S k c → IsPlyOf T S k c
-ply_of T S k c some =
-    let s = some_of_sum (λ s. occurrences T s.1 k c) S some in
-    let p = some_of_sum (λ p. cond (is_of T.words k c p) 1 0) (counted T s.0.1) s.2 in
-    let is = is_pair_same _ _ k c (one_true (is_of T.words k c p.0) p.2) in
-    record { game = s.0; held = s.1; ply = p.0; counts = p.1; key = is.0; code = is.1 }
+ply_of : (G : List PlyPoints) (k c : ℕ) → 1 ≤ times G k c → (p : PlyPoints) × Contains G p × (p.key ≡ k) × (p.code ≡ c)
+ply_of G k c some =
+    let p = some_of_sum (one k c) G some in
+    let is = is_pair_same p.0.key p.0.code k c (one_true (is_pair p.0.key p.0.code k c) p.2) in
+    (p.0, p.1, is.0, is.1)
 
 -- ---- a book
 
-module _ (T : Basis) (S : List Submission) (least : 1 ≤ T.rules.least) where
+module _ (G : List PlyPoints) (least : ℕ) (some : 1 ≤ least) where
   abbrev row_of : ℕ → ℕ → Row
-  row_of k c = record { key = k; code = c; points = count T S k c; times = times T S k c }
+  row_of k c = record { key = k; code = c; points = count G k c; times = times G k c }
 
   abbrev held_all : Content
-  held_all k c = Some (record { points = count T S k c; times = times T S k c })
+  held_all k c = Some (record { points = count G k c; times = times G k c })
 
-  abbrev all : List Ply
-  all = flat_map (λ s. counted T s.1) S
-
-  abbrev ply_row : Ply → Row
-  ply_row p = row_of (key T.words p.0) (encode_move p.0 p.1)
+  abbrev ply_row : PlyPoints → Row
+  ply_row p = row_of p.key p.code
 
   abbrev rows : List Row
-  rows = map ply_row all
+  rows = map ply_row G
 
   are_rows : All (λ r. row_of r.key r.code ≡ r) rows
-  are_rows = All-map (λ r. row_of r.key r.code ≡ r) ply_row all (λ j d lt. refl)
+  are_rows = All-map (λ r. row_of r.key r.code ≡ r) ply_row G (λ j d lt. refl)
 
-  each : (r : Row) → Contains (frequent T.rules.least rows) r ↔ ((held_all r.key r.code ≡ Some (held_of r)) × (T.rules.least ≤ r.times))
+  each : (r : Row) → Contains (frequent least rows) r ↔ ((held_all r.key r.code ≡ Some (held_of r)) × (least ≤ r.times))
   each r = (
     λ h.
-        let k = (frequent_rows T.rules.least rows r).0 h in
+        let k = (frequent_rows least rows r).0 h in
         (ap (λ x. Some (held_of x)) (All-contains (λ r. row_of r.key r.code ≡ r) rows r are_rows k.0), k.1),
     λ h.
         let is : row_of r.key r.code ≡ r = ap (λ (o : Option Held). record { key = r.key; code = r.code; points = (unwrap_or o nothing).points; times = (unwrap_or o nothing).times }) h.0 in
-        let often : times T S r.key r.code ≡ r.times = ap (λ (x : Row). x.times) is in
-        let p = ply_of T S r.key r.code (omega (arith, least, h.1, often)) in
-        let one : ply_row p.ply ≡ r = (λ i. row_of (p.key i) (p.code i)) ∙ is in
-        (frequent_rows T.rules.least rows r).1
-        (subst (Contains rows) one (contains_map ply_row all p.ply (contains_flat_map (λ s. counted T s.1) S p.game p.ply p.held p.counts)), h.1),
+        let often : times G r.key r.code ≡ r.times = ap (λ (x : Row). x.times) is in
+        let p = ply_of G r.key r.code (omega (arith, some, h.1, often)) in
+        let same : ply_row p.0 ≡ r = (λ i. row_of (p.2 i) (p.3 i)) ∙ is in
+        (frequent_rows least rows r).1 (subst (Contains rows) same (contains_map ply_row G p.0 p.1), h.1),
   )
 
-  pub some_book_of : (E : List Entry) × IsBook T S E
+  pub some_book_of : (E : List Entry) × IsBook G least E
   some_book_of =
-      let book = some_book (frequent T.rules.least rows) in
-      (book.0, IsBook-rows T S held_all (frequent T.rules.least rows) least (λ k c. refl) each book.0 book.1)
+      let book = some_book (frequent least rows) in
+      (book.0, IsBook-rows G least held_all (frequent least rows) some (λ k c. refl) each book.0 book.1)
 
 -- ---- the ranges of its entries
 
@@ -167,22 +147,36 @@ scaled-le n M le = by (nat_le M 65535) refl
         let low : (n * 65535) / M ≤ 65535 = div-le_of_le-mul M (omega (arith, le)) in
         omega (arith, low, ap (λ b. cond b n ((n * 65535) / M)) e)
 
-pub book_bounds : (l : LedgerState) → IsLedger l → (E : List Entry) → IsBook l.basis l.accepted E → All IsEntry E
+-- keys and codes are in their ranges
+abbrev Fits : PlyPoints → Type 0
+Fits p = (p.key < 2 ^ 64) × (p.code < 2 ^ 16)
+
+fits_of : (T : Basis) → IsTable T.words → (s : Submission) → IsSubmission s → All Fits (counted_of T s)
+fits_of T table s legal =
+    let first = take T.rules.plies (plies s.1) in
+    All-map Fits (given_by T.words s.1.outcome) first (all_of (λ (p : Ply). Fits (given_by T.words s.1.outcome p)) first (λ p here.
+    let move : IsMove p.1 = All-contains IsMove s.1.moves p.1 legal.game.moves (moves_of_plies s.1.start.setup s.1.moves p (contains_take T.rules.plies (plies s.1) p here)) in
+    (key_below T.words p.0 table, code_below p.0 p.1 move)))
+
+fits : (T : Basis) → IsTable T.words → (S : List Submission) → All IsSubmission S → All Fits (counted T S)
+fits T table [] legal = λ j d lt. absurd (omega (arith, lt))
+fits T table (s ∷ S) legal = All-append Fits (counted_of T s) (counted T S) (fits_of T table s (All-head IsSubmission s S legal)) (fits T table S (All-tail IsSubmission s S legal))
+
+pub book_bounds : (l : LedgerState) → IsLedger l → (E : List Entry) → IsBook (counted l.basis l.accepted) l.basis.rules.least E → All IsEntry E
 book_bounds l is E book = all_of IsEntry E (λ e here.
+    let G = counted l.basis l.accepted in
     let m = (book.members e).0 here in
-    let p = ply_of l.basis l.accepted e.key e.code (omega (arith, m.0, is.counting.once)) in
-    let legal = All-contains IsSubmission l.accepted p.game is.games p.held in
-    let move : IsMove p.ply.1 = All-contains IsMove p.game.1.moves p.ply.1 legal.game.moves
-    (moves_of_plies p.game.1.start.setup p.game.1.moves p.ply (contains_take l.basis.rules.plies (plies p.game.1) p.ply p.counts)) in
+    let p = ply_of G e.key e.code (omega (arith, m.0, is.counting.once)) in
+    let small = All-contains Fits G p.0 (fits l.basis is.table l.accepted is.games) p.1 in
     record {
-      key = subst (λ n. n < 2 ^ 64) p.key (key_below l.basis.words p.ply.0 is.table);
-      code = subst (λ n. n < 2 ^ 16) p.code (code_below p.ply.0 p.ply.1 move);
-      weight = omega (arith, m.1.2, scaled-le (count l.basis l.accepted e.key e.code) m.1.0 (m.1.1.above e.code m.0));
+      key = subst (λ n. n < 2 ^ 64) p.2 small.0;
+      code = subst (λ n. n < 2 ^ 16) p.3 small.1;
+      weight = omega (arith, m.1.2, scaled-le (count G e.key e.code) m.1.0 (m.1.1.above e.code m.0));
       learn = omega (arith, m.3);
     })
 
 -- a ledger has a book
-pub some_book_of_ledger : (l : LedgerState) → IsLedger l → (E : List Entry) × IsBook l.basis l.accepted E × All IsEntry E
+pub some_book_of_ledger : (l : LedgerState) → IsLedger l → (E : List Entry) × IsBook (counted l.basis l.accepted) l.basis.rules.least E × All IsEntry E
 some_book_of_ledger l is =
-    let book = some_book_of l.basis l.accepted is.counting.once in
+    let book = some_book_of (counted l.basis l.accepted) l.basis.rules.least is.counting.once in
     (book.0, book.1, book_bounds l is book.0 book.1)

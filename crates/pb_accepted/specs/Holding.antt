@@ -1,12 +1,12 @@
 -- What is true of each ledger.
-use Rattle.std.specs.Prelude.{◌≡◌, ◌≢◌, ℕ, ◌≤◌, List, length, All, AllPairs}
+use Rattle.std.specs.Prelude.{◌≡◌, ◌≢◌, ℕ, ◌+◌, ◌≤◌, List, length, All, AllPairs}
 use Rattle.pb_poly.specs.Table.{IsTable}
 use Rattle.pb_games.specs.Submissions.{Submission, IsSubmission}
-use Rattle.pb_points.specs.Tally.{Content, held}
-use Rattle.pb_accepted.specs.Basis.{Basis}
-use Rattle.pb_accepted.specs.Counting.{count, times}
+use Rattle.pb_points.specs.Tally.{Content, Held, held}
+use Rattle.pb_accepted.specs.Counting.{count, counted, times}
 use Rattle.pb_accepted.specs.Ledger.{LedgerState}
 use Rattle.pb_accepted.specs.Rules.{AreRules}
+use Rattle.pb_accepted.specs.declared.ply_points.PlyPoints.{PlyPoints}
 
 -- no id stands twice
 abbrev pub HaveOwnIds : List Submission → Type 0
@@ -25,13 +25,17 @@ pub record IsLedger (l : LedgerState) : Type 0 where
   pub games : All IsSubmission l.accepted
   pub ids : HaveOwnIds l.accepted
 
--- the tally holds the counts of the games and how often each move occurs, and a row that isn't
+-- the tally holds the counts of these plies and how often each move occurs, and a row that isn't
 -- there counts 0
-abbrev pub Tallies : Content → Basis → List Submission → Type 0
-Tallies content T A = (k c : ℕ)
-    → held content k c ≡ record { points = count T A k c; times = times T A k c }
+abbrev pub Tallies : Content → List PlyPoints → Type 0
+Tallies content G = (k c : ℕ)
+    → held content k c ≡ record { points = count G k c; times = times G k c }
+
+-- what is held of a key and a code, with these plies more
+abbrev pub with_ply_points : List PlyPoints → ℕ → ℕ → Held → Held
+with_ply_points G k c h = record { points = h.points + count G k c; times = h.times + times G k c }
 
 -- the ledger meets its rules, and its tally holds the counts of its games
 pub record HoldsCounts (content : Content) (l : LedgerState) : Type 0 where
   pub rules : IsLedger l
-  pub counts : Tallies content l.basis l.accepted
+  pub counts : Tallies content (counted l.basis l.accepted)

@@ -8,9 +8,10 @@ use Rattle.pb_games.specs.declared.refusal.Refusal.TheVariants.{Conflict, Full, 
 use Rattle.pb_games.specs.Submissions.{Submission, IsLawful}
 use Rattle.pb_accepted.specs.Accepting.{Answer, IsNumber, IsNewId, OneGame, Run, Step, Taken}
 use Rattle.pb_accepted.specs.Basis.{Basis}
-use Rattle.pb_accepted.specs.Counting.{count, IsBook}
+use Rattle.pb_accepted.specs.Counting.{count, counted, IsBook}
 use Rattle.pb_accepted.specs.Holding.{HaveOwnIds}
 use Rattle.pb_accepted.specs.Replies.{named}
+use Rattle.pb_accepted.specs.declared.ply_points.PlyPoints.{PlyPoints}
 
 -- ---- one line
 
@@ -128,23 +129,24 @@ TakenHasNoRepeats = (L : List (List ℕ)) (R : List Answer) (S : List Submission
 
 -- ---- books
 
--- at most one list of entries is the book
+-- at most one list of entries is the book of plies that count
 abbrev pub OneBook : Type 0
-OneBook = (T : Basis) (S : List Submission) (E F : List Entry) → IsBook T S E → IsBook T S F → E ≡ F
+OneBook = (G : List PlyPoints) (least : ℕ) (E F : List Entry) → IsBook G least E → IsBook G least F
+    → E ≡ F
 
 -- lists without repeats that have the same members have the same counts and the same book
 abbrev pub CountsByMembers : Type 0
 CountsByMembers = (T : Basis) (S U : List Submission) → NoRepeats S → NoRepeats U → SameMembers S U
-    → (k c : ℕ) → count T S k c ≡ count T U k c
+    → (k c : ℕ) → count (counted T S) k c ≡ count (counted T U) k c
 
 abbrev pub BookByMembers : Type 0
 BookByMembers = (T : Basis) (S U : List Submission) → NoRepeats S → NoRepeats U → SameMembers S U
-    → (E : List Entry) → IsBook T S E → IsBook T U E
+    → (least : ℕ) (E : List Entry) → IsBook (counted T S) least E → IsBook (counted T U) least E
 
 -- the bytes of the book are one text
 abbrev pub OneBookText : Type 0
-OneBookText = (T : Basis) (S : List Submission) (E F : List Entry) (b c : List ℕ) → IsBook T S E
-    → BookBytes E b → IsBook T S F → BookBytes F c → b ≡ c
+OneBookText = (G : List PlyPoints) (least : ℕ) (E F : List Entry) (b c : List ℕ) → IsBook G least E
+    → BookBytes E b → IsBook G least F → BookBytes F c → b ≡ c
 
 -- whatever the order of arrival, the same distinct submissions give the same bytes
 abbrev pub SameBytes : Type 0
@@ -152,5 +154,5 @@ SameBytes = (T : Basis) (m n : ℕ) (K L : List (List ℕ)) (Q R : List Answer)
     (A B S U : List Submission)
     → OneGame K → Run m [] K Q A → Taken [] K Q S → OneGame L → Run n [] L R B → Taken [] L R U
     → SameMembers S U
-    → (E F : List Entry) (b c : List ℕ) → IsBook T A E → BookBytes E b → IsBook T B F
-    → BookBytes F c → b ≡ c
+    → (least : ℕ) (E F : List Entry) (b c : List ℕ) → IsBook (counted T A) least E → BookBytes E b
+    → IsBook (counted T B) least F → BookBytes F c → b ≡ c

@@ -2,7 +2,6 @@ pub mod Accepting
 pub mod Arriving
 pub mod Basis
 pub mod Counting
-pub mod PlyPoints
 pub mod Holding
 pub mod Laws
 pub mod Ledger

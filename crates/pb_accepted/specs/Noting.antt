@@ -7,7 +7,7 @@ use Rattle.pb_games.specs.declared.game.Game.{Game}
 use Rattle.pb_games.specs.declared.outcome.Outcome.{Outcome}
 use Rattle.pb_games.specs.Submissions.{plies}
 use Rattle.pb_accepted.specs.declared.ply_log.PlyLog.{PlyLog}
-use Rattle.pb_accepted.specs.PlyPoints.{given_by}
+use Rattle.pb_accepted.specs.Counting.{given_by}
 
 -- these plies of a game with this outcome were noted, and the key is that of the setup
 pub record Holds (words : List ℕ) (o : Outcome) (k : ℕ) (log : PlyLog) (outcome : Outcome)

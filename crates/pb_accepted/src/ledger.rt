@@ -10,9 +10,8 @@ ghost use Rattle.pb_poly.specs.Entry.{IsEntry};
 ghost use Rattle.pb_poly.specs.declared.entry.Entry.{Entry};
 ghost use Rattle.pb_accepted.specs.Accepting.{IsNewId, IsNumber, Step, answer_of, says_new};
 ghost use Rattle.pb_accepted.specs.Arriving.{IsArrival};
-ghost use Rattle.pb_accepted.specs.Counting.{IsBook, stretch};
-ghost use Rattle.pb_accepted.specs.PlyPoints.{ply_points_of, with_ply_points};
-ghost use Rattle.pb_accepted.specs.Holding.{IsLedger, Tallies, most_games};
+ghost use Rattle.pb_accepted.specs.Counting.{IsBook, counted as counted_by, stretch};
+ghost use Rattle.pb_accepted.specs.Holding.{IsLedger, Tallies, most_games, with_ply_points};
 ghost use Rattle.pb_accepted.specs.Noting.{HasNoted};
 ghost use Rattle.pb_accepted.specs.Rules.{AreRules, all_plies};
 
@@ -270,7 +269,8 @@ impl<T: Tally> Ledger<T> {
 
     /// The points of the moves and how often each occurs, of the plies that count.
     pub fn tally(&self) -> &T
-        ensures { Tallies (T.content result.now) self.now.basis self.now.accepted }
+        ensures { Tallies (T.content result.now)
+            (counted_by self.now.basis self.now.accepted) }
     {
         &self.tally
     }
@@ -291,7 +291,7 @@ impl<T: Tally> Ledger<T> {
         entries: &mut Vec<Entry>,
     ) -> Result<Option<u64>, AllocError>
         ensures ok { IfOk result (λ next. (book : List Entry)
-            × IsBook self.now.basis self.now.accepted book
+            × IsBook (counted_by self.now.basis self.now.accepted) self.now.basis.rules.least book
             × (entries.new.items ≡ entries.old.items ++ stretch first next book)) }
         ensures onward { IfOk result (λ next. IfSome next (λ n. first < n)) }
         ensures err { OnErr result (AddsSome entries.old.items entries.new.items) }
@@ -307,7 +307,8 @@ impl<T: Tally> Ledger<T> {
     ///
     /// There was no memory for the rows of the tally, or for the entries.
     pub fn make_book(&self, alloc: Global) -> Result<Book, AllocError>
-        ensures book { IfOk result (λ book. IsBook self.now.basis self.now.accepted book) }
+        ensures book { IfOk result (IsBook (counted_by self.now.basis self.now.accepted)
+            self.now.basis.rules.least) }
         ensures bounds { IfOk result (All IsEntry) }
     {
         let mut entries = Vec::new(alloc);
@@ -335,8 +336,8 @@ fn accept<T: Tally>(
         + length read.now.1.moves ≤ 2 ^ 63 }
     ensures game { OnOk result (games.new.entries ≡ games.old.entries ++ read.now ∷ []) }
     ensures added { OnOk result ((k c : ℕ) → held (T.content tally.new) k c
-        ≡ with_ply_points (ply_points_of (record { words = recorder.now.table; rules = rules })
-        read.now.1) k c (held (T.content tally.old) k c)) }
+        ≡ with_ply_points (counted_by (record { words = recorder.now.table; rules = rules })
+        (read.now ∷ [])) k c (held (T.content tally.old) k c)) }
     ensures same_games { OnErr result (games.new.entries ≡ games.old.entries) }
     ensures same_points { OnErr result ((k c : ℕ)
         → held (T.content tally.new) k c ≡ held (T.content tally.old) k c) }

@@ -3,7 +3,7 @@
 ghost use Rattle.std.specs.Prelude.{◌≡◌, ◌≤◌, ◌+◌, ◌*◌, ◌^◌, ℕ, IsSome, OnOk, All, length, take};
 ghost use Rattle.pb_points.specs.Tally.{held};
 ghost use Rattle.pb_accepted.specs.Counting.{points_for as points_for_by};
-ghost use Rattle.pb_accepted.specs.PlyPoints.{with_ply_points};
+ghost use Rattle.pb_accepted.specs.Holding.{with_ply_points};
 
 use crate::rules::Rules;
 use pb_board::Colour;

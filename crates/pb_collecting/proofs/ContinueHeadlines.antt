@@ -10,7 +10,7 @@ use Rattle.pb_poly.specs.declared.entry.Entry.{Entry}
 use Rattle.pb_poly.proofs.ReadRows.{found_table}
 use Rattle.pb_accepted.specs.Accepting.{Run}
 use Rattle.pb_accepted.specs.Basis.{Basis}
-use Rattle.pb_accepted.specs.Counting.{IsBook}
+use Rattle.pb_accepted.specs.Counting.{IsBook, counted}
 use Rattle.pb_accepted.specs.Holding.{most_games}
 use Rattle.pb_accepted.specs.Ledger.{LedgerState}
 use Rattle.pb_accepted.specs.Replies.{replies}
@@ -30,7 +30,7 @@ use Rattle.pb_collecting.proofs.Headlines.{effect}
 
 module _ (rules : CountingRules) (fills : ℕ) (e : EndStates) (source : Change SourceState) where
   has_headline : (loaded left : LedgerState) (totals : Totals) (entries : List Entry) → LoadsFirst rules fills e.table source loaded → Takes fills e loaded left totals
-      → IsBook left.basis left.accepted entries → All IsEntry entries → HasHeadlineOfBoth rules e source left entries
+      → IsBook (counted left.basis left.accepted) left.basis.rules.least entries → All IsEntry entries → HasHeadlineOfBoth rules e source left entries
   has_headline loaded left totals entries first takes book bounds =
       let took = (subst (λ (m : LedgerState). Takes fills e m left totals) first.is takes).0 in
       let collects = took.done.0 in

@@ -5,6 +5,7 @@ use Rattle.pb_io.specs.Sink.{SinkState}
 use Rattle.pb_io.specs.Source.{SourceState}
 use Rattle.pb_io.specs.declared.fault.Fault.{Fault}
 use Rattle.pb_poly.specs.declared.entry.Entry.{Entry}
+use Rattle.pb_accepted.specs.Counting.{counted}
 use Rattle.pb_accepted.specs.Ledger.{LedgerState}
 use Rattle.pb_accepted.proofs.BookLaws.{never_falls}
 use Rattle.pb_ledger.specs.Collecting.{CollectsStream, CollectsUntil}
@@ -17,7 +18,7 @@ use Rattle.pb_collecting.specs.declared.continuing.Gone.{Gone}
 -- the book of what was taken, or want of memory for it
 pub makes_book : (takes : LedgerState → Totals → Type 0) (breaks : Fault → Type 0) (left : LedgerState) (totals : Totals) → takes left totals
     → (book : Result (List Entry) Fault) → MayBeBook left book → MakesBook takes breaks (with_totals totals book)
-makes_book takes breaks left totals took (Ok entries) (is, bounds) = (left, took, is, never_falls left.basis left.accepted entries is, bounds)
+makes_book takes breaks left totals took (Ok entries) (is, bounds) = (left, took, is, never_falls (counted left.basis left.accepted) left.basis.rules.least entries is, bounds)
 makes_book takes breaks left totals took (Err fault) memory = inr (memory, (left, totals, took))
 
 -- the same of a run that gives its ledger, also where a fault ended it

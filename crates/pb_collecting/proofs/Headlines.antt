@@ -8,7 +8,7 @@ use Rattle.pb_poly.proofs.ReadRows.{found_table}
 use Rattle.pb_games.specs.Submissions.{Submission}
 use Rattle.pb_accepted.specs.Accepting.{Answer, Run}
 use Rattle.pb_accepted.specs.Basis.{Basis}
-use Rattle.pb_accepted.specs.Counting.{IsBook}
+use Rattle.pb_accepted.specs.Counting.{IsBook, counted}
 use Rattle.pb_accepted.specs.Holding.{most_games}
 use Rattle.pb_accepted.specs.Ledger.{LedgerState}
 use Rattle.pb_accepted.specs.Replies.{replies}
@@ -24,7 +24,7 @@ use Rattle.pb_collecting.proofs.OneTexts.{has_one_text}
 
 -- the effect of lines that were answered as a ledger answers them, wherever they came from
 pub effect : (L : List (List ℕ)) (R : List Answer) (games : List Submission) → Run most_games [] L R games
-    → (T : Basis) (entries : List Entry) → All IsEntry entries → IsBook T games entries → Effect T L R games entries
+    → (T : Basis) (entries : List Entry) → All IsEntry entries → IsBook (counted T games) T.rules.least entries → Effect T L R games entries
 effect L R games run T entries bounds book = record {
   run = run;
   are = λ n s.
@@ -40,7 +40,7 @@ effect L R games run T entries bounds book = record {
 
 module _ (rules : CountingRules) (fills : ℕ) (e : EndStates) where
   has_headline : (ledger left : LedgerState) (totals : Totals) (entries : List Entry) → All IsEntry entries → TakesTable rules fills e.table ledger → Takes fills e ledger left totals
-      → IsBook left.basis left.accepted entries → HasHeadline rules e entries
+      → IsBook (counted left.basis left.accepted) left.basis.rules.least entries → HasHeadline rules e entries
   has_headline ledger left totals entries bounds first takes book =
       let table = found_table fills e.table.old e.table.new first.randoms first.read in
       let took = (subst (λ (l : LedgerState). Takes fills e l left totals) first.is takes).0 in
@@ -60,7 +60,7 @@ module _ (rules : CountingRules) (fills : ℕ) (e : EndStates) where
           answers = collects.answers;
           games = left.accepted;
           effect = effect (lines bytes) collects.answers left.accepted collects.leads.run T entries bounds
-              (subst (λ (X : Basis). IsBook X left.accepted entries) collects.leads.basis book);
+              (subst (λ (X : Basis). IsBook (counted X left.accepted) X.rules.least entries) collects.leads.basis book);
           replied = refl;
         },
       )

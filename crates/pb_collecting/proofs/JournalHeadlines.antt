@@ -10,7 +10,7 @@ use Rattle.pb_poly.proofs.ReadRows.{found_table}
 use Rattle.pb_games.specs.Submissions.{Submission}
 use Rattle.pb_accepted.specs.Accepting.{Run}
 use Rattle.pb_accepted.specs.Basis.{Basis}
-use Rattle.pb_accepted.specs.Counting.{IsBook}
+use Rattle.pb_accepted.specs.Counting.{IsBook, counted}
 use Rattle.pb_accepted.specs.Holding.{most_games}
 use Rattle.pb_accepted.specs.Ledger.{LedgerState}
 use Rattle.pb_accepted.specs.Replies.{replies}
@@ -27,7 +27,7 @@ use Rattle.pb_collecting.specs.Runs.{ReplaysFirst, Takes}
 
 module _ (rules : CountingRules) (fills : ℕ) (e : EndStates) (j : JournalStates) where
   pub has_headline : (held left : LedgerState) (mended : SinkState) (totals : Totals) (entries : List Entry) → All IsEntry entries → ReplaysFirst rules fills e.table j held mended
-      → Takes fills e held left totals → Gains mended j.journal.new held.accepted left.accepted → IsBook left.basis left.accepted entries → HasHeadlineOfJournal rules e j entries
+      → Takes fills e held left totals → Gains mended j.journal.new held.accepted left.accepted → IsBook (counted left.basis left.accepted) left.basis.rules.least entries → HasHeadlineOfJournal rules e j entries
   has_headline ledger left mended totals entries bounds first takes gains book =
       let randoms = first.randoms in
       let T : Basis = record { words = randoms; rules = rules } in
@@ -43,7 +43,7 @@ module _ (rules : CountingRules) (fills : ℕ) (e : EndStates) (j : JournalState
       let both = one_run most_games kept held left.accepted (lines bytes) answers holds run in
       let all : Effect T (ended_lines kept ++ lines bytes) (holds.answers ++ answers) left.accepted entries =
       effect (ended_lines kept ++ lines bytes) (holds.answers ++ answers) left.accepted both T entries bounds
-      (subst (λ (X : Basis). IsBook X left.accepted entries) collects.leads.basis book) in (
+      (subst (λ (X : Basis). IsBook (counted X left.accepted) X.rules.least entries) collects.leads.basis book) in (
         table.came,
         kept,
         bytes,

@@ -8,7 +8,7 @@ use Rattle.pb_poly.specs.Table.{IsTableFile}
 use Rattle.pb_poly.specs.declared.entry.Entry.{Entry}
 use Rattle.pb_games.specs.Submissions.{Submission}
 use Rattle.pb_accepted.specs.Accepting.{Answer, Run}
-use Rattle.pb_accepted.specs.Counting.{IsBook}
+use Rattle.pb_accepted.specs.Counting.{IsBook, counted}
 use Rattle.pb_accepted.specs.Holding.{most_games}
 use Rattle.pb_accepted.specs.Ledger.{LedgerState}
 use Rattle.pb_accepted.specs.Replies.{replies}
@@ -33,7 +33,7 @@ pub record ContinuesBytes (rules : CountingRules) (file saved bytes put : List �
   pub run : Run most_games held (lines bytes) answers left.accepted
   pub is : left ≡ ledger_of rules randoms left.accepted
   pub replied : put ≡ replies (lines bytes) answers
-  pub book : IsBook left.basis left.accepted entries
+  pub book : IsBook (counted left.basis left.accepted) left.basis.rules.least entries
   -- Whatever earlier run left the games that were held first, of lines K with answers Q: the effect
   -- is that of one run of the lines of both. So the book is that of the games that were answered
   -- `ok` in both, each of them once.

@@ -10,7 +10,7 @@ use Rattle.pb_poly.specs.declared.entry.Entry.{Entry}
 use Rattle.pb_games.specs.Submissions.{IsLawful, Submission}
 use Rattle.pb_accepted.specs.Accepting.{Answer, IsNumber, Run}
 use Rattle.pb_accepted.specs.Basis.{Basis}
-use Rattle.pb_accepted.specs.Counting.{IsBook}
+use Rattle.pb_accepted.specs.Counting.{IsBook, counted}
 use Rattle.pb_accepted.specs.Holding.{most_games}
 use Rattle.pb_accepted.specs.Laws.{NoRepeats}
 use Rattle.pb_accepted.specs.Replies.{replies}
@@ -39,7 +39,7 @@ pub record Effect (T : Basis) (L : List (List ℕ)) (R : List Answer) (games : L
   pub repeats : (i j n : ℕ) (s : Submission) → i < j → IsAccepted L R i s n → Arrives L j s
       → slice_get R j ≡ Some (Ok n)
   -- the book is that of these games; it has one text, which decodes to its entries and to no others
-  pub book : IsBook T games entries
+  pub book : IsBook (counted T games) T.rules.least entries
   pub text : HasOneText T games entries
 
 -- What is made of a table file and of submissions, by rules that say which plies count: replies,

@@ -9,7 +9,7 @@ use Rattle.pb_games.specs.declared.refusal.Refusal.{Refusal}
 use Rattle.pb_games.specs.declared.refusal.Refusal.TheVariants.{Conflict}
 use Rattle.pb_accepted.specs.Accepting.{Answer, OneGame, Run, Taken}
 use Rattle.pb_accepted.specs.Basis.{Basis}
-use Rattle.pb_accepted.specs.Counting.{IsBook}
+use Rattle.pb_accepted.specs.Counting.{IsBook, counted}
 use Rattle.pb_accepted.specs.Holding.{most_games}
 use Rattle.pb_accepted.specs.Laws.{ArrivalsAreNumbered, NoRepeats, SameMembers}
 use Rattle.pb_accepted.specs.Ledger.{LedgerState}
@@ -41,7 +41,7 @@ pub record OneEffect (T : Basis) (L : List (List ℕ)) (R : List Answer) (games 
   pub are_taken : Taken [] L R taken
   pub once : NoRepeats taken
   pub same : SameMembers games taken
-  pub book : IsBook T taken entries
+  pub book : IsBook (counted T taken) T.rules.least entries
   pub text : HasOneText T taken entries
   -- each legal arrival is accepted, unless its id is new and room or memory is refused
   pub arrivals : ArrivalsAreNumbered most_games L R

@@ -6,7 +6,7 @@ use Rattle.pb_io.specs.declared.fault.Fault.{Fault}
 use Rattle.pb_io.specs.declared.fault.Fault.TheVariants.{Memory}
 use Rattle.pb_poly.specs.Entry.{IsEntry}
 use Rattle.pb_poly.specs.declared.entry.Entry.{Entry}
-use Rattle.pb_accepted.specs.Counting.{IsBook}
+use Rattle.pb_accepted.specs.Counting.{IsBook, counted}
 use Rattle.pb_accepted.specs.Ledger.{LedgerState}
 use Rattle.pb_accepted.specs.Rules.{CountingRules}
 use Rattle.pb_ledger.specs.declared.totals.Totals.{Totals}
@@ -25,7 +25,8 @@ Opens rules fills table sink = RunEnds (TakesTable rules fills table) (LacksTabl
 
 -- it may be the book of the games that a ledger holds; or there is none, for want of memory
 abbrev pub MayBeBook : LedgerState → Result (List Entry) Fault → Type 0
-MayBeBook left (Ok entries) = IsBook left.basis left.accepted entries × All IsEntry entries
+MayBeBook left (Ok entries) =
+    IsBook (counted left.basis left.accepted) left.basis.rules.least entries × All IsEntry entries
 MayBeBook left (Err fault) = fault ≡ Memory
 
 -- a book, or the fault in its place, beside what became of the lines

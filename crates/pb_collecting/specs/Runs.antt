@@ -12,7 +12,7 @@ use Rattle.pb_poly.specs.TableReading.{ReadsTable}
 use Rattle.pb_poly.specs.declared.entry.Entry.{Entry}
 use Rattle.pb_poly.specs.declared.table_file.TableFault.{TableFault}
 use Rattle.pb_games.specs.Submissions.{Submission}
-use Rattle.pb_accepted.specs.Counting.{IsBook}
+use Rattle.pb_accepted.specs.Counting.{IsBook, counted}
 use Rattle.pb_accepted.specs.Holding.{most_games}
 use Rattle.pb_accepted.specs.Ledger.{LedgerState}
 use Rattle.pb_accepted.specs.Rules.{AreRules, CountingRules}
@@ -72,8 +72,8 @@ pub record Left : Type 0 where
 abbrev pub MakesBook : (LedgerState → Totals → Type 0) → (Fault → Type 0) → Result Collected Fault
     → Type 0
 MakesBook takes breaks (Ok made) = (left : LedgerState) × takes left made.totals
-    × IsBook left.basis left.accepted made.entries × NeverFall made.entries
-    × All IsEntry made.entries
+    × IsBook (counted left.basis left.accepted) left.basis.rules.least made.entries
+    × NeverFall made.entries × All IsEntry made.entries
 MakesBook takes breaks (Err fault) = breaks fault
     ⊎ ((fault ≡ Memory) × ((left : LedgerState) × (totals : Totals) × takes left totals))
 

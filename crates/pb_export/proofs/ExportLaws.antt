@@ -9,6 +9,7 @@ use Rattle.pb_games.specs.Submissions.{Submission}
 use Rattle.pb_poly.specs.declared.entry.Entry.{Entry}
 use Rattle.pb_accepted.specs.Accepting.{Answer, OneGame, Run, Taken}
 use Rattle.pb_accepted.specs.Basis.{Basis}
+use Rattle.pb_accepted.specs.Counting.{counted}
 use Rattle.pb_export.specs.Exporting.{StandsBefore, Listed, IsListed, IsListing, ExportLines, text_of_lines, ExportText}
 use Rattle.pb_accepted.specs.Laws.{NoRepeats, SameMembers}
 use Rattle.pb_accepted.proofs.BookLaws.{one_book, same_book}
@@ -26,7 +27,7 @@ one_listing T S book xs ys h k =
 
 one_list_of_lines : (T : Basis) (S : List Submission) (a b : List (List ℕ)) → ExportLines T S a → ExportLines T S b → a ≡ b
 one_list_of_lines T S a b h k =
-    let books = one_book T S h.book k.book h.is_book k.is_book in
+    let books = one_book (counted T S) T.rules.least h.book k.book h.is_book k.is_book in
     let moved : IsListing (IsListed T S k.book) h.listed = subst (λ E. IsListing (IsListed T S E) h.listed) books h.is_listing in
     h.are ∙ ap (λ xs. map (λ (x : Listed). x.line) xs) (one_listing T S k.book h.listed k.listed moved k.is_listing) ∙ sym k.are
 
@@ -64,7 +65,7 @@ pub same_export : (T : Basis) (S U : List Submission) → NoRepeats S → NoRepe
 same_export T S U once each same a h =
     let lines : ExportLines T U h.0 = record {
       book = h.1.book;
-      is_book = same_book T S U once each same h.1.book h.1.is_book;
+      is_book = same_book T S U once each same T.rules.least h.1.book h.1.is_book;
       listed = h.1.listed;
       is_listing = same_listing T S U h.1.book h.1.listed same h.1.is_listing;
       are = h.1.are;

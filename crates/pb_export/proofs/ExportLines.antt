@@ -19,7 +19,7 @@ use Rattle.pb_poly.specs.declared.entry.Entry.{Entry}
 use Rattle.pb_io.specs.declared.source.Failed.{Failed}
 use Rattle.pb_poly.proofs.Finding.{found_is_one}
 use Rattle.pb_accepted.specs.Basis.{Basis}
-use Rattle.pb_accepted.specs.Counting.{IsBook}
+use Rattle.pb_accepted.specs.Counting.{IsBook, counted}
 use Rattle.pb_export.specs.Exporting.{ExportText, Exports, ExportsUntil, IsListed, IsListing, Listed, StandsBefore, text_of_lines}
 use Rattle.pb_accepted.specs.Ledger.{LedgerState}
 use Rattle.pb_export.specs.Listing.{IsListedOf, IsListingOf, PutsFront, PutsListing, text_of}
@@ -102,7 +102,7 @@ module _ (T : Basis) (S : List Submission) (book : List Entry) (named : List Nam
 
 -- ---- what an export put
 
-pub exported : (l : LedgerState) (book : List Entry) (named : List Named) (sink now new : SinkState) (count : ℕ) → IsBook l.basis l.accepted book → HoldsSetups l.basis.words book (all_setups l.accepted) named
+pub exported : (l : LedgerState) (book : List Entry) (named : List Named) (sink now new : SinkState) (count : ℕ) → IsBook (counted l.basis l.accepted) l.basis.rules.least book → HoldsSetups l.basis.words book (all_setups l.accepted) named
     → PutsListing l.basis.words book named sink now count → Flush {E = Failed} now new (Ok tt) → Exports l sink new count
 exported l book named sink now new count is_book holds h flush = record {
   lines = map (λ (x : Listed). x.line) h.listed;
@@ -115,15 +115,15 @@ exported l book named sink now new count is_book holds h flush = record {
 
 -- what was put is a front of the text
 front_of_text : (T : Basis) (S : List Submission) (book : List Entry) (named : List Named) (front back : List Named) (listed : List Listed) (some rest : List ℕ)
-    → IsBook T S book → HoldsSetups T.words book (all_setups S) named → named ≡ front ++ back → IsListingOf T.words book front listed → text_of listed ≡ some ++ rest
+    → IsBook (counted T S) T.rules.least book → HoldsSetups T.words book (all_setups S) named → named ≡ front ++ back → IsListingOf T.words book front listed → text_of listed ≡ some ++ rest
     → (text : List ℕ) → ExportText T S text → (later : List ℕ) × (text ≡ some ++ later)
 front_of_text T S book named front back listed some rest is_book holds are h cut text spelt =
     let e = spelt.1 in
-    let same : e.book ≡ book = one_book T S e.book book e.is_book is_book in
+    let same : e.book ≡ book = one_book (counted T S) T.rules.least e.book book e.is_book is_book in
     let longer = listing_begins T S book named holds front back listed e.listed are h (subst (λ b. IsListing (IsListed T S b) e.listed) same e.is_listing) in
     (rest ++ text_of longer.0, spelt.2 ∙ ap text_of_lines e.are ∙ ap text_of longer.1 ∙ text_of-append listed longer.0 ∙ ap (λ bytes. bytes ++ text_of longer.0) cut ∙ append_assoc some rest (text_of longer.0))
 
-module _ (l : LedgerState) (book : List Entry) (named : List Named) (is_book : IsBook l.basis l.accepted book) (holds : HoldsSetups l.basis.words book (all_setups l.accepted) named) where
+module _ (l : LedgerState) (book : List Entry) (named : List Named) (is_book : IsBook (counted l.basis l.accepted) l.basis.rules.least book) (holds : HoldsSetups l.basis.words book (all_setups l.accepted) named) where
   -- a fault at a line
   pub stopped_at : (sink new : SinkState) (x : ExportFault) → PutsFront l.basis.words book named sink new x → ExportsUntil l sink new x
   stopped_at sink new x h = record {

@@ -20,7 +20,7 @@ use Rattle.pb_io.specs.declared.fault.Fault.{Fault}
 use Rattle.pb_io.specs.declared.fault.Fault.TheVariants as run
 use Rattle.pb_poly.specs.declared.entry.Entry.{Entry}
 use Rattle.pb_accepted.specs.Basis.{Basis}
-use Rattle.pb_accepted.specs.Counting.{IsBook}
+use Rattle.pb_accepted.specs.Counting.{IsBook, counted}
 use Rattle.pb_accepted.specs.Ledger.{LedgerState}
 use Rattle.pb_export.specs.declared.exporting.ExportFault.{ExportFault}
 use Rattle.pb_export.specs.declared.exporting.ExportFault.TheVariants as fault
@@ -67,7 +67,7 @@ pub record IsListing (is : Listed → Type 0) (listed : List Listed) : Type 0 wh
 -- the lines of the export of the games
 pub record ExportLines (T : Basis) (S : List Submission) (lines : List (List ℕ)) : Type 0 where
   pub book : List Entry
-  pub is_book : IsBook T S book
+  pub is_book : IsBook (counted T S) T.rules.least book
   pub listed : List Listed
   pub is_listing : IsListing (IsListed T S book) listed
   pub are : lines ≡ map (λ x. x.line) listed

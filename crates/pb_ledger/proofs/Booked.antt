@@ -14,7 +14,7 @@ use Rattle.pb_poly.specs.Book.{book_bytes}
 use Rattle.pb_poly.specs.Entry.{IsEntry, entry_bytes}
 use Rattle.pb_poly.specs.declared.entry.Entry.{Entry}
 use Rattle.pb_poly.proofs.Entries.{book_bytes-append, book_bytes-push}
-use Rattle.pb_accepted.specs.Counting.{IsBook, stretch}
+use Rattle.pb_accepted.specs.Counting.{IsBook, counted, stretch}
 use Rattle.pb_accepted.specs.Holding.{IsLedger}
 use Rattle.pb_accepted.specs.Ledger.{LedgerState}
 use Rattle.pb_accepted.proofs.BookLaws.{one_book}
@@ -61,7 +61,7 @@ puts_stopped old mid new e answer a b rest whole failing is first put =
 -- the entries before the next stretch were put, and counted
 pub record Booking (ledger : LedgerState) (next : Option ℕ) (old new : SinkState) (count : ℕ) : Type 0 where
   pub book : List Entry
-  pub is : IsBook ledger.basis ledger.accepted book
+  pub is : IsBook (counted ledger.basis ledger.accepted) ledger.basis.rules.least book
   pub bounds : All IsEntry book
   pub puts : PutsOn old new (book_bytes (stretch 0 next book))
   pub counted : count ≡ min (length (stretch 0 next book)) (2 ^ 64 - 1)
@@ -87,15 +87,15 @@ booking_end ledger old new count (inr h) = h
 
 -- the entries of a stretch of the book
 abbrev pub IsStretch : LedgerState → ℕ → Option ℕ → List Entry → Type 0
-IsStretch ledger first next entries = (book : List Entry) × IsBook ledger.basis ledger.accepted book × (entries ≡ stretch first next book)
+IsStretch ledger first next entries = (book : List Entry) × IsBook (counted ledger.basis ledger.accepted) ledger.basis.rules.least book × (entries ≡ stretch first next book)
 
 module _ (ledger : LedgerState) (old mid : SinkState) (count : ℕ) where
   module _ (first : ℕ) (next : Option ℕ) (entries : List Entry) (onward : IfSome next (λ n. first < n)) (are : IsStretch ledger first next entries) (h : Booking ledger (Some first) old mid count) where
     same : entries ≡ stretch first next h.book
-    same = are.2 ∙ ap (stretch first next) (one_book ledger.basis ledger.accepted are.0 h.book are.1 h.is)
+    same = are.2 ∙ ap (stretch first next) (one_book (counted ledger.basis ledger.accepted) ledger.basis.rules.least are.0 h.book are.1 h.is)
 
     listed : stretch 0 (Some first) h.book ++ entries ≡ stretch 0 next h.book
-    listed = ap (λ l. stretch 0 (Some first) h.book ++ l) same ∙ joined_stretch ledger.basis ledger.accepted h.book h.is first next onward
+    listed = ap (λ l. stretch 0 (Some first) h.book ++ l) same ∙ joined_stretch (counted ledger.basis ledger.accepted) ledger.basis.rules.least h.book h.is first next onward
 
     joined : book_bytes (stretch 0 (Some first) h.book) ++ book_bytes entries ≡ book_bytes (stretch 0 next h.book)
     joined = sym (book_bytes-append (stretch 0 (Some first) h.book) entries) ∙ ap book_bytes listed
@@ -111,7 +111,7 @@ module _ (ledger : LedgerState) (old mid : SinkState) (count : ℕ) where
 
     pub breaks : {E : Type 0} (new : SinkState) (e : E) → Put mid new (Err e) (book_bytes entries) → WritesBook ledger old new (Err fault.Write)
     breaks new e put =
-        let rest = front_stretch ledger.basis ledger.accepted h.book h.is next in
+        let rest = front_stretch (counted ledger.basis ledger.accepted) ledger.basis.rules.least h.book h.is next in
         let a = book_bytes (stretch 0 (Some first) h.book) in
         let cut : a ++ (book_bytes entries ++ book_bytes rest.0) ≡ book_bytes h.book =
         sym (append_assoc a (book_bytes entries) (book_bytes rest.0)) ∙ ap (λ l. l ++ book_bytes rest.0) joined ∙ sym (book_bytes-append (stretch 0 next h.book) rest.0) ∙ ap book_bytes rest.1 in
@@ -126,7 +126,7 @@ module _ (ledger : LedgerState) (old mid : SinkState) (count : ℕ) where
   -- memory was wanting for the next stretch
   pub wants : (next : Option ℕ) → Booking ledger next old mid count → WritesBook ledger old mid (Err fault.Memory)
   wants next h =
-      let rest = front_stretch ledger.basis ledger.accepted h.book h.is next in
+      let rest = front_stretch (counted ledger.basis ledger.accepted) ledger.basis.rules.least h.book h.is next in
       let a = book_bytes (stretch 0 next h.book) in
       let whole : a ++ book_bytes rest.0 ≡ book_bytes h.book = sym (book_bytes-append (stretch 0 next h.book) rest.0) ∙ ap book_bytes rest.1 in
       let front : a ≡ take (length a) (book_bytes h.book) = sym (take-append_seam a (book_bytes rest.0)) ∙ ap (take (length a)) whole in

@@ -5,7 +5,7 @@ use Rattle.pb_io.specs.Sink.{AwaitsFlush, Lasts, SinkState}
 use Rattle.pb_io.specs.Writes.{Writes}
 use Rattle.pb_poly.specs.Book.{BookBytes}
 use Rattle.pb_poly.specs.declared.entry.Entry.{Entry}
-use Rattle.pb_accepted.specs.Counting.{IsBook}
+use Rattle.pb_accepted.specs.Counting.{IsBook, counted}
 use Rattle.pb_accepted.specs.Ledger.{LedgerState}
 use Rattle.pb_ledger.specs.declared.booking.WriteFault.{WriteFault}
 use Rattle.pb_ledger.specs.declared.booking.WriteFault.TheVariants as fault
@@ -13,7 +13,8 @@ use Rattle.pb_ledger.specs.declared.booking.WriteFault.TheVariants as fault
 -- these are the bytes of the book of the games that are held, and this is how many entries it has,
 -- or 2 ^ 64 - 1 where it has more
 abbrev pub BookText : LedgerState → List ℕ → ℕ → Type 0
-BookText ledger bytes count = (book : List Entry) × IsBook ledger.basis ledger.accepted book
+BookText ledger bytes count = (book : List Entry)
+    × IsBook (counted ledger.basis ledger.accepted) ledger.basis.rules.least book
     × BookBytes book bytes × (count ≡ min (length book) (2 ^ 64 - 1))
 
 -- These bytes were put, and nothing was handed on.

@@ -1,35 +1,35 @@
-use Rattle.std.proofs.Common.{◌≤◌, ap, subst, sym, ◌∙◌, All, arith, length, rules}
+use Rattle.std.proofs.Common.{◌≤◌, ◌∷◌, [], ap, subst, sym, ◌∙◌, All, arith, length, rules}
 use Rattle.std.specs.Str.{bytes_eq}
 use Rattle.indexmap.proofs.CallerLemmas.{insert_entry-new}
 use Rattle.pb_points.specs.Tally.{Held}
 use Rattle.pb_accepted.specs.Basis.{Basis}
-use Rattle.pb_accepted.specs.PlyPoints.{with_ply_points}
-use Rattle.pb_accepted.proofs.GivenPoints.{counted_ply_points, length-ply_points_of, small_ply_points}
+use Rattle.pb_accepted.specs.Holding.{with_ply_points}
+use Rattle.pb_accepted.proofs.GivenPoints.{counted_ply_points, length-counted_one, small_ply_points}
 use Rattle.pb_accepted.proofs.Places.{absent_from_new, inserted}
 use Rattle.pb_accepted.proofs.ledger.accept.Goals as goal
 
 pub add_ply_points-requires-clause-small : goal.add_ply_points-requires-clause-small
 add_ply_points-requires-clause-small g c =
     let T : Basis = record { words = c.args.recorder.now.table; rules = c.args.rules } in
-    let ply_points = counted_ply_points T c.args.read.now.1 c.ply_points.result.now c.counted-ply_points.result.now c.counted-ply_points.ensures (c.ply_points.ensures ∙ c.requires.noted.ply_points) in
-    subst (All (λ r. r.points ≤ 2)) (sym ply_points) (small_ply_points T c.args.read.now.1)
+    let ply_points = counted_ply_points T c.args.read.now c.ply_points.result.now c.counted-ply_points.result.now c.counted-ply_points.ensures (c.ply_points.ensures ∙ c.requires.noted.ply_points) in
+    subst (All (λ r. r.points ≤ 2)) (sym ply_points) (small_ply_points T (c.args.read.now ∷ []))
 
 pub add_ply_points-requires-clause-points_fit : goal.add_ply_points-requires-clause-points_fit
 add_ply_points-requires-clause-points_fit g c =
     let T : Basis = record { words = c.args.recorder.now.table; rules = c.args.rules } in
-    let ply_points = counted_ply_points T c.args.read.now.1 c.ply_points.result.now c.counted-ply_points.result.now c.counted-ply_points.ensures (c.ply_points.ensures ∙ c.requires.noted.ply_points) in
-    λ k d. omega (arith, ap (λ (h : Held). h.points) (c.in_ok-ensure_rows.ensures.same k d), c.requires.points_fit k d, ap length ply_points, length-ply_points_of T c.args.read.now.1)
+    let ply_points = counted_ply_points T c.args.read.now c.ply_points.result.now c.counted-ply_points.result.now c.counted-ply_points.ensures (c.ply_points.ensures ∙ c.requires.noted.ply_points) in
+    λ k d. omega (arith, ap (λ (h : Held). h.points) (c.in_ok-ensure_rows.ensures.same k d), c.requires.points_fit k d, ap length ply_points, length-counted_one T c.args.read.now)
 
 pub add_ply_points-requires-clause-times_fit : goal.add_ply_points-requires-clause-times_fit
 add_ply_points-requires-clause-times_fit g c =
     let T : Basis = record { words = c.args.recorder.now.table; rules = c.args.rules } in
-    let ply_points = counted_ply_points T c.args.read.now.1 c.ply_points.result.now c.counted-ply_points.result.now c.counted-ply_points.ensures (c.ply_points.ensures ∙ c.requires.noted.ply_points) in
-    λ k d. omega (arith, ap (λ (h : Held). h.times) (c.in_ok-ensure_rows.ensures.same k d), c.requires.times_fit k d, ap length ply_points, length-ply_points_of T c.args.read.now.1)
+    let ply_points = counted_ply_points T c.args.read.now c.ply_points.result.now c.counted-ply_points.result.now c.counted-ply_points.ensures (c.ply_points.ensures ∙ c.requires.noted.ply_points) in
+    λ k d. omega (arith, ap (λ (h : Held). h.times) (c.in_ok-ensure_rows.ensures.same k d), c.requires.times_fit k d, ap length ply_points, length-counted_one T c.args.read.now)
 
 pub returns-clause-added : goal.returns-clause-added
 returns-clause-added g c =
     let T : Basis = record { words = c.args.recorder.now.table; rules = c.args.rules } in
-    let ply_points = counted_ply_points T c.args.read.now.1 c.ply_points.result.now c.counted-ply_points.result.now c.counted-ply_points.ensures (c.ply_points.ensures ∙ c.requires.noted.ply_points) in
+    let ply_points = counted_ply_points T c.args.read.now c.ply_points.result.now c.counted-ply_points.result.now c.counted-ply_points.ensures (c.ply_points.ensures ∙ c.requires.noted.ply_points) in
     λ k d. c.add_ply_points.ensures k d ∙ (λ i. with_ply_points (ply_points i) k d (c.in_ok-ensure_rows.ensures.same k d i))
 
 pub returns-clause-game : goal.returns-clause-game

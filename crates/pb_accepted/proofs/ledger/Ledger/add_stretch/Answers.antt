@@ -3,7 +3,7 @@ use Rattle.std.proofs.lemmas.Result.{IfOk-weaker}
 use Rattle.pb_poly.specs.declared.entry.Entry.{Entry}
 use Rattle.pb_points.specs.TallyBook.{AddsBookOf, stretch_of}
 use Rattle.pb_accepted.specs.Basis.{Basis}
-use Rattle.pb_accepted.specs.Counting.{IsBook, stretch}
+use Rattle.pb_accepted.specs.Counting.{IsBook, counted, stretch}
 use Rattle.pb_accepted.proofs.BookStretches.{stretch_added}
 use Rattle.pb_accepted.proofs.ledger.Ledger.add_stretch.Goals as goal
 
@@ -16,6 +16,6 @@ returns-clause-ok g c =
     let least = c.from-least.ensures ∙ c.least.ensures.value in
     rw (← c.self.view_is)
     (IfOk-weaker c.add_stretch.result (λ next. AddsBookOf (stretch_of c.args.first next content) c.from-least.result c.args.entries.now.items c.add_stretch.new.entries.items)
-    (λ next. (book : List Entry) × IsBook T games book × (c.add_stretch.new.entries.items ≡ c.args.entries.now.items ++ stretch c.args.first next book))
-    (λ next adds. stretch_added T games c.args.first next content _ _ _ c.self.invariant.rules.counting.once c.self.invariant.counts least adds)
+    (λ next. (book : List Entry) × IsBook (counted T games) T.rules.least book × (c.add_stretch.new.entries.items ≡ c.args.entries.now.items ++ stretch c.args.first next book))
+    (λ next adds. stretch_added (counted T games) T.rules.least c.args.first next content _ _ _ c.self.invariant.rules.counting.once c.self.invariant.counts least adds)
     c.add_stretch.ensures.ok)

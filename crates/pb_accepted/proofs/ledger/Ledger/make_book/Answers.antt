@@ -5,7 +5,7 @@ use Rattle.pb_points.specs.Weight.{Before}
 use Rattle.pb_poly.proofs.EntryBytes.{none_falls}
 use Rattle.pb_points.proofs.Groups.{NeverFall-ordered, ok_unless}
 use Rattle.pb_accepted.specs.Basis.{Basis}
-use Rattle.pb_accepted.specs.Counting.{IsBook}
+use Rattle.pb_accepted.specs.Counting.{IsBook, counted}
 use Rattle.pb_accepted.proofs.Books.{IsBook-rows}
 use Rattle.pb_accepted.proofs.Frequent.{frequent_rows}
 use Rattle.pb_accepted.proofs.ledger.Ledger.make_book.Goals as goal
@@ -34,5 +34,5 @@ returns-clause-book g c =
       (λ h. (frequent_rows inside.rules.least adds.rows r).1 ((adds.are.each r).1 h.0, h.1)),
     ) in
     rw (← c.self.view_is)
-    (subst (IsBook T games) (sym (made ∙ are))
-    (IsBook-rows T games (g.T.Tally.content inside.tally) (frequent inside.rules.least adds.rows) c.self.invariant.rules.counting.once c.self.invariant.counts each adds.book book))
+    (subst (IsBook (counted T games) T.rules.least) (sym (made ∙ are))
+    (IsBook-rows (counted T games) T.rules.least (g.T.Tally.content inside.tally) (frequent inside.rules.least adds.rows) c.self.invariant.rules.counting.once c.self.invariant.counts each adds.book book))

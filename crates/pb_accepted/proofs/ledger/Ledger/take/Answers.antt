@@ -4,8 +4,8 @@ use Rattle.std.proofs.lemmas.Result.{err_from_is_err_and}
 use Rattle.pb_points.specs.Tally.{held}
 use Rattle.pb_accepted.specs.Accepting.{IsNewId}
 use Rattle.pb_accepted.specs.Accepting as steps
-use Rattle.pb_accepted.specs.PlyPoints.{ply_points_of, with_ply_points}
-use Rattle.pb_accepted.specs.Holding.{HoldsCounts}
+use Rattle.pb_accepted.specs.Counting.{counted}
+use Rattle.pb_accepted.specs.Holding.{HoldsCounts, with_ply_points}
 use Rattle.pb_accepted.specs.Ledger.{LedgerState}
 use Rattle.pb_accepted.proofs.Arrivals.{submitted}
 use Rattle.pb_accepted.proofs.Counts.{Holds-push, points_fit, times_fit}
@@ -59,7 +59,7 @@ invariant_of-self-in-Ok g c =
     let fresh = subst (IsNewId read.0) (sym holds) (c.requires read lawful) in
     let room : length A < inside.cap = omega (arith, c.if-len-self.false, c.len.ensures.len, c.self.invariant.rules.room) in
     let table = c.in_ok-read.ensures.table in
-    let added = subst (λ w. (k d : ℕ) → held h k d ≡ with_ply_points (ply_points_of (record { words = w; rules = inside.rules }) read.1) k d (held f k d)) table c.in-Ok.ensures.added in
+    let added = subst (λ w. (k d : ℕ) → held h k d ≡ with_ply_points (counted (record { words = w; rules = inside.rules }) (read ∷ [])) k d (held f k d)) table c.in-Ok.ensures.added in
     let pushed = Holds-push f h l read c.self.invariant (submitted c.args.line.now read lawful) fresh room added in
     subst (λ w. HoldsCounts h (record { basis = record { words = w; rules = inside.rules }; cap = inside.cap; accepted = c.accept.new.games.entries })) (sym table)
     (subst (λ X. HoldsCounts h (record { basis = l.basis; cap = inside.cap; accepted = X })) (sym c.in-Ok.ensures.game) pushed)
