@@ -11,7 +11,9 @@ pub mod Members
 pub mod Naming
 pub mod Numbers
 pub mod Places
+pub mod RefusedTexts
 pub mod Replies
+pub mod Replyings
 pub mod Runs
 pub mod SomeBooks
 pub mod Steps

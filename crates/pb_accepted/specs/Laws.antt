@@ -1,6 +1,8 @@
 -- Laws of ledgers, over the definitions alone.
 use Rattle.std.specs.Prelude.{◌≡◌, ◌≢◌, ℕ, ◌<◌, ◌≤◌, ◌⊎◌, ◌↔◌, List, [], ◌++◌, length}
 use Rattle.std.specs.Prelude.{take, All, AllPairs, Contains, Ok, Err, Some, slice_get}
+use Rattle.std.specs.List.{flat_map}
+use Rattle.pb_board.specs.LineEnd.{with_end}
 use Rattle.pb_poly.specs.declared.entry.Entry.{Entry}
 use Rattle.pb_poly.specs.Book.{BookBytes}
 use Rattle.pb_games.specs.declared.refusal.Refusal.{Refusal}
@@ -10,7 +12,8 @@ use Rattle.pb_accepted.specs.Accepting.{Answer, IsNumber, IsNewId, OneGame, Run,
 use Rattle.pb_accepted.specs.Basis.{Basis}
 use Rattle.pb_accepted.specs.Counting.{count, counted, IsBook}
 use Rattle.pb_accepted.specs.Holding.{HaveOwnIds}
-use Rattle.pb_accepted.specs.Replies.{named}
+use Rattle.pb_accepted.specs.Replies.{named, replies, reply_texts}
+use Rattle.pb_accepted.specs.Replying.{Replies}
 use Rattle.pb_accepted.specs.declared.ply_points.PlyPoints.{PlyPoints}
 
 -- ---- one line
@@ -38,6 +41,16 @@ NamesAreShort = (cap : ℕ) (A : List Submission) (line : List ℕ) (r : Answer)
     → Step cap A line r B → length (named line r) ≤ 64
 
 -- ---- runs
+
+-- what lines are answered is what they are replied to
+abbrev pub RunsAreReplied : Type 0
+RunsAreReplied = (cap : ℕ) (A : List Submission) (L : List (List ℕ)) (R : List Answer)
+    (B : List Submission) → Run cap A L R B → Replies cap A L (reply_texts L R) B
+
+-- each reply is a line
+abbrev pub RepliesAreLines : Type 0
+RepliesAreLines = (L : List (List ℕ)) (R : List Answer)
+    → replies L R ≡ flat_map with_end (reply_texts L R)
 
 -- no id stands twice in what a ledger holds
 abbrev pub IdsAreDistinct : Type 0

@@ -35,11 +35,18 @@ abbrev pub reply_text : List ℕ → Answer → List ℕ
 reply_text id (Ok n) = codes "ok " ++ id ++ 32 ∷ decimal n
 reply_text id (Err e) = codes "refused " ++ id ++ 32 ∷ reason e
 
--- the reply line to a line with this answer
-abbrev pub reply_line : List ℕ → Answer → List ℕ
-reply_line line r = with_end (reply_text (named line r) r)
+-- the reply to a line with this answer, and its line
+abbrev pub reply : List ℕ → Answer → List ℕ
+reply line r = reply_text (named line r) r
 
--- the reply lines to these lines with these answers
+abbrev pub reply_line : List ℕ → Answer → List ℕ
+reply_line line r = with_end (reply line r)
+
+-- the replies to these lines with these answers, and their lines
+abbrev pub reply_texts : List (List ℕ) → List Answer → List (List ℕ)
+reply_texts (line ∷ L) (r ∷ R) = reply line r ∷ reply_texts L R
+reply_texts L R = []
+
 abbrev pub replies : List (List ℕ) → List Answer → List ℕ
 replies (line ∷ L) (r ∷ R) = reply_line line r ++ replies L R
 replies L R = []

@@ -13,7 +13,8 @@ ghost use Rattle.pb_accepted.specs.Laws.{AcceptsTheTaken, BookByMembers, CountsB
 ghost use Rattle.pb_accepted.specs.Laws.{HeldIsAnswered, IdsAreDistinct, LawfulArrives};
 ghost use Rattle.pb_accepted.specs.Laws.{NamesAreShort, NoConflict, NumbersAreDistinct};
 ghost use Rattle.pb_accepted.specs.Laws.{NumbersAreGiven, OneBook, OneBookText, OneRun, OneStep};
-ghost use Rattle.pb_accepted.specs.Laws.{RefusalsChangeNothing, RepeatsKeepTheirNumber, RunsJoin};
+ghost use Rattle.pb_accepted.specs.Laws.{RefusalsChangeNothing, RepeatsKeepTheirNumber};
+ghost use Rattle.pb_accepted.specs.Laws.{RepliesAreLines, RunsAreReplied, RunsJoin};
 ghost use Rattle.pb_accepted.specs.Laws.{SameBytes, SameMembers, TakenHasNoRepeats, TakenIsOne};
 ghost use Rattle.pb_accepted.specs.Rules.{CountingRules, most_occurrences};
 
@@ -43,6 +44,12 @@ pub fn runs()
     ensures distinct { IdsAreDistinct }
     ensures one { OneRun }
     ensures join { RunsJoin }
+{}
+
+/// What lines are answered is what they are replied to, and the replies are lines.
+pub fn replies()
+    ensures run { RunsAreReplied }
+    ensures lines { RepliesAreLines }
 {}
 
 /// A submission has one number; the numbers of what is held, 1 to its length, are those that were

@@ -20,7 +20,8 @@ use Rattle.pb_games.specs.declared.refusal.Refusal.TheVariants as refusal
 use Rattle.pb_games.specs.Header.{IsHeader, fields_of}
 use Rattle.pb_games.specs.LineFields.{submission_of, IsChecked}
 use Rattle.pb_games.specs.Reading.{AreRead, AreRefused}
-use Rattle.pb_games.specs.Refusing.{Refuses, SpellsStart}
+use Rattle.pb_games.specs.Refusing.{Refuses}
+use Rattle.pb_games.specs.Refusals.{SpellsStart}
 use Rattle.pb_games.specs.Results.{outcome_text}
 use Rattle.pb_games.specs.Submissions.{IsLawful, IsGame, moves_text, submission_text}
 use Rattle.pb_games.specs.Words.{words_of, move_named, moves_named}

@@ -3,6 +3,7 @@ pub mod Limits
 pub mod Words
 pub mod Results
 pub mod Submissions
+pub mod Refusals
 pub mod Refusing
 pub mod Header
 pub mod LineFields

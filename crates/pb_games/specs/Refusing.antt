@@ -15,16 +15,9 @@ use Rattle.pb_games.specs.declared.refusal.Refusal.{Refusal}
 use Rattle.pb_games.specs.declared.refusal.Refusal.TheVariants as refusal
 use Rattle.pb_games.specs.Limits.{line_limit, most_plies}
 use Rattle.pb_games.specs.Ids.{IsId}
+use Rattle.pb_games.specs.Refusals.{SpellsMoves, SpellsStart}
 use Rattle.pb_games.specs.Results.{outcome_text}
 use Rattle.pb_games.specs.Words.{words_of}
-
--- ---- a line, of which these are the parts between TABs
-
-abbrev pub SpellsStart : List (List ℕ) → Record → Type 0
-SpellsStart parts f = IsRecord f × (field parts 2 ≡ fen_text f)
-
-abbrev pub SpellsMoves : List (List ℕ) → List Moved → Type 0
-SpellsMoves parts moves = All IsMove moves × (map spelling moves ≡ words_of (field parts 3))
 
 -- when each refusal is due; the three that are never due here look at more than the line
 abbrev pub IsDue : List ℕ → List (List ℕ) → Refusal → Type 0
@@ -37,7 +30,7 @@ IsDue line parts refusal.Start = (f : Record) × SpellsStart parts f × ¬ IsPla
 IsDue line parts (refusal.Spelling n) = BreaksAt (All IsSpelled) (words_of (field parts 3)) n
 IsDue line parts refusal.Plies = most_plies < length (words_of (field parts 3))
 IsDue line parts (refusal.Illegal n) = (f : Record) × (moves : List Moved)
-    × SpellsStart parts f × SpellsMoves parts moves × BreaksAt (AreLegal f.setup) moves n
+    × SpellsStart parts f × SpellsMoves (words_of (field parts 3)) moves × BreaksAt (AreLegal f.setup) moves n
 IsDue line parts _ = ⊥
 
 -- in the order in which they are looked for: one has a cause, two have a number

@@ -1,0 +1,87 @@
+-- What is answered to lines, as the replies say it.
+use Rattle.std.proofs.Common.{◌≡◌, ℕ, zero, suc, ◌+◌, List, [], ◌∷◌, ◌++◌, length, drop, get_or, Option, Some, None, Ok, Err, refl, sym, ap, subst, ◌∙◌, inl, inr, arith}
+use Rattle.std.specs.Prelude.{codes, decimal, slice_get, slice_index_or}
+use Rattle.std.specs.List.{flat_map}
+use Rattle.std.proofs.lemmas.List.{append_assoc}
+use Rattle.std.proofs.lemmas.List.Concat.{flat_map-cons}
+use Rattle.pb_board.specs.Fields.{field}
+use Rattle.pb_board.specs.LineEnd.{with_end}
+use Rattle.pb_games.specs.declared.refusal.Refusal.TheVariants.{Conflict, Full, Memory}
+use Rattle.pb_games.specs.Header.{fields_of}
+use Rattle.pb_games.specs.Submissions.{IsLawful, Submission}
+use Rattle.pb_games.proofs.Texts.{fields_back}
+use Rattle.pb_accepted.specs.Accepting.{Answer, Run, Step}
+use Rattle.pb_accepted.specs.Accepting as step
+use Rattle.pb_accepted.specs.Replies.{replies, reply, reply_text, reply_texts}
+use Rattle.pb_accepted.specs.Replying as replied
+use Rattle.pb_accepted.specs.Replying.{Replies, Reply, ok, refused}
+use Rattle.pb_accepted.proofs.RefusedTexts.{refused_to}
+
+-- the id that a lawful line names
+id_is : (line : List ℕ) (s : Submission) → IsLawful line s → field (fields_of line) 0 ≡ s.0
+id_is line s h = ap (λ (parts : List (List ℕ)). slice_index_or parts 0 []) (fields_back line s h)
+
+module _ (line : List ℕ) (s : Submission) (law : IsLawful line s) where
+  pub ok_is : (n : ℕ) → reply line (Ok n) ≡ ok s n
+  ok_is n = ap (λ (id : List ℕ). reply_text id (Ok n)) (id_is line s law)
+
+  full_is : reply line (Err Full) ≡ refused (s.0 ++ codes " full")
+  full_is = ap (λ (id : List ℕ). reply_text id (Err Full)) (id_is line s law)
+
+  memory_is : reply line (Err Memory) ≡ refused (s.0 ++ codes " memory")
+  memory_is = ap (λ (id : List ℕ). reply_text id (Err Memory)) (id_is line s law)
+
+  conflict_is : (n : ℕ) → reply line (Err (Conflict n)) ≡ refused (s.0 ++ codes " conflict " ++ decimal n)
+  conflict_is n = ap (λ (id : List ℕ). reply_text id (Err (Conflict n))) (id_is line s law) ∙ ap refused (sym (append_assoc s.0 (codes " conflict ") (decimal n)))
+
+-- ---- steps and runs
+
+step_to : (cap : ℕ) (A : List Submission) (line : List ℕ) (r : Answer) (B : List Submission) → Step cap A line r B → Reply cap A line (reply line r) B
+step_to cap A line r B (step.new s law fresh room e f) = replied.new s (law, fresh) room (ap (reply line) e ∙ ok_is line s law (length A + 1)) f
+step_to cap A line r B (step.full s law fresh many e f) = replied.full s (law, fresh) many (ap (reply line) e ∙ full_is line s law) f
+step_to cap A line r B (step.memory s law fresh room e f) = replied.memory s (law, fresh) room (ap (reply line) e ∙ memory_is line s law) f
+step_to cap A line r B (step.repeat s n law at e f) = replied.repeat s n law at (ap (reply line) e ∙ ok_is line s law n) f
+step_to cap A line r B (step.conflict s g n law at differs e f) = replied.conflict s g n law at differs (ap (reply line) e ∙ conflict_is line s law n) f
+step_to cap A line r B (step.refused e why is f) = replied.refused_alone _ (refused_to line e why) (ap (reply line) is) f
+
+pub run_to : (cap : ℕ) (A : List Submission) (L : List (List ℕ)) (R : List Answer) (B : List Submission) → Run cap A L R B → Replies cap A L (reply_texts L R) B
+run_to cap A [] [] B h = h
+run_to cap A (line ∷ L) (r ∷ R) B h = (h.0, step_to cap A line r h.0 h.1, run_to cap h.0 L R B h.2)
+run_to cap A [] (r ∷ R) B h = absurd h
+run_to cap A (line ∷ L) [] B h = absurd h
+
+pub replies_are : (L : List (List ℕ)) (R : List Answer) → replies L R ≡ flat_map with_end (reply_texts L R)
+replies_are [] [] = refl
+replies_are [] (r ∷ R) = refl
+replies_are (line ∷ L) [] = refl
+replies_are (line ∷ L) (r ∷ R) = ap (λ (rest : List ℕ). with_end (reply line r) ++ rest) (replies_are L R)
+
+-- ---- one reply of many
+
+one_some : {X : Type 0} (x y : X) → Some x ≡ Some y → x ≡ y
+one_some x y e = cc
+
+pub told : (L : List (List ℕ)) (R : List Answer) (i : ℕ) (line : List ℕ) (r : Answer) → slice_get L i ≡ Some line → slice_get R i ≡ Some r
+    → slice_get (reply_texts L R) i ≡ Some (reply line r)
+told [] R i line r here said = absurd (let no_line : None ≡ Some line = here in cc)
+told (l ∷ L) [] i line r here said = absurd (let no_answer : None ≡ Some r = said in cc)
+told (l ∷ L) (q ∷ R) zero line r here said = ap (λ (x : List ℕ). Some (reply x q)) (one_some l line here) ∙ ap (λ (x : Answer). Some (reply line x)) (one_some q r said)
+told (l ∷ L) (q ∷ R) (suc i) line r here said = told L R i line r here said
+
+pub told_back : (L : List (List ℕ)) (R : List Answer) (i : ℕ) (line text : List ℕ) → slice_get L i ≡ Some line → slice_get (reply_texts L R) i ≡ Some text
+    → (r : Answer) × (slice_get R i ≡ Some r) × (text ≡ reply line r)
+told_back [] R i line text here said = absurd (let no_line : None ≡ Some line = here in cc)
+told_back (l ∷ L) [] i line text here said = absurd (let no_answer : None ≡ Some text = said in cc)
+told_back (l ∷ L) (q ∷ R) zero line text here said = (q, refl, sym (one_some (reply l q) text said) ∙ ap (λ (x : List ℕ). reply x q) (one_some l line here))
+told_back (l ∷ L) (q ∷ R) (suc i) line text here said = told_back L R i line text here said
+
+-- a reply `ok` is that of a number
+cancel : (xs ys zs : List ℕ) → xs ++ ys ≡ xs ++ zs → ys ≡ zs
+cancel [] ys zs e = e
+cancel (x ∷ xs) ys zs e = cancel xs ys zs (ap (drop 1) e)
+
+pub ok_back : (line : List ℕ) (s : Submission) (n : ℕ) (r : Answer) → IsLawful line s → ok s n ≡ reply line r → (m : ℕ) × (r ≡ Ok m) × (decimal m ≡ decimal n)
+ok_back line s n (Ok m) law e =
+    let same : ok s n ≡ ok s m = e ∙ ok_is line s law m in
+    (m, refl, sym (ap (drop 1) (cancel s.0 (32 ∷ decimal n) (32 ∷ decimal m) (ap (drop 3) same))))
+ok_back line s n (Err x) law e = absurd (let first = ap (λ (t : List ℕ). get_or t 0 0) e in omega (arith, first))

@@ -1,0 +1,51 @@
+-- Why a line is refused by itself, as the reply says it.
+use Rattle.std.specs.Prelude.{◌≡◌, ◌≢◌, ℕ, ◌<◌, ◌⊎◌, List, [], ◌∷◌, ◌++◌, length, map, All, codes}
+use Rattle.std.specs.Prelude.{decimal}
+use Rattle.std.specs.Str.Lines.{strip_carriage_return}
+use Rattle.pb_board.specs.Fields.{field, fields}
+use Rattle.pb_board.specs.Position.{IsRecord, Record}
+use Rattle.pb_board.specs.Refusal.{BreaksAt}
+use Rattle.pb_board.specs.Text.{fen_text}
+use Rattle.pb_moves.specs.Attacks.{IsPlayable}
+use Rattle.pb_moves.specs.Moved.{IsMove, Moved}
+use Rattle.pb_moves.specs.Played.{AreLegal, IsSpelled}
+use Rattle.pb_moves.specs.Spelling.{spelling}
+use Rattle.pb_games.specs.declared.outcome.Outcome.{Outcome}
+use Rattle.pb_games.specs.Ids.{IsId}
+use Rattle.pb_games.specs.Results.{outcome_text}
+use Rattle.pb_games.specs.Words.{words_of}
+
+-- the third of a line's parts spells the record, and these words spell the moves
+abbrev pub SpellsStart : List (List ℕ) → Record → Type 0
+SpellsStart parts f = IsRecord f × (field parts 2 ≡ fen_text f)
+
+abbrev pub SpellsMoves : List (List ℕ) → List Moved → Type 0
+SpellsMoves words moves = All IsMove moves × (map spelling moves ≡ words)
+
+-- each reason with what the reply says, in the order in which they are looked for; a move is named
+-- by its number, from 1
+abbrev pub reasons : List ℕ → List (List ℕ) → List (List ℕ → Type 0)
+reasons line parts = let id = field parts 0 in let words = words_of (field parts 3) in
+    (λ why. (why ≡ codes "- long") × (8192 < length line))
+    ∷ (λ why. (why ≡ codes "- shape") × (length parts ≢ 4))
+    ∷ (λ why. (why ≡ codes "- id") × ¬ IsId id)
+    ∷ (λ why. (why ≡ id ++ codes " result") × ((o : Outcome) → field parts 1 ≢ outcome_text o))
+    ∷ (λ why. (why ≡ id ++ codes " fen") × ((f : Record) → ¬ SpellsStart parts f))
+    ∷ (λ why. (why ≡ id ++ codes " start")
+    × (f : Record) × SpellsStart parts f × ¬ IsPlayable f.setup)
+    ∷ (λ why. (n : ℕ) × (why ≡ id ++ codes " spelling " ++ decimal n)
+    × BreaksAt (All IsSpelled) words n)
+    ∷ (λ why. (why ≡ id ++ codes " plies") × (1024 < length words))
+    ∷ (λ why. (n : ℕ) × (f : Record) × (moves : List Moved)
+    × (why ≡ id ++ codes " illegal " ++ decimal n) × SpellsStart parts f × SpellsMoves words moves
+    × BreaksAt (AreLegal f.setup) moves n)
+    ∷ []
+
+-- the first of them that holds
+abbrev pub IsFirst : List (List ℕ → Type 0) → List ℕ → Type 0
+IsFirst [] why = ⊥
+IsFirst (IsDue ∷ others) why = IsDue why ⊎ (((w : List ℕ) → ¬ IsDue w) × IsFirst others why)
+
+-- the parts are those between TABs, of the line without one final CR
+abbrev pub IsRefused : List ℕ → List ℕ → Type 0
+IsRefused line why = IsFirst (reasons line (fields 9 (strip_carriage_return line))) why
