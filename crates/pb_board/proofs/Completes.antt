@@ -1,5 +1,5 @@
 -- Where no error of a FEN record is due, the text is that of a record.
-use Rattle.std.proofs.Common.{◌≡◌, ℕ, ◌^◌, ◌<◌, List, [], ◌∷◌, length, Option, refl, sym, ap, subst, ◌∙◌, inl, inr, arith}
+use Rattle.std.proofs.Common.{◌≡◌, ◌≢◌, ℕ, ◌^◌, ◌<◌, List, [], ◌∷◌, ◌++◌, length, Option, refl, sym, ap, subst, ◌∙◌, inl, inr, arith}
 use Rattle.std.specs.Prelude.{decimal}
 use Rattle.std.specs.List.{join_with_byte}
 use Rattle.std.proofs.lemmas.Bool.{cases_eq}
@@ -12,7 +12,7 @@ use Rattle.pb_board.specs.Board.{Board}
 use Rattle.pb_board.specs.Fields.{field, fields}
 use Rattle.pb_board.specs.Position.{HasKings, HasNoEdgePawn, IsRecord, Record, position_of, record_of}
 use Rattle.pb_board.specs.Refusal.{IsDueFen, IsFirstOf, SpellsBoard, fen_errors}
-use Rattle.pb_board.specs.Text.{castling_text, en_passant_text, fen_text, placement_text, turn_text}
+use Rattle.pb_board.specs.Text.{castling_text, en_passant_text, fen_text, placement_text, setup_fields, turn_text}
 use Rattle.pb_board.proofs.Dues.{first_here, first_later}
 use Rattle.pb_board.proofs.Unique.{placement_injective}
 
@@ -44,7 +44,9 @@ module _ (text : List ℕ) where
   is_text : (f : Record) → length parts ≡ 6 → field parts 0 ≡ placement_text f.setup.board → field parts 1 ≡ turn_text f.setup.turn → field parts 2 ≡ castling_text f.setup.rights
       → field parts 3 ≡ en_passant_text f.setup.ep → field parts 4 ≡ decimal f.half → field parts 5 ≡ decimal f.full → text ≡ fen_text f
   is_text f six a b c d e g =
-      sym (join_with_byte-slice_split 32 text) ∙ ap (join_with_byte 32) (six_are parts six ∙ rw (a, b, c, d, e, g) refl)
+      let six_parts : List (List ℕ) = field parts 0 ∷ field parts 1 ∷ field parts 2 ∷ field parts 3 ∷ field parts 4 ∷ field parts 5 ∷ [] in
+      let same : six_parts ≡ setup_fields f.setup ++ decimal f.half ∷ decimal f.full ∷ [] = rw (a, b, c, d, e, g) refl in
+      sym (join_with_byte-slice_split 32 text) ∙ ap (join_with_byte 32) (six_are parts six ∙ same)
 
   -- boards that the first part spells are one
   one_board : (P : Board → Type 0) (other board : Board) → SpellsBoard parts other → SpellsBoard parts board → P other → P board

@@ -34,7 +34,7 @@ impl<'o, 'k, 'p, 'a, R: Read, K: Sink> Submissions<'o, 'k, 'p, 'a, R, K> {
               handed = [];
               fills = 0;
               empty_fills = 0;
-              ended = false;
+              ends = 0;
               failed = false;
             } }
     {
@@ -55,7 +55,7 @@ impl<R: Read, K: Sink> Source for Submissions<'_, '_, '_, '_, R, K> {
       handed = (⟦<FromRead<R> as Source>⟧.state s.input).handed;
       fills = s.fills;
       empty_fills = s.empty_fills;
-      ended = (⟦<FromRead<R> as Source>⟧.state s.input).ended;
+      ends = (⟦<FromRead<R> as Source>⟧.state s.input).ends;
       failed = s.failed;
     } };
 

@@ -36,7 +36,7 @@ impl<'a> FuseSource<'a> {
               handed = [];
               fills = 0;
               empty_fills = 0;
-              ended = false;
+              ends = 0;
               failed = false;
             } }
         ensures good { result.good ≡ good }
@@ -57,7 +57,7 @@ impl<'a> Source for FuseSource<'a> {
       handed = (⟦<MemSource<'a> as Source>⟧.state s.source).handed;
       fills = s.fills.some;
       empty_fills = s.fills.empty;
-      ended = (⟦<MemSource<'a> as Source>⟧.state s.source).ended;
+      ends = (⟦<MemSource<'a> as Source>⟧.state s.source).ends;
       failed = s.failed;
     } };
 
@@ -209,7 +209,7 @@ impl NeverSource {
               handed = [];
               fills = 0;
               empty_fills = 0;
-              ended = false;
+              ends = 0;
               failed = false;
             } }
         ensures byte { result.byte ≡ byte }
@@ -228,7 +228,7 @@ impl Source for NeverSource {
       handed = s.history.bytes;
       fills = s.fills.some;
       empty_fills = s.fills.empty;
-      ended = false;
+      ends = 0;
       failed = false;
     } };
 

@@ -55,7 +55,7 @@ fill_through name count n came old new slice is fill =
       handed = ap (λ k. name ∷ k ∷ new.handed) stays ∙ ap (λ bs. name ∷ before count old.handed ∷ bs) fill.handed;
       fills = fill.fills;
       empty_fills = fill.empty_fills;
-      ended = fill.ended;
+      ends = fill.ends;
       failed = fill.failed;
       stays_failed = fill.stays_failed;
     }
