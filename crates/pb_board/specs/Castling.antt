@@ -8,9 +8,8 @@ use Rattle.pb_board.specs.declared.castling.Castling.{Castling}
 use Rattle.pb_board.specs.declared.castling.Castling.TheVariants.{WhiteShort, WhiteLong}
 use Rattle.pb_board.specs.declared.castling.Castling.TheVariants.{BlackShort, BlackLong}
 
--- a row of the table, and its number in the order of the rights
+-- a row of the table
 pub record CastlingRow : Type 0 where
-  pub number : ℕ
   pub colour : Colour
   pub right : Rights → Bool
   pub king_from : ℕ
@@ -19,9 +18,8 @@ pub record CastlingRow : Type 0 where
   pub rook_to : ℕ
 
 -- a row of these values, in the order of the fields
-abbrev pub row : ℕ → Colour → (Rights → Bool) → ℕ → ℕ → ℕ → ℕ → CastlingRow
-row number colour right king_from king_to rook_from rook_to = record {
-  number = number;
+abbrev pub row : Colour → (Rights → Bool) → ℕ → ℕ → ℕ → ℕ → CastlingRow
+row colour right king_from king_to rook_from rook_to = record {
   colour = colour;
   right = right;
   king_from = king_from;
@@ -32,10 +30,10 @@ row number colour right king_from king_to rook_from rook_to = record {
 
 -- the table, by the squares' indices: a1 is 0, e1 is 4, h1 is 7, a8 is 56, e8 is 60, h8 is 63
 abbrev pub castling_row : Castling → CastlingRow
-castling_row WhiteShort = row 0 White (λ r. r.white_short) 4 6 7 5
-castling_row WhiteLong = row 1 White (λ r. r.white_long) 4 2 0 3
-castling_row BlackShort = row 2 Black (λ r. r.black_short) 60 62 63 61
-castling_row BlackLong = row 3 Black (λ r. r.black_long) 60 58 56 59
+castling_row WhiteShort = row White (λ r. r.white_short) 4 6 7 5
+castling_row WhiteLong = row White (λ r. r.white_long) 4 2 0 3
+castling_row BlackShort = row Black (λ r. r.black_short) 60 62 63 61
+castling_row BlackLong = row Black (λ r. r.black_long) 60 58 56 59
 
 -- the four in their order
 abbrev pub castlings : List Castling

@@ -3,7 +3,7 @@ use Rattle.std.proofs.Common.{◌≡◌, ℕ, ◌+◌, ◌*◌, ◌^◌, ◌<◌
 use Rattle.std.specs.Prelude.{MatchResult, is_ok}
 use Rattle.std.specs.Char.{digit_value}
 use Rattle.std.specs.List.{AllPass, AllZip}
-use Rattle.std.specs.Str.Parse.{AllDigits, digits_value_after}
+use Rattle.std.specs.Str.Parse.{AllDigits, IsNumeral, digits_value, digits_value_after}
 use Rattle.std.specs.Int.{w64, from_be_bytes}
 use Rattle.std.specs.Result.{result_unwrap_or}
 use Rattle.std.proofs.lemmas.Bool.Decides.{nat_tests}
@@ -12,7 +12,6 @@ use Rattle.hex.specs.Hex.{IsBytes, decode_pairs, decode_sized, digit_or_error, h
 use Rattle.hex.specs.declared.error.FromHexError.{FromHexError}
 use Rattle.hex.proofs.HexLemmas.{IsOk-decode_sized, decode_pairs-ok}
 use Rattle.hex.proofs.Pairs.{cons_byte, decode_pairs-ok_pair, decode_sized-pairs}
-use Rattle.pb_poly.specs.Table.{WritesRandom}
 
 -- ---- digits by their values
 
@@ -26,6 +25,10 @@ abbrev digits_after : ℕ → List ℕ → ℕ
 digits_after n values = fold (λ m v. 16 * m + v) n values
 
 -- these are 16 digits that write the word
+abbrev pub WritesRandom : List ℕ → ℕ → Type 0
+WritesRandom digits word = (length digits ≡ 16) × IsNumeral 16 digits × (word ≡ digits_value 16 digits)
+
+-- the same by the values of the digits
 record WritesWord (digits : List ℕ) (word : ℕ) : Type 0 where
   pub values : List ℕ
   pub sixteen : length values ≡ 16

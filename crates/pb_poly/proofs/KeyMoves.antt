@@ -6,6 +6,7 @@ use Rattle.pb_board.specs.declared.piece.Piece.{Piece}
 use Rattle.pb_board.specs.Piece.{opponent}
 use Rattle.pb_board.specs.Board.{Board, at, file, rank, IsForward}
 use Rattle.pb_board.specs.Position.{Position, IsSetup, beyond}
+use Rattle.pb_board.specs.Rights.{only_if}
 use Rattle.pb_moves.specs.declared.effect.Effect.{Effect}
 use Rattle.pb_moves.specs.Cases.{CaseOf, Goes, PawnDouble, pawn_rank, piece_move, pawn_step, pawn_double, pawn_capture, en_passant, castles}
 use Rattle.pb_moves.specs.Effect.{IsEffect}
@@ -14,7 +15,7 @@ use Rattle.pb_moves.specs.Successor.{after}
 use Rattle.pb_moves.proofs.Differing.{off_two}
 use Rattle.pb_moves.proofs.Passing.{crossed}
 use Rattle.pb_moves.proofs.Effects.{effect_case, effect_ep}
-use Rattle.pb_poly.specs.Key.{has_capturer, en_passant_offsets, offset_if}
+use Rattle.pb_poly.specs.Key.{has_capturer, en_passant_offsets}
 use Rattle.pb_poly.specs.KeyChange.{stepped_offsets}
 use Rattle.pb_poly.proofs.Offsets.{passing_offsets}
 
@@ -44,15 +45,15 @@ capturers_stay s m p new side x =
     rw (below, above) refl
 
 double_offsets : (s t : Position) (m : Moved) (p : Piece) → t.turn ≡ opponent s.turn → t.ep ≡ Some ((m.from + m.to) / 2) → PawnDouble s m p t.board
-    → en_passant_offsets t ≡ offset_if (has_capturer s.board (opponent s.turn) m.to) (772 + file m.to)
+    → en_passant_offsets t ≡ only_if (has_capturer s.board (opponent s.turn) m.to) (772 + file m.to)
 double_offsets s t m p turn ep x =
     let halfway = (m.from + m.to) / 2 in
     let is = step_beyond s.turn m.from m.to x.same_file x.forward in
     ap (λ (o : Option ℕ). passing_offsets t o) ep
-    ∙ ap (λ (side : Colour). offset_if (has_capturer t.board side (beyond side halfway)) (772 + file halfway)) turn
-    ∙ ap (λ q. offset_if (has_capturer t.board (opponent s.turn) q) (772 + file halfway)) is.0
-    ∙ ap (λ flag. offset_if flag (772 + file halfway)) (capturers_stay s m p t.board (opponent s.turn) x)
-    ∙ ap (λ f. offset_if (has_capturer s.board (opponent s.turn) m.to) (772 + f)) is.1
+    ∙ ap (λ (side : Colour). only_if (has_capturer t.board side (beyond side halfway)) (772 + file halfway)) turn
+    ∙ ap (λ q. only_if (has_capturer t.board (opponent s.turn) q) (772 + file halfway)) is.0
+    ∙ ap (λ flag. only_if flag (772 + file halfway)) (capturers_stay s m p t.board (opponent s.turn) x)
+    ∙ ap (λ f. only_if (has_capturer s.board (opponent s.turn) m.to) (772 + f)) is.1
 
 -- no other move crosses a square
 by_case : (s t : Position) (m : Moved) (p : Piece) (ep : Option ℕ) (x : CaseOf s m p t.board) → t.turn ≡ opponent s.turn → t.ep ≡ ep → ep ≡ crossed s m p t.board x
@@ -60,7 +61,7 @@ by_case : (s t : Position) (m : Moved) (p : Piece) (ep : Option ℕ) (x : CaseOf
 by_case s t m p ep (pawn_double x) turn is by =
     let aside = step_beyond s.turn m.from m.to x.same_file x.forward in
     double_offsets s t m p turn (is ∙ by) x
-    ∙ ap (λ n. offset_if (has_capturer s.board (opponent s.turn) m.to) (772 + n)) (sym aside.1) ∙ sym (ap (λ (o : Option ℕ). stepped_offsets s m.to o) by)
+    ∙ ap (λ n. only_if (has_capturer s.board (opponent s.turn) m.to) (772 + n)) (sym aside.1) ∙ sym (ap (λ (o : Option ℕ). stepped_offsets s m.to o) by)
 by_case s t m p ep (piece_move x) turn is by = ap (λ (o : Option ℕ). passing_offsets t o) (is ∙ by) ∙ sym (ap (λ (o : Option ℕ). stepped_offsets s m.to o) by)
 by_case s t m p ep (pawn_step x) turn is by = ap (λ (o : Option ℕ). passing_offsets t o) (is ∙ by) ∙ sym (ap (λ (o : Option ℕ). stepped_offsets s m.to o) by)
 by_case s t m p ep (pawn_capture x) turn is by = ap (λ (o : Option ℕ). passing_offsets t o) (is ∙ by) ∙ sym (ap (λ (o : Option ℕ). stepped_offsets s m.to o) by)

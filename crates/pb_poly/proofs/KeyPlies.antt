@@ -3,26 +3,24 @@ use Rattle.std.proofs.Common.{◌≡◌, ℕ, ◌+◌, ◌%◌, ◌^◌, ◌<◌
 use Rattle.std.specs.Prelude.{slice_index}
 use Rattle.std.specs.Bool.{beq}
 use Rattle.std.specs.Int.{bit_at}
-use Rattle.std.specs.List.{flat_map}
 use Rattle.std.proofs.lemmas.Nat.Bits.{bit_at-zero, same_from_bits_below}
-use Rattle.pb_board.specs.declared.castling.Castling.{Castling}
 use Rattle.pb_board.specs.declared.piece.Colour.{Colour}
 use Rattle.pb_board.specs.declared.piece.Colour.TheVariants.{White, Black}
 use Rattle.pb_board.specs.declared.setup.Rights.{Rights}
 use Rattle.pb_board.specs.Piece.{opponent}
-use Rattle.pb_board.specs.Castling.{castling_row, castlings}
 use Rattle.pb_board.specs.Position.{Position}
-use Rattle.pb_poly.specs.Key.{castling_offset, key, en_passant_offsets, piece_offsets, offset_if, offsets, rights_offsets}
+use Rattle.pb_board.specs.Rights.{only_if}
+use Rattle.pb_poly.specs.Key.{key, en_passant_offsets, piece_offsets, offsets}
 use Rattle.pb_poly.specs.KeyChange.{changed_offsets, toggled}
 use Rattle.pb_poly.specs.Table.{IsTable}
 use Rattle.pb_poly.proofs.Among.{total}
 use Rattle.pb_poly.proofs.KeyChanges.{total-append}
 use Rattle.pb_poly.proofs.Parity.{toggled_below, toggled_bit}
-use Rattle.pb_poly.proofs.Offsets.{turn_offsets}
+use Rattle.pb_poly.proofs.Offsets.{right_offsets, turn_offsets}
 
 -- ---- the parts of a key
 
-flag_changes : (f : ℕ → ℕ) (old new : Bool) (offset : ℕ) → (total f (offset_if old offset) + total f (offset_if (not (beq old new)) offset)) % 2 ≡ total f (offset_if new offset) % 2
+flag_changes : (f : ℕ → ℕ) (old new : Bool) (offset : ℕ) → (total f (only_if old offset) + total f (only_if (not (beq old new)) offset)) % 2 ≡ total f (only_if new offset) % 2
 flag_changes f true true offset = omega arith
 flag_changes f true false offset = omega arith
 flag_changes f false true offset = omega arith
@@ -35,31 +33,35 @@ four_lists f a b c d =
     let third = total-append f c d in
     omega (arith, first, second, third)
 
--- some of the castlings of which this is so
-abbrev some_offsets : (Castling → Bool) → List Castling → List ℕ
-some_offsets has cs = flat_map (λ c. offset_if (has c) (castling_offset c)) cs
+rights_total : (f : ℕ → ℕ) (r : Rights)
+    → total f (right_offsets r) ≡ total f (only_if r.white_short 768) + total f (only_if r.white_long 769) + total f (only_if r.black_short 770) + total f (only_if r.black_long 771)
+rights_total f r = four_lists f (only_if r.white_short 768) (only_if r.white_long 769) (only_if r.black_short 770) (only_if r.black_long 771)
 
-castlings_change : (f : ℕ → ℕ) (old new : Castling → Bool) (cs : List Castling)
-    → (total f (some_offsets old cs) + total f (some_offsets (λ c. not (beq (old c) (new c))) cs)) % 2 ≡ total f (some_offsets new cs) % 2
-castlings_change f old new [] = refl
-castlings_change f old new (c ∷ cs) =
-    let Lost : Castling → Bool = λ d. not (beq (old d) (new d)) in
-    let had = total-append f (offset_if (old c) (castling_offset c)) (some_offsets old cs) in
-    let has = total-append f (offset_if (new c) (castling_offset c)) (some_offsets new cs) in
-    let lost = total-append f (offset_if (Lost c) (castling_offset c)) (some_offsets Lost cs) in
-    let first = flag_changes f (old c) (new c) (castling_offset c) in
-    let more = castlings_change f old new cs in
-    omega (arith, had, has, lost, first, more)
-
-rights_change : (f : ℕ → ℕ) (old new : Rights) → (total f (rights_offsets old) + total f (changed_offsets old new)) % 2 ≡ total f (rights_offsets new) % 2
-rights_change f old new = castlings_change f (λ c. (castling_row c).right old) (λ c. (castling_row c).right new) castlings
+rights_change : (f : ℕ → ℕ) (old new : Rights) → (total f (right_offsets old) + total f (changed_offsets old new)) % 2 ≡ total f (right_offsets new) % 2
+rights_change f old new =
+    let changed : Rights = record {
+      white_short = not (beq old.white_short new.white_short);
+      white_long = not (beq old.white_long new.white_long);
+      black_short = not (beq old.black_short new.black_short);
+      black_long = not (beq old.black_long new.black_long);
+    } in
+    omega (
+      arith,
+      rights_total f old,
+      rights_total f new,
+      rights_total f changed,
+      flag_changes f old.white_short new.white_short 768,
+      flag_changes f old.white_long new.white_long 769,
+      flag_changes f old.black_short new.black_short 770,
+      flag_changes f old.black_long new.black_long 771,
+    )
 
 turn_changes : (f : ℕ → ℕ) (side : Colour) → (total f (turn_offsets side) + total f (780 ∷ [])) % 2 ≡ total f (turn_offsets (opponent side)) % 2
 turn_changes f White = omega arith
 turn_changes f Black = omega arith
 
-offsets_total : (f : ℕ → ℕ) (s : Position) → total f (offsets s) ≡ total f (piece_offsets s.board 0) + total f (rights_offsets s.rights) + total f (en_passant_offsets s) + total f (turn_offsets s.turn)
-offsets_total f s = four_lists f (piece_offsets s.board 0) (rights_offsets s.rights) (en_passant_offsets s) (turn_offsets s.turn)
+offsets_total : (f : ℕ → ℕ) (s : Position) → total f (offsets s) ≡ total f (piece_offsets s.board 0) + total f (right_offsets s.rights) + total f (en_passant_offsets s) + total f (turn_offsets s.turn)
+offsets_total f s = four_lists f (piece_offsets s.board 0) (right_offsets s.rights) (en_passant_offsets s) (turn_offsets s.turn)
 
 -- ---- the key
 

@@ -6,25 +6,35 @@ use Rattle.pb_board.specs.declared.piece.Colour.{Colour}
 use Rattle.pb_board.specs.declared.setup.Rights.{Rights}
 use Rattle.pb_board.specs.Board.{Board}
 use Rattle.pb_board.specs.Position.{Position}
-use Rattle.pb_poly.specs.Key.{key, en_passant_offsets, piece_offsets, rights_offsets}
+use Rattle.pb_board.specs.Rights.{only_if}
+use Rattle.pb_poly.specs.Key.{key, en_passant_offsets, piece_offsets}
 use Rattle.pb_poly.specs.KeyChange.{toggled}
-use Rattle.pb_poly.proofs.Offsets.{turn_offsets}
+use Rattle.pb_poly.proofs.Offsets.{right_offsets, turn_offsets}
 
 pub toggled-append : (words : List ℕ) (k : ℕ) (xs ys : List ℕ) → toggled words k (xs ++ ys) ≡ toggled words (toggled words k xs) ys
 toggled-append words k xs ys = fold-append (λ n offset. bit_xor n (slice_index words offset)) k xs ys
 
+-- the castling rights, one after the other
+pub rights_in_parts : (words : List ℕ) (r : Rights) (k a b c d : ℕ) → a ≡ toggled words k (only_if r.white_short 768) → b ≡ toggled words a (only_if r.white_long 769)
+    → c ≡ toggled words b (only_if r.black_short 770) → d ≡ toggled words c (only_if r.black_long 771) → d ≡ toggled words k (right_offsets r)
+rights_in_parts words r k a b c d first second third fourth =
+    let later = only_if r.black_short 770 ++ only_if r.black_long 771 in
+    fourth ∙ ap (λ n. toggled words n (only_if r.black_long 771)) third ∙ sym (toggled-append words b (only_if r.black_short 770) (only_if r.black_long 771))
+    ∙ ap (λ n. toggled words n later) second ∙ sym (toggled-append words a (only_if r.white_long 769) later)
+    ∙ ap (λ n. toggled words n (only_if r.white_long 769 ++ later)) first ∙ sym (toggled-append words k (only_if r.white_short 768) (only_if r.white_long 769 ++ later))
+
 -- the parts of the code, one after the other
 pub key_in_parts : (words : List ℕ) (s : Position) (board : Board) (rights : Rights) (turn : Colour) (a b c d : ℕ) → board ≡ s.board → rights ≡ s.rights → turn ≡ s.turn
-    → a ≡ toggled words 0 (piece_offsets board 0) → b ≡ toggled words a (rights_offsets rights) → c ≡ toggled words b (en_passant_offsets s) → d ≡ toggled words c (turn_offsets turn)
+    → a ≡ toggled words 0 (piece_offsets board 0) → b ≡ toggled words a (right_offsets rights) → c ≡ toggled words b (en_passant_offsets s) → d ≡ toggled words c (turn_offsets turn)
     → d ≡ key words s
 unfolding key
 key_in_parts words s board rights turn a b c d same_board same_rights same_turn pieces flags en_passant side =
     let ps = piece_offsets s.board 0 in
-    let rs = rights_offsets s.rights in
+    let rs = right_offsets s.rights in
     let es = en_passant_offsets s in
     let ts = turn_offsets s.turn in
     let a_is : a ≡ toggled words 0 ps = pieces ∙ ap (λ x. toggled words 0 (piece_offsets x 0)) same_board in
-    let b_is : b ≡ toggled words (toggled words 0 ps) rs = flags ∙ ap (λ (x : Rights). toggled words a (rights_offsets x)) same_rights ∙ ap (λ k. toggled words k rs) a_is in
+    let b_is : b ≡ toggled words (toggled words 0 ps) rs = flags ∙ ap (λ (x : Rights). toggled words a (right_offsets x)) same_rights ∙ ap (λ k. toggled words k rs) a_is in
     let c_is : c ≡ toggled words (toggled words (toggled words 0 ps) rs) es = en_passant ∙ ap (λ k. toggled words k es) b_is in
     let d_is : d ≡ toggled words (toggled words (toggled words (toggled words 0 ps) rs) es) ts = side ∙ ap (λ (x : Colour). toggled words c (turn_offsets x)) same_turn ∙ ap (λ k. toggled words k ts) c_is in
     d_is ∙ sym (

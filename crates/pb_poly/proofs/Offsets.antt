@@ -3,22 +3,20 @@ use Rattle.std.proofs.Common.{◌≡◌, ◌≢◌, ℕ, zero, suc, ◌+◌, ◌
 use Rattle.std.specs.Prelude.{IsTrue}
 use Rattle.std.proofs.lemmas.Bool.{and_parts, cases_lt}
 use Rattle.std.proofs.lemmas.Bool.Decides.{nat_tests}
-use Rattle.std.specs.List.{flat_map}
 use Rattle.std.specs.Option.{option_map_or}
-use Rattle.pb_board.specs.declared.castling.Castling.{Castling}
-use Rattle.pb_board.specs.declared.castling.Castling.TheVariants.{WhiteShort, WhiteLong, BlackShort, BlackLong}
-use Rattle.pb_board.specs.Castling.{castling_row, castlings}
 use Rattle.pb_board.specs.declared.piece.Colour.{Colour}
 use Rattle.pb_board.specs.declared.piece.Colour.TheVariants.{White, Black}
 use Rattle.pb_board.specs.declared.piece.Kind.{Kind}
 use Rattle.pb_board.specs.declared.piece.Kind.TheVariants.{Pawn, Knight, Bishop, Rook, Queen, King}
 use Rattle.pb_board.specs.declared.piece.Piece.{Piece}
-use Rattle.pb_board.specs.Piece.{colour_number, kind_number, pawn_of}
+use Rattle.pb_board.specs.declared.setup.Rights.{Rights}
+use Rattle.pb_board.specs.Piece.{colour_number, kind_number, piece_number, piece_of}
 use Rattle.pb_board.specs.Board.{Board, Place, at, file, rank, is_piece}
 use Rattle.pb_board.specs.Position.{Position, IsSetup, beyond}
+use Rattle.pb_board.specs.Rights.{of_rights, only_if}
 use Rattle.pb_board.proofs.PieceTests.{is_piece-is, is_piece-passes}
 use Rattle.pb_moves.specs.Attacks.{files_apart}
-use Rattle.pb_poly.specs.Key.{AreOffsets, HasOffset, of_piece, of_right, en_passant, white_to_move, HasCapturer, castling_offset, has_capturer, number_of, en_passant_offsets, piece_offset, piece_offsets, offset_if, offsets, rights_offsets, en_passant_start, turn_offset}
+use Rattle.pb_poly.specs.Key.{AreOffsets, HasOffset, of_piece, of_right, en_passant, white_to_move, HasCapturer, has_capturer, en_passant_offsets, piece_offset, piece_offsets, offsets}
 use Rattle.pb_poly.proofs.Among.{Among, Distinct, among_contained, among_either, among_left, among_right, contains_among, distinct_append, distinct_pairs}
 
 -- ---- the pieces
@@ -63,7 +61,7 @@ kind_below Rook = omega arith
 kind_below Queen = omega arith
 kind_below King = omega arith
 
-number_below : (p : Piece) → number_of p < 12
+number_below : (p : Piece) → piece_number p < 12
 number_below p = let few = kind_below p.kind in omega (arith, few)
 
 low_square : (board : Board) (square offset : ℕ) → square + length board ≤ 64 → IsOffsetOn board square offset → (square ≤ offset % 64) × (offset < 768)
@@ -85,22 +83,22 @@ distinct_pieces (Some p ∷ board) square fits = (
 
 -- ---- flags
 
-among_flag : (flag : Bool) (offset n : ℕ) → Among (offset_if flag offset) n → IsTrue flag × (n ≡ offset)
+among_flag : (flag : Bool) (offset n : ℕ) → Among (only_if flag offset) n → IsTrue flag × (n ≡ offset)
 among_flag true offset n (inl e) = (refl, e)
 among_flag true offset n (inr h) = absurd h
 among_flag false offset n h = absurd h
 
-flag_among : (flag : Bool) (offset n : ℕ) → IsTrue flag → n ≡ offset → Among (offset_if flag offset) n
+flag_among : (flag : Bool) (offset n : ℕ) → IsTrue flag → n ≡ offset → Among (only_if flag offset) n
 flag_among true offset n set is = inl is
 flag_among false offset n set is = absurd (cc)
 
-distinct_flag : (flag : Bool) (offset : ℕ) → Distinct (offset_if flag offset)
+distinct_flag : (flag : Bool) (offset : ℕ) → Distinct (only_if flag offset)
 distinct_flag true offset = (λ h. h, tt)
 distinct_flag false offset = tt
 
 -- the offset of the side to move
 abbrev pub turn_offsets : Colour → List ℕ
-turn_offsets turn = offset_if (colour_number turn == 0) turn_offset
+turn_offsets turn = only_if (colour_number turn == 0) 780
 
 among_turn : (turn : Colour) (n : ℕ) → Among (turn_offsets turn) n → (turn ≡ White) × (n ≡ 780)
 among_turn White n (inl e) = (refl, e)
@@ -117,8 +115,8 @@ distinct_turn Black = tt
 
 -- ---- the en passant square
 
-there_pawn : (side : Colour) (content : Place) → content ≡ Some (pawn_of side) → is_piece (pawn_of side) content ≡ true
-there_pawn side content h = let P : Place → Type 0 = λ x. is_piece (pawn_of side) x ≡ true in subst P (sym h) (is_piece-passes (pawn_of side))
+there_pawn : (side : Colour) (content : Place) → content ≡ Some (piece_of side Pawn) → is_piece (piece_of side Pawn) content ≡ true
+there_pawn side content h = let P : Place → Type 0 = λ x. is_piece (piece_of side Pawn) x ≡ true in subst P (sym h) (is_piece-passes (piece_of side Pawn))
 
 either_true : (a b : Bool) → (a || b) ≡ true → (a ≡ true) ⊎ (b ≡ true)
 either_true true b h = inl refl
@@ -163,32 +161,32 @@ beside_either capturer pawn same next = elim (cases_lt capturer pawn) [
 capturer_of : (s : Position) (square : ℕ) → has_capturer s.board s.turn (beyond s.turn square) ≡ true → HasCapturer s square
 capturer_of s square h =
     let pawn : ℕ = beyond s.turn square in
-    elim (either_true (not (file pawn == 0) && is_piece (pawn_of s.turn) (at s.board (pawn - 1))) (not (file pawn == 7) && is_piece (pawn_of s.turn) (at s.board (pawn + 1))) h) [
+    elim (either_true (not (file pawn == 0) && is_piece (piece_of s.turn Pawn) (at s.board (pawn - 1))) (not (file pawn == 7) && is_piece (piece_of s.turn Pawn) (at s.board (pawn + 1))) h) [
       | inl left ↦
-          let parts = and_parts (not (file pawn == 0)) (is_piece (pawn_of s.turn) (at s.board (pawn - 1))) left in
+          let parts = and_parts (not (file pawn == 0)) (is_piece (piece_of s.turn Pawn) (at s.board (pawn - 1))) left in
           let inside : pawn % 8 ≢ 0 = other_than (file pawn) 0 parts.0 in
-          record { capturer = pawn - 1; stands = is_piece-is (pawn_of s.turn) (at s.board (pawn - 1)) parts.1; same_rank = rank_before pawn inside; next_file = file_before pawn inside }
+          record { capturer = pawn - 1; stands = is_piece-is (piece_of s.turn Pawn) (at s.board (pawn - 1)) parts.1; same_rank = rank_before pawn inside; next_file = file_before pawn inside }
       | inr right ↦
-          let parts = and_parts (not (file pawn == 7)) (is_piece (pawn_of s.turn) (at s.board (pawn + 1))) right in
+          let parts = and_parts (not (file pawn == 7)) (is_piece (piece_of s.turn Pawn) (at s.board (pawn + 1))) right in
           let inside : pawn % 8 ≢ 7 = other_than (file pawn) 7 parts.0 in
-          record { capturer = pawn + 1; stands = is_piece-is (pawn_of s.turn) (at s.board (pawn + 1)) parts.1; same_rank = rank_next pawn inside; next_file = file_next pawn inside }
+          record { capturer = pawn + 1; stands = is_piece-is (piece_of s.turn Pawn) (at s.board (pawn + 1)) parts.1; same_rank = rank_next pawn inside; next_file = file_next pawn inside }
     ]
 
 of_capturer : (s : Position) (square : ℕ) → HasCapturer s square → has_capturer s.board s.turn (beyond s.turn square) ≡ true
 of_capturer s square h =
     let pawn : ℕ = beyond s.turn square in
-    let left : Bool = not (file pawn == 0) && is_piece (pawn_of s.turn) (at s.board (pawn - 1)) in
-    let right : Bool = not (file pawn == 7) && is_piece (pawn_of s.turn) (at s.board (pawn + 1)) in
+    let left : Bool = not (file pawn == 0) && is_piece (piece_of s.turn Pawn) (at s.board (pawn - 1)) in
+    let right : Bool = not (file pawn == 7) && is_piece (piece_of s.turn Pawn) (at s.board (pawn + 1)) in
     let stands = there_pawn s.turn (at s.board h.capturer) h.stands in
-    let P : ℕ → Type 0 = λ q. is_piece (pawn_of s.turn) (at s.board q) ≡ true in
+    let P : ℕ → Type 0 = λ q. is_piece (piece_of s.turn Pawn) (at s.board q) ≡ true in
     elim (beside_either h.capturer pawn h.same_rank h.next_file) [
-      | inl l ↦ true_left left right (both_true (not (file pawn == 0)) (is_piece (pawn_of s.turn) (at s.board (pawn - 1))) (tells_other (file pawn) 0 l.1) (subst P l.0 stands))
-      | inr r ↦ true_right left right (both_true (not (file pawn == 7)) (is_piece (pawn_of s.turn) (at s.board (pawn + 1))) (tells_other (file pawn) 7 r.1) (subst P r.0 stands))
+      | inl l ↦ true_left left right (both_true (not (file pawn == 0)) (is_piece (piece_of s.turn Pawn) (at s.board (pawn - 1))) (tells_other (file pawn) 0 l.1) (subst P l.0 stands))
+      | inr r ↦ true_right left right (both_true (not (file pawn == 7)) (is_piece (piece_of s.turn Pawn) (at s.board (pawn + 1))) (tells_other (file pawn) 7 r.1) (subst P r.0 stands))
     ]
 
 -- the offset of such an en passant square
 abbrev pub passing_offsets : Position → Option ℕ → List ℕ
-passing_offsets s ep = option_map_or (λ q. offset_if (has_capturer s.board s.turn (beyond s.turn q)) (en_passant_start + file q)) ep []
+passing_offsets s ep = option_map_or (λ q. only_if (has_capturer s.board s.turn (beyond s.turn q)) (772 + file q)) ep []
 
 among_en_passant : (s : Position) (ep : Option ℕ) (n : ℕ) → Among (passing_offsets s ep) n → (square : ℕ) × (ep ≡ Some square) × HasCapturer s square × (n ≡ 772 + file square)
 among_en_passant s None n h = absurd h
@@ -207,91 +205,64 @@ distinct_en_passant s (Some square) = distinct_flag (has_capturer s.board s.turn
 
 -- ---- all offsets
 
-flag_or_later : (flag : Bool) (offset : ℕ) (xs : List ℕ) (n : ℕ) → Among (offset_if flag offset ++ xs) n → (IsTrue flag × (n ≡ offset)) ⊎ Among xs n
-flag_or_later flag offset xs n h = elim (among_either (offset_if flag offset) xs n h) [ inl l ↦ inl (among_flag flag offset n l) | inr r ↦ inr r ]
+flag_or_later : (flag : Bool) (offset : ℕ) (xs : List ℕ) (n : ℕ) → Among (only_if flag offset ++ xs) n → (IsTrue flag × (n ≡ offset)) ⊎ Among xs n
+flag_or_later flag offset xs n h = elim (among_either (only_if flag offset) xs n h) [ inl l ↦ inl (among_flag flag offset n l) | inr r ↦ inr r ]
 
-distinct_after_flag : (flag : Bool) (offset : ℕ) (xs : List ℕ) → Distinct xs → ((n : ℕ) → Among xs n → offset < n) → Distinct (offset_if flag offset ++ xs)
+distinct_after_flag : (flag : Bool) (offset : ℕ) (xs : List ℕ) → Distinct xs → ((n : ℕ) → Among xs n → offset < n) → Distinct (only_if flag offset ++ xs)
 distinct_after_flag true offset xs once above = (λ again. let higher = above offset again in omega (arith, higher), once)
 distinct_after_flag false offset xs once above = once
 
--- some of the castlings of which this is so
-abbrev some_offsets : (Castling → Bool) → List Castling → List ℕ
-some_offsets has cs = flat_map (λ c. offset_if (has c) (castling_offset c)) cs
+-- the offsets of castling rights
+abbrev pub right_offsets : Rights → List ℕ
+right_offsets r = of_rights r 768 769 770 771
 
--- the offset of a castling of which this is so
-abbrev IsOffsetOf : (Castling → Bool) → ℕ → Type 0
-IsOffsetOf has n = (c : Castling) × IsTrue (has c) × (n ≡ castling_offset c)
+above_flag : (flag : Bool) (offset low : ℕ) (xs : List ℕ) → low < offset → ((n : ℕ) → Among xs n → low < n) → (n : ℕ) → Among (only_if flag offset ++ xs) n → low < n
+above_flag flag offset low xs less above n h = elim (flag_or_later flag offset xs n h) [ inl here ↦ omega (arith, less, here.1) | inr later ↦ above n later ]
 
-among_castlings : (has : Castling → Bool) (cs : List Castling) (n : ℕ) → Among (some_offsets has cs) n → IsOffsetOf has n
-among_castlings has [] n h = absurd h
-among_castlings has (c ∷ cs) n h = elim (flag_or_later (has c) (castling_offset c) (some_offsets has cs) n h) [ inl here ↦ (c, here.0, here.1) | inr later ↦ among_castlings has cs n later ]
+above_last : (flag : Bool) (offset low : ℕ) → low < offset → (n : ℕ) → Among (only_if flag offset) n → low < n
+above_last flag offset low less n h = let is = (among_flag flag offset n h).1 in omega (arith, less, is)
 
-castling_among : (has : Castling → Bool) (c : Castling) (n : ℕ) → IsTrue (has c) → n ≡ castling_offset c → Among (some_offsets has castlings) n
-castling_among has WhiteShort n set is = among_left (offset_if (has WhiteShort) 768) _ n (flag_among (has WhiteShort) 768 n set is)
-castling_among has WhiteLong n set is = among_right (offset_if (has WhiteShort) 768) _ n (among_left (offset_if (has WhiteLong) 769) _ n (flag_among (has WhiteLong) 769 n set is))
-castling_among has BlackShort n set is =
-    among_right (offset_if (has WhiteShort) 768) _ n (among_right (offset_if (has WhiteLong) 769) _ n (among_left (offset_if (has BlackShort) 770) _ n (flag_among (has BlackShort) 770 n set is)))
-castling_among has BlackLong n set is =
-    among_right (offset_if (has WhiteShort) 768) _ n (among_right (offset_if (has WhiteLong) 769) _ n
-    (among_right (offset_if (has BlackShort) 770) _ n (among_left (offset_if (has BlackLong) 771) _ n (flag_among (has BlackLong) 771 n set is))))
+distinct_rights : (r : Rights) → Distinct (right_offsets r)
+distinct_rights r =
+    let fourth = only_if r.black_long 771 in
+    let third = only_if r.black_short 770 ++ fourth in
+    let second = only_if r.white_long 769 ++ third in
+    distinct_after_flag r.white_short 768 second
+    (distinct_after_flag r.white_long 769 third
+    (distinct_after_flag r.black_short 770 fourth (distinct_flag r.black_long 771) (above_last r.black_long 771 770 (omega arith)))
+    (above_flag r.black_short 770 769 fourth (omega arith) (above_last r.black_long 771 769 (omega arith))))
+    (above_flag r.white_long 769 768 third (omega arith) (above_flag r.black_short 770 768 fourth (omega arith) (above_last r.black_long 771 768 (omega arith))))
 
--- each castling's offset is above this one
-abbrev Above : ℕ → List Castling → Type 0
-Above offset [] = Unit {0}
-Above offset (c ∷ cs) = (offset < castling_offset c) × Above offset cs
-
--- the offsets of these castlings rise
-abbrev Rise : List Castling → Type 0
-Rise [] = Unit {0}
-Rise (c ∷ cs) = Above (castling_offset c) cs × Rise cs
-
-above_among : (has : Castling → Bool) (offset : ℕ) (cs : List Castling) → Above offset cs → (n : ℕ) → Among (some_offsets has cs) n → offset < n
-above_among has offset [] above n h = absurd h
-above_among has offset (c ∷ cs) above n h = elim (flag_or_later (has c) (castling_offset c) (some_offsets has cs) n h) [
-  | inl here ↦ omega (arith, above.0, here.1)
-  | inr later ↦ above_among has offset cs above.1 n later
+right_offset : (r : Rights) (n : ℕ) → Among (right_offsets r) n → (768 ≤ n) × (n < 772)
+right_offset r n h = elim (flag_or_later r.white_short 768 _ n h) [
+  | inl a ↦ let is = a.1 in (omega arith, omega arith)
+  | inr h ↦ elim (flag_or_later r.white_long 769 _ n h) [
+    | inl b ↦ let is = b.1 in (omega arith, omega arith)
+    | inr h ↦ elim (flag_or_later r.black_short 770 _ n h) [
+      | inl c ↦ let is = c.1 in (omega arith, omega arith)
+      | inr h ↦ let is = (among_flag r.black_long 771 n h).1 in (omega arith, omega arith)
+    ]
+  ]
 ]
-
-distinct_castlings : (has : Castling → Bool) (cs : List Castling) → Rise cs → Distinct (some_offsets has cs)
-distinct_castlings has [] rise = tt
-distinct_castlings has (c ∷ cs) rise =
-    distinct_after_flag (has c) (castling_offset c) (some_offsets has cs) (distinct_castlings has cs rise.1) (above_among has (castling_offset c) cs rise.0)
-
-castlings_rise : Rise castlings
-castlings_rise = ((omega arith, (omega arith, (omega arith, tt))), ((omega arith, (omega arith, tt)), ((omega arith, tt), (tt, tt))))
-
-castling_offsets_low : (c : Castling) → (768 ≤ castling_offset c) × (castling_offset c < 772)
-castling_offsets_low WhiteShort = (omega arith, omega arith)
-castling_offsets_low c = (omega arith, omega arith)
-
--- the rights of a setup
-abbrev rights_of : Position → Castling → Bool
-rights_of s c = (castling_row c).right s.rights
-
-right_offset : (s : Position) (n : ℕ) → Among (rights_offsets s.rights) n → (768 ≤ n) × (n < 772)
-right_offset s n h =
-    let is = among_castlings (rights_of s) castlings n h in
-    let low = castling_offsets_low is.0 in
-    (omega (arith, is.2, low.0), omega (arith, is.2, low.1))
 
 en_passant_offset : (s : Position) (ep : Option ℕ) (n : ℕ) → Among (passing_offsets s ep) n → (772 ≤ n) × (n < 780)
 en_passant_offset s ep n h = let p = among_en_passant s ep n h in let is = p.3 in (omega (arith, is), omega (arith, is))
 
-distinct_rest : (s : Position) → Distinct (rights_offsets s.rights ++ (en_passant_offsets s ++ turn_offsets s.turn))
+distinct_rest : (s : Position) → Distinct (right_offsets s.rights ++ (en_passant_offsets s ++ turn_offsets s.turn))
 distinct_rest s =
     let es = en_passant_offsets s in
     let ts = turn_offsets s.turn in
     let tail = distinct_append es ts (distinct_en_passant s s.ep) (distinct_turn s.turn) (λ n x y. let a = en_passant_offset s s.ep n x in let b = (among_turn s.turn n y).1 in omega (arith, a.1)) in
-    distinct_append (rights_offsets s.rights) (es ++ ts) (distinct_castlings (rights_of s) castlings castlings_rise) tail (λ n x y.
-    let a = right_offset s n x in
+    distinct_append (right_offsets s.rights) (es ++ ts) (distinct_rights s.rights) tail (λ n x y.
+    let a = right_offset s.rights n x in
     elim (among_either es ts n y) [
       | inl e ↦ let b = en_passant_offset s s.ep n e in omega (arith, a.1, b.0)
       | inr t ↦ let b = (among_turn s.turn n t).1 in omega (arith, a.1)
     ])
 
-rest_high : (s : Position) (n : ℕ) → Among (rights_offsets s.rights ++ (en_passant_offsets s ++ turn_offsets s.turn)) n → 768 ≤ n
-rest_high s n h = elim (among_either (rights_offsets s.rights) (en_passant_offsets s ++ turn_offsets s.turn) n h) [
-  | inl a ↦ (right_offset s n a).0
+rest_high : (s : Position) (n : ℕ) → Among (right_offsets s.rights ++ (en_passant_offsets s ++ turn_offsets s.turn)) n → 768 ≤ n
+rest_high s n h = elim (among_either (right_offsets s.rights) (en_passant_offsets s ++ turn_offsets s.turn) n h) [
+  | inl a ↦ (right_offset s.rights n a).0
   | inr b ↦ elim (among_either (en_passant_offsets s) (turn_offsets s.turn) n b) [
     | inl e ↦ let p = en_passant_offset s s.ep n e in omega (arith, p.0)
     | inr t ↦ let is = (among_turn s.turn n t).1 in omega arith
@@ -300,18 +271,18 @@ rest_high s n h = elim (among_either (rights_offsets s.rights) (en_passant_offse
 
 distinct_offsets : (s : Position) → length s.board ≡ 64 → Distinct (offsets s)
 distinct_offsets s full =
-    distinct_append (piece_offsets s.board 0) (rights_offsets s.rights ++ (en_passant_offsets s ++ turn_offsets s.turn)) (distinct_pieces s.board 0 (omega arith)) (distinct_rest s) (λ n x y.
+    distinct_append (piece_offsets s.board 0) (right_offsets s.rights ++ (en_passant_offsets s ++ turn_offsets s.turn)) (distinct_pieces s.board 0 (omega arith)) (distinct_rest s) (λ n x y.
     let low = low_square s.board 0 n (omega arith) (offset_on s.board 0 n x) in
     let high = rest_high s n y in
     omega (arith, low.1))
 
 has_offset : (s : Position) (n : ℕ) → Among (offsets s) n → HasOffset s n
 has_offset s n h =
-    let rest = rights_offsets s.rights ++ (en_passant_offsets s ++ turn_offsets s.turn) in
+    let rest = right_offsets s.rights ++ (en_passant_offsets s ++ turn_offsets s.turn) in
     elim (among_either (piece_offsets s.board 0) rest n h) [
       | inl p ↦ let at_board = offset_on s.board 0 n p in of_piece at_board.ahead at_board.piece at_board.stands (at_board.is ∙ ap (λ q. piece_offset at_board.piece q) (omega arith))
-      | inr r ↦ elim (among_either (rights_offsets s.rights) (en_passant_offsets s ++ turn_offsets s.turn) n r) [
-        | inl a ↦ (let is = among_castlings (rights_of s) castlings n a in of_right is.0 is.1 is.2)
+      | inr r ↦ elim (among_either (right_offsets s.rights) (en_passant_offsets s ++ turn_offsets s.turn) n r) [
+        | inl a ↦ of_right (contains_among (right_offsets s.rights) n a)
         | inr b ↦ elim (among_either (en_passant_offsets s) (turn_offsets s.turn) n b) [
           | inl e ↦ let p = among_en_passant s s.ep n e in en_passant p.0 p.1 p.2 p.3
           | inr t ↦ let p = among_turn s.turn n t in white_to_move p.0 p.1
@@ -321,16 +292,16 @@ has_offset s n h =
 
 among_offsets : (s : Position) (n : ℕ) → HasOffset s n → Among (offsets s) n
 among_offsets s n (of_piece square p stands is) =
-    let rest = rights_offsets s.rights ++ (en_passant_offsets s ++ turn_offsets s.turn) in
+    let rest = right_offsets s.rights ++ (en_passant_offsets s ++ turn_offsets s.turn) in
     let P : ℕ → Type 0 = λ m. Among (piece_offsets s.board 0) m in
     let e : piece_offset p (0 + square) ≡ n = ap (λ q. piece_offset p q) (omega arith) ∙ sym is in
     among_left (piece_offsets s.board 0) rest n (subst P e (among_pieces s.board 0 square p stands))
-among_offsets s n (of_right c set is) =
-    among_right (piece_offsets s.board 0) _ n (among_left (rights_offsets s.rights) _ n (castling_among (rights_of s) c n set is))
+among_offsets s n (of_right h) =
+    among_right (piece_offsets s.board 0) _ n (among_left (right_offsets s.rights) _ n (among_contained (right_offsets s.rights) n h))
 among_offsets s n (en_passant square here capturer is) =
-    among_right (piece_offsets s.board 0) _ n (among_right (rights_offsets s.rights) _ n (among_left (en_passant_offsets s) _ n (en_passant_among s s.ep square n here capturer is)))
+    among_right (piece_offsets s.board 0) _ n (among_right (right_offsets s.rights) _ n (among_left (en_passant_offsets s) _ n (en_passant_among s s.ep square n here capturer is)))
 among_offsets s n (white_to_move white is) =
-    among_right (piece_offsets s.board 0) _ n (among_right (rights_offsets s.rights) _ n (among_right (en_passant_offsets s) _ n (turn_among s.turn n white is)))
+    among_right (piece_offsets s.board 0) _ n (among_right (right_offsets s.rights) _ n (among_right (en_passant_offsets s) _ n (turn_among s.turn n white is)))
 
 pub are_offsets : (s : Position) → IsSetup s → AreOffsets s (offsets s)
 are_offsets s setup = record {

@@ -15,7 +15,7 @@ use Rattle.pb_poly.specs.TableFinds.{FindsNoTable, FindsTable}
 use Rattle.pb_poly.proofs.ToldReads.{all_came, came_first, no_endless, no_fault}
 
 pub tables_are_one : (words others bytes : List ℕ) → IsTableFile words bytes → IsTableFile others bytes → words ≡ others
-tables_are_one words others bytes h k = words_are_one (lines bytes) words others h.text.each k.text.each
+tables_are_one words others bytes h k = words_are_one (lines bytes) words others h.1.1 k.1.1
 
 module _ (fills : ℕ) (old new : SourceState) (words bytes : List ℕ) (tells : Tells fills old new bytes) (is : IsTableFile words bytes) where
   found : (others : List ℕ) → FindsTable fills old new others → others ≡ words
@@ -24,12 +24,12 @@ module _ (fills : ℕ) (old new : SourceState) (words bytes : List ℕ) (tells :
       tables_are_one others words h.came h.is (subst (λ (xs : List ℕ). IsTableFile words xs) all is)
 
   due : (x : TableError) (came : List ℕ) → bytes ≡ came → IsDueTable x came → x ≡ poly.Memory
-  due x came all h = only_memory words bytes x is.text (subst (λ (xs : List ℕ). IsDueTable x xs) (sym all) h)
+  due x came all h = only_memory words bytes x is.1 (subst (λ (xs : List ℕ). IsDueTable x xs) (sym all) h)
 
   refused : (e : TableFault) → FindsNoTable fills old new e → e ≡ Fault Memory
   refused Long h =
       let c = came_first table_limit fills old new bytes tells.told h.came h.reads.reads in
-      absurd (omega (arith, h.due, is.few, ap length c.1, length-append h.came c.0))
+      absurd (omega (arith, h.due, is.0, ap length c.1, length-append h.came c.0))
   refused (Line number) h =
       absurd (cc (due (poly.Line number) h.came (all_came table_limit fills old new bytes tells.told h.came h.reads) h.due.1))
   refused (Count count) h =

@@ -25,7 +25,7 @@ module _ (fills : ℕ) (old new : SourceState) where
   meets_to (Count n) h = inl (at_end, h.came, h.reads, h.due)
   meets_to (Fault Read) h = inl (at_fault, h.came, h.reads, h.due)
   meets_to (Fault Endless) h = inl (at_no_end, h.came, h.reads, h.due)
-  meets_to (Fault Memory) h = inl (at_end, h.came, h.reads, (h.due.1.0, record { few = h.due.0; text = h.due.1.1 }))
+  meets_to (Fault Memory) h = inl (at_end, h.came, h.reads, (h.due.1.0, (h.due.0, h.due.1.1)))
 
   no_table_to : (e : TableFault) → FindsNoTable fills old new e → ReadsTable fills old new (Err e)
   no_table_to (Fault Memory) (inl same) = inr (refl, same)
@@ -49,7 +49,7 @@ module _ (fills : ℕ) (old new : SourceState) where
   by_way just_so_far bytes (Err Long) r h = record { came = bytes; reads = r; due = omega (arith, h); few = omega (arith, h) }
   by_way at_end bytes (Err (Line n)) r h = record { came = bytes; reads = r; due = h; few = omega (arith, h.0) }
   by_way at_end bytes (Err (Count n)) r h = record { came = bytes; reads = r; due = h; few = omega (arith, h.0) }
-  by_way at_end bytes (Err (Fault Memory)) r (words, table) = inr (record { came = bytes; reads = r; due = (table.few, (words, table.text)); few = omega (arith, table.few) })
+  by_way at_end bytes (Err (Fault Memory)) r (words, table) = inr (record { came = bytes; reads = r; due = (table.0, (words, table.1)); few = omega (arith, table.0) })
   by_way at_fault bytes (Err (Fault Read)) r h = record { came = bytes; reads = r; due = h; few = omega (arith, h) }
   by_way at_no_end bytes (Err (Fault Endless)) r h = record { came = bytes; reads = r; due = h; few = omega (arith, h) }
   by_way way bytes result r h = absurd h

@@ -55,8 +55,8 @@ zip_more (l ∷ before) (w ∷ words) line word zip one = (zip.0, zip_more befor
 
 -- for the bytes of a table nothing but Memory is due
 pub only_memory : (words : List ℕ) (bytes : List ℕ) (e : TableError) → TableText words bytes → IsDueTable e bytes → e ≡ Memory
-only_memory words bytes (Line number) text due = absurd (all_unbroken IsRandomLine (lines bytes) number (all_spelled (lines bytes) words text.each) due)
-only_memory words bytes (Count number) text due = absurd (due.1 (due.0 ∙ sym (AllZip-long SpellsRandom (lines bytes) words text.each) ∙ text.all))
+only_memory words bytes (Line number) text due = absurd (all_unbroken IsRandomLine (lines bytes) number (all_spelled (lines bytes) words text.1) due)
+only_memory words bytes (Count number) text due = absurd (due.1 (due.0 ∙ sym (AllZip-long SpellsRandom (lines bytes) words text.1) ∙ text.0))
 only_memory words bytes Memory text due = refl
 
 words_small : (ls : List (List ℕ)) (words : List ℕ) → AllZip SpellsRandom ls words → All (λ word. word < 2 ^ 64) words
@@ -67,4 +67,4 @@ words_small (l ∷ ls) (w ∷ words) zip = All-cons (λ word. word < 2 ^ 64) w w
 
 -- what a table's text spells is a table
 pub is_table : (words : List ℕ) (bytes : List ℕ) → TableText words bytes → IsTable words
-is_table words bytes text = record { all = text.all; fit = words_small (lines bytes) words text.each }
+is_table words bytes text = record { all = text.0; fit = words_small (lines bytes) words text.1 }

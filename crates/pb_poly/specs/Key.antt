@@ -1,42 +1,24 @@
 -- Keys of setups: the offsets into the table that a setup has, and the parity of the random numbers
 -- there.
 use Rattle.std.specs.Prelude.{◌≡◌, ◌≢◌, ◌↔◌, ℕ, ◌+◌, ◌-◌, ◌*◌, ◌%◌, ◌^◌, ◌<◌, Bool, not, ◌&&◌}
-use Rattle.std.specs.Prelude.{◌||◌, ◌==◌, Some, None, List, [], ◌∷◌, ◌++◌, if◌then◌else◌}
-use Rattle.std.specs.Prelude.{IsTrue, AllPairs, Contains, fold, sum_by, slice_index, bit_xor}
+use Rattle.std.specs.Prelude.{◌||◌, ◌==◌, Some, None, List, [], ◌∷◌, ◌++◌}
+use Rattle.std.specs.Prelude.{AllPairs, Contains, fold, sum_by, slice_index, bit_xor}
 use Rattle.std.specs.Int.{bit_at}
-use Rattle.std.specs.List.{flat_map}
 use Rattle.std.specs.Option.{option_map_or}
-use Rattle.pb_board.specs.declared.castling.Castling.{Castling}
 use Rattle.pb_board.specs.declared.piece.Colour.{Colour}
 use Rattle.pb_board.specs.declared.piece.Colour.TheVariants.{White}
 use Rattle.pb_board.specs.declared.piece.Piece.{Piece}
-use Rattle.pb_board.specs.declared.setup.Rights.{Rights}
-use Rattle.pb_board.specs.Piece.{colour_number, kind_number, pawn_of}
+use Rattle.pb_board.specs.declared.piece.Kind.TheVariants.{Pawn}
+use Rattle.pb_board.specs.Piece.{colour_number, piece_number, piece_of}
 use Rattle.pb_board.specs.Position.{Position, IsSetup, beyond}
-use Rattle.pb_board.specs.Castling.{castling_row, castlings}
 use Rattle.pb_board.specs.Board.{Board, file, rank, at, Holds, is_piece}
+use Rattle.pb_board.specs.Rights.{of_rights, only_if}
 use Rattle.pb_moves.specs.Attacks.{files_apart}
 use Rattle.pb_poly.specs.Table.{IsTable}
 
--- where the numbers of castling rights begin, those of en passant files, and that of White to move
-abbrev pub castling_start : ℕ
-castling_start = 768
-
-abbrev pub en_passant_start : ℕ
-en_passant_start = 772
-
-abbrev pub turn_offset : ℕ
-turn_offset = 780
-
--- the pieces in the table's order: black pawn, white pawn, black knight, ..
-abbrev pub number_of : Piece → ℕ
-number_of p = 2 * kind_number p.kind + (1 - colour_number p.colour)
-
+-- the offset of a piece on a square
 abbrev pub piece_offset : Piece → ℕ → ℕ
-piece_offset p square = 64 * number_of p + square
-
-abbrev pub castling_offset : Castling → ℕ
-castling_offset c = castling_start + (castling_row c).number
+piece_offset p square = 64 * piece_number p + square
 
 -- ---- the key as a function of the table and the setup
 
@@ -46,28 +28,21 @@ piece_offsets [] square = []
 piece_offsets (None ∷ board) square = piece_offsets board (square + 1)
 piece_offsets (Some p ∷ board) square = piece_offset p square ∷ piece_offsets board (square + 1)
 
-abbrev pub offset_if : Bool → ℕ → List ℕ
-offset_if flag offset = if flag then offset ∷ [] else []
-
 -- a pawn of the side to move stands directly beside the square, one file lower or higher
 abbrev pub has_capturer : Board → Colour → ℕ → Bool
 has_capturer board turn q =
-    (not (file q == 0) && is_piece (pawn_of turn) (at board (q - 1)))
-    || (not (file q == 7) && is_piece (pawn_of turn) (at board (q + 1)))
+    (not (file q == 0) && is_piece (piece_of turn Pawn) (at board (q - 1)))
+    || (not (file q == 7) && is_piece (piece_of turn Pawn) (at board (q + 1)))
 
--- the offsets of castling rights, and of an en passant square whose pawn may be taken
-abbrev pub rights_offsets : Rights → List ℕ
-rights_offsets r =
-    flat_map (λ c. offset_if ((castling_row c).right r) (castling_offset c)) castlings
-
+-- the offset of an en passant square whose pawn may be taken
 abbrev pub en_passant_offsets : Position → List ℕ
-en_passant_offsets s = option_map_or (λ q. offset_if (has_capturer s.board s.turn (beyond s.turn q))
-    (en_passant_start + file q)) s.ep []
+en_passant_offsets s = option_map_or
+    (λ q. only_if (has_capturer s.board s.turn (beyond s.turn q)) (772 + file q)) s.ep []
 
--- all offsets of a setup, each once
+-- all offsets of a setup, each once: of pieces, castling rights, en passant and White to move
 abbrev pub offsets : Position → List ℕ
-offsets s = piece_offsets s.board 0 ++ (rights_offsets s.rights
-    ++ (en_passant_offsets s ++ offset_if (colour_number s.turn == 0) turn_offset))
+offsets s = piece_offsets s.board 0 ++ (of_rights s.rights 768 769 770 771
+    ++ (en_passant_offsets s ++ only_if (colour_number s.turn == 0) 780))
 
 -- the numbers at these offsets, toggled by exclusive or
 unfoldable pub key : List ℕ → Position → ℕ
@@ -78,7 +53,7 @@ key randoms s = fold (λ k offset. bit_xor k (slice_index randoms offset)) 0 (of
 -- a pawn of the side to move stands directly beside the pawn that made the double step
 pub record HasCapturer (s : Position) (square : ℕ) : Type 0 where
   pub capturer : ℕ
-  pub stands : Holds s.board capturer (pawn_of s.turn)
+  pub stands : Holds s.board capturer (piece_of s.turn Pawn)
   pub same_rank : rank capturer ≡ rank (beyond s.turn square)
   pub next_file : files_apart capturer (beyond s.turn square) ≡ 1
 
@@ -86,11 +61,10 @@ pub record HasCapturer (s : Position) (square : ℕ) : Type 0 where
 pub data HasOffset (s : Position) (offset : ℕ) : Type 0 where
   of_piece : (square : ℕ) (p : Piece) → Holds s.board square p → offset ≡ piece_offset p square
       → HasOffset s offset
-  of_right : (c : Castling) → IsTrue ((castling_row c).right s.rights) → offset ≡ castling_offset c
-      → HasOffset s offset
+  of_right : Contains (of_rights s.rights 768 769 770 771) offset → HasOffset s offset
   en_passant : (square : ℕ) → s.ep ≡ Some square → HasCapturer s square
-      → offset ≡ en_passant_start + file square → HasOffset s offset
-  white_to_move : s.turn ≡ White → offset ≡ turn_offset → HasOffset s offset
+      → offset ≡ 772 + file square → HasOffset s offset
+  white_to_move : s.turn ≡ White → offset ≡ 780 → HasOffset s offset
 
 -- the offsets that the setup has, each once, in any order
 pub record AreOffsets (s : Position) (offsets : List ℕ) : Type 0 where

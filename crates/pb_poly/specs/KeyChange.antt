@@ -2,20 +2,18 @@
 use Rattle.std.specs.Prelude.{ℕ, ◌+◌, not, Option, Some, None, List, []}
 use Rattle.std.specs.Prelude.{◌∷◌, ◌++◌, fold, slice_index, bit_xor}
 use Rattle.std.specs.Bool.{beq}
-use Rattle.std.specs.List.{flat_map}
 use Rattle.std.specs.Option.{option_map_or}
 use Rattle.pb_board.specs.declared.piece.Piece.{Piece}
 use Rattle.pb_board.specs.declared.setup.MovedPiece.{MovedPiece}
 use Rattle.pb_board.specs.declared.setup.Rights.{Rights}
-use Rattle.pb_board.specs.Castling.{castling_row, castlings}
 use Rattle.pb_board.specs.Board.{Board, Place, file, at}
 use Rattle.pb_board.specs.Piece.{opponent}
 use Rattle.pb_board.specs.Position.{Position}
+use Rattle.pb_board.specs.Rights.{of_rights, only_if}
 use Rattle.pb_moves.specs.declared.move_kind.MoveKind.{MoveKind}
 use Rattle.pb_moves.specs.declared.move_kind.MoveKind.TheVariants.{One, Two}
 use Rattle.pb_moves.specs.Moved.{Moved}
-use Rattle.pb_poly.specs.Key.{castling_offset, en_passant_start}
-use Rattle.pb_poly.specs.Key.{has_capturer, piece_offset, offset_if}
+use Rattle.pb_poly.specs.Key.{has_capturer, piece_offset}
 
 -- a key with the numbers at these offsets toggled: exclusive or takes each in, and takes it out
 -- where it was in
@@ -42,12 +40,15 @@ moved_offsets board m piece (Two first second) =
 
 -- the offsets of the rights that one of the two has
 abbrev pub changed_offsets : Rights → Rights → List ℕ
-changed_offsets old new =
-    flat_map (λ c. let row = castling_row c in offset_if (not (beq (row.right old) (row.right new)))
-    (castling_offset c)) castlings
+changed_offsets old new = of_rights (record {
+  white_short = not (beq old.white_short new.white_short);
+  white_long = not (beq old.white_long new.white_long);
+  black_short = not (beq old.black_short new.black_short);
+  black_long = not (beq old.black_long new.black_long);
+}) 768 769 770 771
 
 -- after a double step to this square: the offset of the en passant square, where an enemy pawn
 -- stands beside the pawn
 abbrev pub stepped_offsets : Position → ℕ → Option ℕ → List ℕ
 stepped_offsets s to ep = option_map_or
-    (λ q. offset_if (has_capturer s.board (opponent s.turn) to) (en_passant_start + file q)) ep []
+    (λ q. only_if (has_capturer s.board (opponent s.turn) to) (772 + file q)) ep []

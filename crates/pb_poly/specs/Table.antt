@@ -16,31 +16,26 @@ pub record IsTable (randoms : List ℕ) : Type 0 where
   pub all : length randoms ≡ table_length
   pub fit : All (λ random. random < 2 ^ 64) randoms
 
--- these are 16 hexadecimal digits of either case that write the number
-abbrev pub WritesRandom : List ℕ → ℕ → Type 0
-WritesRandom digits random =
-    (length digits ≡ 16) × IsNumeral 16 digits × (random ≡ digits_value 16 digits)
-
--- the line does so, without one final CR
+-- the line, without one final CR, is 16 hexadecimal digits of either case that write the number
 abbrev pub SpellsRandom : List ℕ → ℕ → Type 0
-SpellsRandom line random = WritesRandom (strip_carriage_return line) random
+SpellsRandom line random = let digits = strip_carriage_return line in
+    (length digits ≡ 16) × IsNumeral 16 digits × (random ≡ digits_value 16 digits)
 
 abbrev pub IsRandomLine : List ℕ → Type 0
 IsRandomLine line = (random : ℕ) × SpellsRandom line random
 
 -- each line of the bytes spells one of the numbers of a table
-pub record TableText (randoms bytes : List ℕ) : Type 0 where
-  pub all : length randoms ≡ table_length
-  pub each : AllZip SpellsRandom (lines bytes) randoms
+abbrev pub TableText : List ℕ → List ℕ → Type 0
+TableText randoms bytes =
+    (length randoms ≡ table_length) × AllZip SpellsRandom (lines bytes) randoms
 
 -- the most bytes that a table file may have
 abbrev pub table_limit : ℕ
 table_limit = 16384
 
 -- the bytes are a table file of these random numbers
-pub record IsTableFile (randoms bytes : List ℕ) : Type 0 where
-  pub few : length bytes ≤ table_limit
-  pub text : TableText randoms bytes
+abbrev pub IsTableFile : List ℕ → List ℕ → Type 0
+IsTableFile randoms bytes = (length bytes ≤ table_limit) × TableText randoms bytes
 
 -- when each refusal is due
 abbrev pub IsDueTable : TableError → List ℕ → Type 0

@@ -1,20 +1,19 @@
 //! Keys of setups.
 
-ghost use Rattle.std.specs.Prelude.{◌≡◌, ◌<◌, ◌+◌, ◌*◌, ◌==◌};
-ghost use Rattle.pb_board.specs.Piece.{colour_number, kind_number, pawn_of};
-ghost use Rattle.pb_board.specs.Castling.{castling_row};
+ghost use Rattle.std.specs.Prelude.{◌≡◌, ◌<◌, ◌+◌, ◌==◌};
+ghost use Rattle.pb_board.specs.declared.piece.Kind.TheVariants.{Pawn};
+ghost use Rattle.pb_board.specs.Piece.{colour_number, piece_of};
 ghost use Rattle.pb_board.specs.Board.{at, file, is_piece};
 ghost use Rattle.pb_board.specs.Position.{IsSetup, OnEnPassantRank, beyond as beyond_by};
-ghost use Rattle.pb_poly.specs.Key.{IsKey, castling_offset as castling_offset_by};
+ghost use Rattle.pb_board.specs.Rights.{of_rights, only_if};
+ghost use Rattle.pb_poly.specs.Key.{IsKey, en_passant_offsets};
 ghost use Rattle.pb_poly.specs.Key.{has_capturer as has_capturer_by, key as key_by};
-ghost use Rattle.pb_poly.specs.Key.{en_passant_start, en_passant_offsets};
-ghost use Rattle.pb_poly.specs.Key.{piece_offset as piece_offset_by, piece_offsets, offset_if};
-ghost use Rattle.pb_poly.specs.Key.{rights_offsets, turn_offset};
+ghost use Rattle.pb_poly.specs.Key.{piece_offset as piece_offset_by, piece_offsets};
 ghost use Rattle.pb_poly.specs.KeyChange.{toggled};
 ghost use Rattle.pb_poly.specs.Table.{IsTable};
 
 use crate::table::Table;
-use pb_board::{Castling, Colour, Kind, Piece, Rights, Setup, Square};
+use pb_board::{Colour, Kind, Piece, Rights, Setup, Square};
 
 /// Where the words of castling rights begin.
 const CASTLING_START: usize = 768;
@@ -56,48 +55,25 @@ fn pieces_key(table: &Table, board: &[Option<Piece>; 64]) -> u64
 #[inline(always)]
 pub(crate) fn toggle_if(table: &Table, key: u64, flag: bool, offset: usize) -> u64
     requires { offset < 781 }
-    ensures { result ≡ toggled table.now key (offset_if flag offset) }
+    ensures { result ≡ toggled table.now key (only_if flag offset) }
 {
     if flag { key ^ table.word(offset) } else { key }
 }
 
-/// The offset of a castling right.
-#[inline(always)]
-fn castling_offset(castling: Castling) -> usize
-    ensures value { result ≡ castling_offset_by castling }
-    ensures few { result < 772 }
-{
-    CASTLING_START + castling as usize
-}
-
-/// Toggles the word of a castling right that is there.
-#[inline(always)]
-fn toggle_right(table: &Table, key: u64, rights: Rights, castling: Castling) -> u64
-    ensures { result ≡ toggled table.now key (offset_if ((castling_row castling).right rights)
-        (castling_offset_by castling)) }
-{
-    toggle_if(
-        table,
-        key,
-        castling.is_allowed(rights),
-        castling_offset(castling),
-    )
-}
-
 /// Toggles the words of the castling rights.
 pub(crate) fn toggle_rights(table: &Table, key: u64, rights: Rights) -> u64
-    ensures { result ≡ toggled table.now key (rights_offsets rights) }
+    ensures { result ≡ toggled table.now key (of_rights rights 768 769 770 771) }
 {
-    let key = toggle_right(table, key, rights, Castling::WhiteShort);
-    let key = toggle_right(table, key, rights, Castling::WhiteLong);
-    let key = toggle_right(table, key, rights, Castling::BlackShort);
-    toggle_right(table, key, rights, Castling::BlackLong)
+    let white_short = toggle_if(table, key, rights.white_short, CASTLING_START);
+    let white_long = toggle_if(table, white_short, rights.white_long, CASTLING_START + 1);
+    let black_short = toggle_if(table, white_long, rights.black_short, CASTLING_START + 2);
+    toggle_if(table, black_short, rights.black_long, CASTLING_START + 3)
 }
 
 /// Whether a pawn of this side stands on the square of this index.
 fn has_pawn(setup: &Setup, side: Colour, square: u8) -> bool
     requires { square < 64 }
-    ensures { result ≡ is_piece (pawn_of side) (at setup.now.board square) }
+    ensures { result ≡ is_piece (piece_of side Pawn) (at setup.now.board square) }
 {
     match setup.at(Square::from_index(square).unwrap()) {
         Some(piece) => piece.kind == Kind::Pawn && piece.colour == side,
@@ -129,7 +105,7 @@ pub(crate) fn has_capturer(setup: &Setup, side: Colour, pawn: u8) -> bool
 /// The offset of the word of an en passant square on the file of this square.
 #[inline(always)]
 pub(crate) fn en_passant_offset(square: Square) -> usize
-    ensures value { result ≡ en_passant_start + file square }
+    ensures value { result ≡ 772 + file square }
     ensures few { result < 780 }
 {
     EN_PASSANT_START + square.file() as usize
@@ -154,7 +130,7 @@ pub(crate) fn toggle_en_passant(table: &Table, key: u64, setup: &Setup) -> u64
 
 /// Toggles the word for White to move, where White is.
 fn toggle_turn(table: &Table, key: u64, turn: Colour) -> u64
-    ensures { result ≡ toggled table.now key (offset_if (colour_number turn == 0) turn_offset) }
+    ensures { result ≡ toggled table.now key (only_if (colour_number turn == 0) 780) }
 {
     toggle_if(table, key, turn == Colour::White, WHITE_TO_MOVE)
 }

@@ -5,7 +5,6 @@ ghost use Rattle.std.specs.Prelude.{MatchResult, length, slice_index};
 ghost use Rattle.std.specs.List.{AllZip};
 ghost use Rattle.pb_io.specs.Lines.{lines};
 ghost use Rattle.pb_poly.specs.Table.{IsDueTable, IsRandomLine, IsTable, SpellsRandom, TableText};
-ghost use Rattle.pb_poly.specs.Table.{WritesRandom};
 ghost use Rattle.pb_poly.specs.declared.table.TableError.TheVariants.{Memory};
 
 use memchr::memchr;

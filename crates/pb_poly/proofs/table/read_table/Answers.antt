@@ -14,7 +14,7 @@ invariant_of-result c = rw c.in-Ok.ensures.items (is_table c.in_ok-words.words c
 
 pub returns-in-Ok-clause-only : goal.returns-in-Ok-clause-only
 returns-in-Ok-clause-only c words text =
-    c.in-Ok.ensures.items ∙ words_are_one (lines c.args.bytes.now) c.in_ok-words.words words c.in_ok-words.ensures.ok.each text.each
+    c.in-Ok.ensures.items ∙ words_are_one (lines c.args.bytes.now) c.in_ok-words.words words c.in_ok-words.ensures.ok.1 text.1
 
 pub returns-in-Err-clause-refused : goal.returns-in-Err-clause-refused
 returns-in-Err-clause-refused c = (c.in_ok-words.words, c.in_ok-words.ensures.ok)

@@ -45,7 +45,7 @@ returns-then-count-eq-TABLE_LEN-clause-ok c =
     let lines_are = all_before c.args.bytes.now c.loop-rest.rest.now before cut (eqb-true (length c.loop-rest.rest.now) 0 (sym c.loop-rest-test.ensures)) in
     let words_are : spelled ≡ c.loop-rest.words =
     kept (omega (arith, c.if-count-eq-TABLE_LEN.true)) ∙ take_all c.loop-rest.count c.loop-rest.words (omega (arith, room, c.if-count-eq-TABLE_LEN.true)) in
-    record { all = room; each = rw (← lines_are, ← words_are) zip }
+    (room, rw (← lines_are, ← words_are) zip)
 
 pub returns-else-count-eq-TABLE_LEN-clause-err : goal.returns-else-count-eq-TABLE_LEN-clause-err
 returns-else-count-eq-TABLE_LEN-clause-err c =
