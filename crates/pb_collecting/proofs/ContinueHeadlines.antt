@@ -5,6 +5,7 @@ use Rattle.pb_io.specs.Lines.{lines}
 use Rattle.pb_io.specs.declared.fault.Fault.{Fault}
 use Rattle.pb_io.specs.Source.{SourceState}
 use Rattle.pb_poly.proofs.ToldReads.{handed_out}
+use Rattle.pb_poly.specs.Book.{book_bytes}
 use Rattle.pb_poly.specs.Entry.{IsEntry}
 use Rattle.pb_poly.specs.declared.entry.Entry.{Entry}
 use Rattle.pb_poly.proofs.ReadRows.{found_table}
@@ -30,7 +31,7 @@ use Rattle.pb_collecting.proofs.Headlines.{effect}
 
 module _ (rules : CountingRules) (fills : ℕ) (e : EndStates) (source : Change SourceState) where
   has_headline : (loaded left : LedgerState) (totals : Totals) (entries : List Entry) → LoadsFirst rules fills e.table source loaded → Takes fills e loaded left totals
-      → IsBook (counted left.basis left.accepted) left.basis.rules.least entries → All IsEntry entries → HasHeadlineOfBoth rules e source left entries
+      → IsBook (counted left.basis left.accepted) left.basis.rules.least entries → All IsEntry entries → HasHeadlineOfBoth rules e source left entries (book_bytes entries)
   has_headline loaded left totals entries first takes book bounds =
       let took = (subst (λ (m : LedgerState). Takes fills e m left totals) first.is takes).0 in
       let collects = took.done.0 in
@@ -54,7 +55,7 @@ module _ (rules : CountingRules) (fills : ℕ) (e : EndStates) (source : Change 
           run = leads.run;
           is = ap (λ (T : Basis). record left { basis = T }) leads.basis ∙ ap (λ n. record (ledger_of rules first.randoms left.accepted) { cap = n }) leads.cap;
           replied = refl;
-          book = book;
+          is_book = book;
           effect = λ K Q run.
               effect (K ++ lines took.came) (Q ++ collects.answers) left.accepted
               (runs_join most_games [] first.held left.accepted K (lines took.came) Q collects.answers run leads.run) left.basis entries bounds book;
@@ -62,13 +63,13 @@ module _ (rules : CountingRules) (fills : ℕ) (e : EndStates) (source : Change 
       )
 
   abbrev pub Heads : Left → Type 0
-  Heads run = IfOk run.made (λ made. HasHeadlineOfBoth rules e source run.ledger made.entries)
+  Heads run = IfOk run.made (λ made. HasHeadlineOfBoth rules e source run.ledger made.entries (book_bytes made.entries))
 
   headed : (loaded : LedgerState) (run : Left) → LoadsFirst rules fills e.table source loaded → (made : Result Collected Fault)
       → MakesBook (λ left totals. Takes fills e loaded left totals × (left ≡ run.ledger)) (BreaksOff fills e loaded run.ledger) made
-      → IfOk made (λ made. HasHeadlineOfBoth rules e source run.ledger made.entries)
+      → IfOk made (λ made. HasHeadlineOfBoth rules e source run.ledger made.entries (book_bytes made.entries))
   headed loaded run first (Ok made) (left, (takes, same), book, ordered, bounds) =
-      subst (λ (l : LedgerState). HasHeadlineOfBoth rules e source l made.entries) same (has_headline loaded left made.totals made.entries first takes book bounds)
+      subst (λ (l : LedgerState). HasHeadlineOfBoth rules e source l made.entries (book_bytes made.entries)) same (has_headline loaded left made.totals made.entries first takes book bounds)
   headed loaded run first (Err fault) goes = tt
 
   pub headline : (run : Left) → ContinueRun rules fills e source (Ok run) → Heads run
@@ -104,7 +105,7 @@ module _ (rules : CountingRules) (fills : ℕ) (table source : Change SourceStat
 -- ---- what an earlier run saved
 
 pub goes_on_as_one_run : GoesOnAsOneRun
-goes_on_as_one_run rules file saved bytes put left entries h K Q A run is_saved =
+goes_on_as_one_run rules file saved bytes put left entries book h K Q A run is_saved =
     let same = loaded_back most_games K Q A h.held saved run is_saved h.loads in
     let one = continued most_games K (lines bytes) Q h.answers A h.held left.accepted saved run is_saved h.loads h.run in
     record {

@@ -4,7 +4,6 @@ use Rattle.pb_games.specs.Submissions.{Submission}
 use Rattle.pb_games.specs.declared.refusal.Refusal.{Refusal}
 use Rattle.pb_accepted.specs.Accepting.{Answer, Run, Step}
 use Rattle.pb_accepted.specs.Holding.{most_games}
-use Rattle.pb_accepted.proofs.Distinct.{no_repeats}
 use Rattle.pb_accepted.proofs.Steps.{one_left, refusal_step, run_arrives, run_clear, taken_of_run}
 use Rattle.pb_collecting.specs.Laws.{HasOneEffect, RefusalsLeaveTheGames}
 
@@ -33,14 +32,8 @@ refusals_leave L R G run i e A B told h k =
 -- ---- where no id names two games
 
 pub one_effect : HasOneEffect
-one_effect T L R games entries e one =
-    let taken = taken_of_run most_games L R games one e.run in record {
-      taken = games;
-      are_taken = taken;
-      once = no_repeats L R games taken;
-      same = λ s. (λ here. here, λ here. here);
-      book = e.book;
-      text = e.text;
-      arrivals = run_arrives most_games L R games one e.run;
-      no_conflict = run_clear most_games L R games one e.run;
-    }
+one_effect T L R games entries book e one = record {
+  taken = taken_of_run most_games L R games one e.run;
+  arrivals = run_arrives most_games L R games one e.run;
+  no_conflict = run_clear most_games L R games one e.run;
+}

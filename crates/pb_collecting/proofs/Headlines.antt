@@ -1,7 +1,9 @@
 -- The theorem of `pbook collect`, from what a run does.
-use Rattle.std.proofs.Common.{◌≡◌, ℕ, List, [], All, Ok, Err, ap, refl, subst}
+use Rattle.std.proofs.Common.{◌≡◌, ℕ, List, [], All, Ok, Err, refl, subst, sym}
 use Rattle.pb_io.specs.Lines.{lines}
+use Rattle.pb_poly.proofs.EntryBytes.{book_is_one}
 use Rattle.pb_poly.proofs.ToldReads.{handed_out}
+use Rattle.pb_poly.specs.Book.{BookBytes, book_bytes}
 use Rattle.pb_poly.specs.Entry.{IsEntry}
 use Rattle.pb_poly.specs.declared.entry.Entry.{Entry}
 use Rattle.pb_poly.proofs.ReadRows.{found_table}
@@ -13,18 +15,17 @@ use Rattle.pb_accepted.specs.Holding.{most_games}
 use Rattle.pb_accepted.specs.Ledger.{LedgerState}
 use Rattle.pb_accepted.specs.Replies.{replies}
 use Rattle.pb_accepted.specs.Rules.{CountingRules}
-use Rattle.pb_accepted.proofs.Replies.{id_of}
+use Rattle.pb_accepted.proofs.BookLaws.{one_book}
 use Rattle.pb_accepted.proofs.Steps.{distinct_ids, numbers_kept, numbers_of_run}
 use Rattle.pb_ledger.specs.declared.totals.Totals.{Totals}
 use Rattle.pb_collecting.specs.Ends.{EndStates}
 use Rattle.pb_collecting.specs.Headline.{Effect, HasHeadline}
 use Rattle.pb_collecting.specs.Runs as runs
 use Rattle.pb_collecting.specs.Runs.{Collected, CollectRun, Takes, TakesTable}
-use Rattle.pb_collecting.proofs.OneTexts.{has_one_text}
 
 -- the effect of lines that were answered as a ledger answers them, wherever they came from
 pub effect : (L : List (List ℕ)) (R : List Answer) (games : List Submission) → Run most_games [] L R games
-    → (T : Basis) (entries : List Entry) → All IsEntry entries → IsBook (counted T games) T.rules.least entries → Effect T L R games entries
+    → (T : Basis) (entries : List Entry) → All IsEntry entries → IsBook (counted T games) T.rules.least entries → Effect T L R games entries (book_bytes entries)
 effect L R games run T entries bounds book = record {
   run = run;
   are = λ n s.
@@ -32,15 +33,22 @@ effect L R games run T entries bounds book = record {
         (λ at. let g = given.0 at in (g.0, ((g.1, g.2, g.3), g.4))),
         λ h. given.1 (h.0, h.1.0.0, h.1.0.1, h.1.0.2, h.1.1),
       );
-  once = λ i j d lt within e. distinct_ids most_games L R games run i j d lt within (ap id_of e);
+  once = distinct_ids most_games L R games run;
   repeats = λ i j n s lt was here. numbers_kept most_games L R games run i j n was.0.0 here.0 s lt was.0.1 was.0.2 was.1 here.1 here.2;
-  book = book;
-  text = has_one_text T games entries bounds book;
+  is_book = λ others. (
+    λ is. one_book (counted T games) T.rules.least others entries is book,
+    λ same. subst (IsBook (counted T games) T.rules.least) (sym same) book,
+  );
+  bytes = λ others.
+      let own : BookBytes entries (book_bytes entries) = record { bounds = bounds; are = refl } in (
+        λ other. book_is_one others entries (book_bytes entries) other own,
+        λ same. subst (λ (E : List Entry). BookBytes E (book_bytes entries)) (sym same) own,
+      );
 }
 
 module _ (rules : CountingRules) (fills : ℕ) (e : EndStates) where
   has_headline : (ledger left : LedgerState) (totals : Totals) (entries : List Entry) → All IsEntry entries → TakesTable rules fills e.table ledger → Takes fills e ledger left totals
-      → IsBook (counted left.basis left.accepted) left.basis.rules.least entries → HasHeadline rules e entries
+      → IsBook (counted left.basis left.accepted) left.basis.rules.least entries → HasHeadline rules e entries (book_bytes entries)
   has_headline ledger left totals entries bounds first takes book =
       let table = found_table fills e.table.old e.table.new first.randoms first.read in
       let took = (subst (λ (l : LedgerState). Takes fills e l left totals) first.is takes).0 in
@@ -65,8 +73,8 @@ module _ (rules : CountingRules) (fills : ℕ) (e : EndStates) where
         },
       )
 
-  pub headline : (made : Collected) → CollectRun rules fills e (Ok made) → HasHeadline rules e made.entries
+  pub headline : (made : Collected) → CollectRun rules fills e (Ok made) → HasHeadline rules e made.entries (book_bytes made.entries)
   headline made (runs.began ledger (Ok x) first (left, takes, book, ordered, bounds) same) =
-      let is : x ≡ made = cc in subst (λ (m : Collected). HasHeadline rules e m.entries) is (has_headline ledger left x.totals x.entries bounds first takes book)
+      let is : x ≡ made = cc in subst (λ (m : Collected). HasHeadline rules e m.entries (book_bytes m.entries)) is (has_headline ledger left x.totals x.entries bounds first takes book)
   headline made (runs.began ledger (Err fault) first goes same) = absurd (cc)
   headline made (runs.unread why answer lacks puts same) = absurd (cc)

@@ -5,6 +5,7 @@ use Rattle.pb_io.specs.Sink.{AllLasts, SinkState}
 use Rattle.pb_io.specs.declared.fault.Fault.{Fault}
 use Rattle.pb_io.specs.declared.fault.Fault.TheVariants.{Memory}
 use Rattle.pb_poly.proofs.ToldReads.{handed_out}
+use Rattle.pb_poly.specs.Book.{book_bytes}
 use Rattle.pb_accepted.specs.Basis.{Basis}
 use Rattle.pb_accepted.specs.Ledger.{LedgerState}
 use Rattle.pb_accepted.specs.Rules.{CountingRules}
@@ -20,10 +21,10 @@ use Rattle.pb_collecting.proofs.JournalHeadlines.{has_headline}
 use Rattle.pb_collecting.proofs.JournalSurvives.{stream_survives, until_survives}
 
 module _ (rules : CountingRules) (fills : ℕ) (e : EndStates) (j : JournalStates) where
-  pub headline : (made : Collected) → JournalRun rules fills e j (Ok made) → HasHeadlineOfJournal rules e j made.entries
+  pub headline : (made : Collected) → JournalRun rules fills e j (Ok made) → HasHeadlineOfJournal rules e j made.entries (book_bytes made.entries)
   headline made (runs.began (Ok m) (Ok x) first (left, (takes, gains), book, ordered, bounds) same) =
       let is : x ≡ made = cc in
-      subst (λ (made : Collected). HasHeadlineOfJournal rules e j made.entries) is (has_headline rules fills e j m.0 left m.1 x.totals x.entries bounds first takes gains book)
+      subst (λ (made : Collected). HasHeadlineOfJournal rules e j made.entries (book_bytes made.entries)) is (has_headline rules fills e j m.0 left m.1 x.totals x.entries bounds first takes gains book)
   headline made (runs.began (Ok m) (Err fault) first goes same) = absurd (cc)
   headline made (runs.began (Err fault) end first goes same) = absurd (cc (goes, same))
   headline made (runs.unread why answer lacks puts same) = absurd (cc)

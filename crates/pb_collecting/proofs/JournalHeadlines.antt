@@ -4,6 +4,7 @@ use Rattle.std.proofs.KnownBytes.{Appends-trans}
 use Rattle.pb_io.specs.Sink.{SinkState}
 use Rattle.pb_io.specs.Lines.{ended_lines, lines}
 use Rattle.pb_poly.proofs.ToldReads.{handed_out}
+use Rattle.pb_poly.specs.Book.{book_bytes}
 use Rattle.pb_poly.specs.Entry.{IsEntry}
 use Rattle.pb_poly.specs.declared.entry.Entry.{Entry}
 use Rattle.pb_poly.proofs.ReadRows.{found_table}
@@ -27,7 +28,7 @@ use Rattle.pb_collecting.specs.Runs.{ReplaysFirst, Takes}
 
 module _ (rules : CountingRules) (fills : ℕ) (e : EndStates) (j : JournalStates) where
   pub has_headline : (held left : LedgerState) (mended : SinkState) (totals : Totals) (entries : List Entry) → All IsEntry entries → ReplaysFirst rules fills e.table j held mended
-      → Takes fills e held left totals → Gains mended j.journal.new held.accepted left.accepted → IsBook (counted left.basis left.accepted) left.basis.rules.least entries → HasHeadlineOfJournal rules e j entries
+      → Takes fills e held left totals → Gains mended j.journal.new held.accepted left.accepted → IsBook (counted left.basis left.accepted) left.basis.rules.least entries → HasHeadlineOfJournal rules e j entries (book_bytes entries)
   has_headline ledger left mended totals entries bounds first takes gains book =
       let randoms = first.randoms in
       let T : Basis = record { words = randoms; rules = rules } in
@@ -41,7 +42,7 @@ module _ (rules : CountingRules) (fills : ℕ) (e : EndStates) (j : JournalState
       let holds = first.replays.holds in
       let run : Run most_games held (lines bytes) answers left.accepted = collects.leads.run in
       let both = one_run most_games kept held left.accepted (lines bytes) answers holds run in
-      let all : Effect T (ended_lines kept ++ lines bytes) (holds.answers ++ answers) left.accepted entries =
+      let all : Effect T (ended_lines kept ++ lines bytes) (holds.answers ++ answers) left.accepted entries (book_bytes entries) =
       effect (ended_lines kept ++ lines bytes) (holds.answers ++ answers) left.accepted both T entries bounds
       (subst (λ (X : Basis). IsBook (counted X left.accepted) X.rules.least entries) collects.leads.basis book) in (
         table.came,
@@ -63,7 +64,7 @@ module _ (rules : CountingRules) (fills : ℕ) (e : EndStates) (j : JournalState
           replied = refl;
           new = gains.new;
           run = subst (λ (X : List Submission). Run most_games held (lines bytes) answers X) gains.are run;
-          effect = subst (λ (X : List Submission). Effect T (ended_lines kept ++ lines bytes) (holds.answers ++ answers) X entries) gains.are all;
+          effect = subst (λ (X : List Submission). Effect T (ended_lines kept ++ lines bytes) (holds.answers ++ answers) X entries (book_bytes entries)) gains.are all;
           text = gains.text;
           are = gains.lines;
           grows = refl;

@@ -10,6 +10,5 @@ mod JournalClauses
 mod JournalGains
 mod JournalHeadlines
 mod JournalSurvives
-mod OneTexts
 mod Openings
 mod Refused

@@ -1,5 +1,5 @@
 -- The theorem of a run of `collect` that goes on from a saved ledger, for the bytes of a table
--- file, of the saved ledger and of submissions, which three sources handed out.
+-- file, of the saved ledger and of submissions, which three sources handed out, and of the book.
 use Rattle.std.specs.Prelude.{◌≡◌, ℕ, false, List, [], ◌++◌}
 use Rattle.std.specs.Io.KnownBytes.{Appends}
 use Rattle.pb_io.specs.Lines.{lines}
@@ -23,7 +23,7 @@ use Rattle.pb_collecting.specs.Runs.{ledger_of}
 -- answered from there, and this ledger is left; the replies were put in order, and the entries are
 -- the book of the games that are held then.
 pub record ContinuesBytes (rules : CountingRules) (file saved bytes put : List ℕ)
-    (left : LedgerState) (entries : List Entry) : Type 0 where
+    (left : LedgerState) (entries : List Entry) (book : List ℕ) : Type 0 where
   pub randoms : List ℕ
   pub table : IsTableFile randoms file
   pub whole : is_cut saved ≡ false
@@ -33,18 +33,18 @@ pub record ContinuesBytes (rules : CountingRules) (file saved bytes put : List �
   pub run : Run most_games held (lines bytes) answers left.accepted
   pub is : left ≡ ledger_of rules randoms left.accepted
   pub replied : put ≡ replies (lines bytes) answers
-  pub book : IsBook (counted left.basis left.accepted) left.basis.rules.least entries
+  pub is_book : IsBook (counted left.basis left.accepted) left.basis.rules.least entries
   -- Whatever earlier run left the games that were held first, of lines K with answers Q: the effect
   -- is that of one run of the lines of both. So the book is that of the games that were answered
   -- `ok` in both, each of them once.
   pub effect : (K : List (List ℕ)) (Q : List Answer) → Run most_games [] K Q held
-      → Effect left.basis (K ++ lines bytes) (Q ++ answers) left.accepted entries
+      → Effect left.basis (K ++ lines bytes) (Q ++ answers) left.accepted entries book
 
 -- It is so of all bytes that the sources handed out, and of those that the sink took.
 abbrev pub HasHeadlineOfBoth : CountingRules → EndStates → Change SourceState → LedgerState
-    → List Entry → Type 0
-HasHeadlineOfBoth rules e source left entries =
+    → List Entry → List ℕ → Type 0
+HasHeadlineOfBoth rules e source left entries book =
     (file : List ℕ) × (saved : List ℕ) × (bytes : List ℕ) × (put : List ℕ)
     × HandsOut e.table.old e.table.new file × HandsOut source.old source.new saved
     × HandsOut e.lines.old e.lines.new bytes × Appends e.replies.old.bytes e.replies.new.bytes put
-    × ContinuesBytes rules file saved bytes put left entries
+    × ContinuesBytes rules file saved bytes put left entries book

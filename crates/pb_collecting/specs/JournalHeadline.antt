@@ -1,5 +1,5 @@
 -- The theorem of a run of `collect` with a journal, for the bytes of a table file, of the journal
--- and of submissions, which three sources handed out. A list is counted from 0.
+-- and of submissions, which three sources handed out, and of the book. A list is counted from 0.
 use Rattle.std.specs.Prelude.{◌≡◌, ◌⊎◌, ℕ, List, ◌++◌, Some, Ok, slice_get, take}
 use Rattle.std.specs.Io.KnownBytes.{Appends}
 use Rattle.pb_io.specs.Lines.{ended_lines, lines}
@@ -20,7 +20,7 @@ use Rattle.pb_collecting.specs.Headline.{Arrives, Effect}
 -- whose effect this is, and the replies to the submissions were put. The journal was mended and
 -- gained the line of each new game in order, so that it now holds all games.
 pub record JournalsBytes (rules : CountingRules) (file kept bytes put gained : List ℕ)
-    (entries : List Entry) : Type 0 where
+    (entries : List Entry) (book : List ℕ) : Type 0 where
   pub randoms : List ℕ
   pub table : IsTableFile randoms file
   pub held : List Submission
@@ -30,20 +30,21 @@ pub record JournalsBytes (rules : CountingRules) (file kept bytes put gained : L
   pub new : List Submission
   pub run : Run most_games held (lines bytes) answers (held ++ new)
   pub effect : Effect (record { words = randoms; rules = rules }) (ended_lines kept ++ lines bytes)
-      (holds.answers ++ answers) (held ++ new) entries
+      (holds.answers ++ answers) (held ++ new) entries book
   pub text : List ℕ
   pub are : GameLines new text
   pub grows : gained ≡ mending kept ++ text
   pub holds_all : Journals most_games (kept ++ gained) (held ++ new)
 
 -- It is so of all bytes that the sources handed out, and of those that the sinks took.
-abbrev pub HasHeadlineOfJournal : CountingRules → EndStates → JournalStates → List Entry → Type 0
-HasHeadlineOfJournal rules e j entries =
+abbrev pub HasHeadlineOfJournal : CountingRules → EndStates → JournalStates → List Entry → List ℕ
+    → Type 0
+HasHeadlineOfJournal rules e j entries book =
     (file : List ℕ) × (kept : List ℕ) × (bytes : List ℕ) × (put : List ℕ) × (gained : List ℕ)
     × HandsOut e.table.old e.table.new file × HandsOut j.kept.old j.kept.new kept
     × HandsOut e.lines.old e.lines.new bytes × Appends e.replies.old.bytes e.replies.new.bytes put
     × Appends j.journal.old.bytes j.journal.new.bytes gained
-    × JournalsBytes rules file kept bytes put gained entries
+    × JournalsBytes rules file kept bytes put gained entries book
 
 -- these are the first lines of what the source handed out
 abbrev pub AreFirst : List (List ℕ) → Change SourceState → Type 0

@@ -8,7 +8,6 @@ pub mod Headline
 pub mod Into
 pub mod JournalHeadline
 pub mod Laws
-pub mod OneText
 pub mod Reasons
 pub mod Run
 pub mod Runs

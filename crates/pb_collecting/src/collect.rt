@@ -1,6 +1,7 @@
 //! The command `collect`: submissions are answered, and the book of the games that are held then is
 //! made.
 ghost use Rattle.std.specs.Prelude.{IfOk, IfSome};
+ghost use Rattle.pb_poly.specs.Book.{book_bytes};
 ghost use Rattle.pb_collecting.specs.Ends.{between};
 ghost use Rattle.pb_collecting.specs.Headline.{HasHeadline};
 ghost use Rattle.pb_collecting.specs.Run.{LeavesLedger};
@@ -45,11 +46,12 @@ pub fn run_collect<Table: Source, In: Source, Out: Sink>(
     })) (λ made. made.entries) result }
     // All that is promised of the bytes that the sources handed out and the sink took: which lines
     // are accepted, that each game counts once, and that the book has one text.
-    ensures headline { IfOk result (λ answer. IfSome answer (HasHeadline rules (record {
+    ensures headline { IfOk result (λ answer. IfSome answer (λ book. HasHeadline rules (record {
       table = between Table.state table_source.old table_source.new;
       lines = between In.state source.old source.new;
       replies = between Out.state sink.old sink.new;
-    }))) }
+    })
+        book (book_bytes book))) }
 {
     match take(alloc, rules, table_source, source, sink, &mut (), fills) {
         Ok(taken) => Ok(Some(book_of(alloc, &taken.ledger)?)),

@@ -1,6 +1,7 @@
 //! The command `collect` that goes on from a saved ledger.
 
 ghost use Rattle.std.specs.Prelude.{◌≡◌, IfOk, IfSome};
+ghost use Rattle.pb_poly.specs.Book.{book_bytes};
 ghost use Rattle.pb_ledger.specs.Whole.{load_error_of};
 ghost use Rattle.pb_commands.specs.Judged.{Refuses};
 ghost use Rattle.pb_collecting.specs.ContinueHeadline.{HasHeadlineOfBoth};
@@ -63,12 +64,12 @@ pub fn run_continue<Table: Source, Saved: Source, In: Source, Out: Sink>(
     // The games of the saved ledger were held first. Whatever run left them, the book is that of
     // the games that were accepted in both runs, each of them once.
     ensures headline { IfOk result (λ answer. IfSome answer (λ run.
-        IfOk run.book (HasHeadlineOfBoth rules (record {
+        IfOk run.book (λ book. HasHeadlineOfBoth rules (record {
           table = between Table.state table_source.old table_source.new;
           lines = between In.state source.old source.new;
           replies = between Out.state sink.old sink.new;
         })
-        (between Saved.state saved.old saved.new) run.ledger))) }
+        (between Saved.state saved.old saved.new) run.ledger book (book_bytes book)))) }
 {
     match go_on(
         alloc,

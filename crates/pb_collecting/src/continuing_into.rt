@@ -91,7 +91,7 @@ fn keep_both<LedgerStore: Store, BookStore: Store>(
     ledger_store: &mut LedgerStore,
     book_store: &mut BookStore,
 ) -> Result<Made, NotContinued>
-    ensures { ContinuesInto (MayBeLeft gone.now) (λ _ _. ⊤)
+    ensures { ContinuesInto (MayBeLeft gone.now) (λ _ _ _. ⊤)
         (between LedgerStore.state ledger_store.old ledger_store.new)
         (between BookStore.state book_store.old book_store.new) result }
 {

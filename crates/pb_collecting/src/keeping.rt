@@ -79,7 +79,7 @@ pub(crate) fn keep_book<BookStore: Store>(
     taken: &Taken,
     store: &mut BookStore,
 ) -> Result<Made, NoBook>
-    ensures { Into (MayBeOf taken.now) (λ _. ⊤) (between BookStore.state store.old store.new)
+    ensures { Into (MayBeOf taken.now) (λ _ _. ⊤) (between BookStore.state store.old store.new)
         result }
 {
     match store.keep(&LedgerBook::of(alloc, &taken.ledger)) {
