@@ -4,6 +4,7 @@ pub mod BookLaws
 pub mod BookStretches
 pub mod Books
 pub mod Counts
+pub mod Decimals
 pub mod Distinct
 pub mod Frequent
 pub mod GivenPoints

@@ -32,8 +32,8 @@ refusals_leave L R G run i e A B told h k =
 -- ---- where no id names two games
 
 pub one_effect : HasOneEffect
-one_effect T L R games entries book e one = record {
-  taken = taken_of_run most_games L R games one e.run;
-  arrivals = run_arrives most_games L R games one e.run;
-  no_conflict = run_clear most_games L R games one e.run;
+one_effect L R games run one = record {
+  taken = taken_of_run most_games L R games one run;
+  arrivals = run_arrives most_games L R games one run;
+  no_conflict = run_clear most_games L R games one run;
 }

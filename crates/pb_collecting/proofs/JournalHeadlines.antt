@@ -14,7 +14,7 @@ use Rattle.pb_accepted.specs.Basis.{Basis}
 use Rattle.pb_accepted.specs.Counting.{IsBook, counted}
 use Rattle.pb_accepted.specs.Holding.{most_games}
 use Rattle.pb_accepted.specs.Ledger.{LedgerState}
-use Rattle.pb_accepted.specs.Replies.{replies}
+use Rattle.pb_accepted.specs.Replies.{replies, reply_texts}
 use Rattle.pb_accepted.specs.Rules.{CountingRules}
 use Rattle.pb_ledger.specs.Journal.{Journals, mending}
 use Rattle.pb_ledger.specs.Journaling.{Gains}
@@ -42,7 +42,8 @@ module _ (rules : CountingRules) (fills : ℕ) (e : EndStates) (j : JournalState
       let holds = first.replays.holds in
       let run : Run most_games held (lines bytes) answers left.accepted = collects.leads.run in
       let both = one_run most_games kept held left.accepted (lines bytes) answers holds run in
-      let all : Effect T (ended_lines kept ++ lines bytes) (holds.answers ++ answers) left.accepted entries (book_bytes entries) =
+      let texts = reply_texts (ended_lines kept ++ lines bytes) (holds.answers ++ answers) in
+      let all : Effect T (ended_lines kept ++ lines bytes) texts left.accepted entries (book_bytes entries) =
       effect (ended_lines kept ++ lines bytes) (holds.answers ++ answers) left.accepted both T entries bounds
       (subst (λ (X : Basis). IsBook (counted X left.accepted) X.rules.least entries) collects.leads.basis book) in (
         table.came,
@@ -64,7 +65,7 @@ module _ (rules : CountingRules) (fills : ℕ) (e : EndStates) (j : JournalState
           replied = refl;
           new = gains.new;
           run = subst (λ (X : List Submission). Run most_games held (lines bytes) answers X) gains.are run;
-          effect = subst (λ (X : List Submission). Effect T (ended_lines kept ++ lines bytes) (holds.answers ++ answers) X entries (book_bytes entries)) gains.are all;
+          effect = subst (λ (X : List Submission). Effect T (ended_lines kept ++ lines bytes) texts X entries (book_bytes entries)) gains.are all;
           text = gains.text;
           are = gains.lines;
           grows = refl;

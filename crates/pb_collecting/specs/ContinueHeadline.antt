@@ -11,7 +11,7 @@ use Rattle.pb_accepted.specs.Accepting.{Answer, Run}
 use Rattle.pb_accepted.specs.Counting.{IsBook, counted}
 use Rattle.pb_accepted.specs.Holding.{most_games}
 use Rattle.pb_accepted.specs.Ledger.{LedgerState}
-use Rattle.pb_accepted.specs.Replies.{replies}
+use Rattle.pb_accepted.specs.Replies.{replies, reply_texts}
 use Rattle.pb_accepted.specs.Rules.{CountingRules}
 use Rattle.pb_ledger.specs.Loading.{Loads}
 use Rattle.pb_ledger.specs.Whole.{is_cut}
@@ -38,7 +38,8 @@ pub record ContinuesBytes (rules : CountingRules) (file saved bytes put : List �
   -- is that of one run of the lines of both. So the book is that of the games that were answered
   -- `ok` in both, each of them once.
   pub effect : (K : List (List ℕ)) (Q : List Answer) → Run most_games [] K Q held
-      → Effect left.basis (K ++ lines bytes) (Q ++ answers) left.accepted entries book
+      → Effect left.basis (K ++ lines bytes) (reply_texts (K ++ lines bytes) (Q ++ answers))
+      left.accepted entries book
 
 -- It is so of all bytes that the sources handed out, and of those that the sink took.
 abbrev pub HasHeadlineOfBoth : CountingRules → EndStates → Change SourceState → LedgerState

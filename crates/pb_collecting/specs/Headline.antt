@@ -1,7 +1,9 @@
 -- The theorem of `pbook collect`, for the bytes of a table file and of submissions, which two
 -- sources handed out, those of the replies, which a sink took, and those of the book. Read this
 -- file first: nothing is assumed of the submissions, and a list is counted from 0.
-use Rattle.std.specs.Prelude.{◌≡◌, ◌≢◌, ℕ, ◌<◌, ◌↔◌, List, [], AllPairs, Some, Ok, slice_get}
+use Rattle.std.specs.Prelude.{◌≡◌, ◌≢◌, ℕ, ◌<◌, ◌≤◌, ◌↔◌, List, [], ◌∷◌, ◌++◌, AllPairs, Some}
+use Rattle.std.specs.Prelude.{slice_get}
+use Rattle.std.specs.List.{flat_map}
 use Rattle.std.specs.Io.KnownBytes.{Appends}
 use Rattle.pb_io.specs.Lines.{lines}
 use Rattle.pb_io.specs.Source.{HandsOut}
@@ -9,34 +11,33 @@ use Rattle.pb_poly.specs.Book.{BookBytes}
 use Rattle.pb_poly.specs.Table.{IsTableFile}
 use Rattle.pb_poly.specs.declared.entry.Entry.{Entry}
 use Rattle.pb_games.specs.Submissions.{IsLawful, Submission}
-use Rattle.pb_accepted.specs.Accepting.{Answer, IsNumber, Run}
+use Rattle.pb_accepted.specs.Accepting.{IsNumber}
 use Rattle.pb_accepted.specs.Basis.{Basis}
 use Rattle.pb_accepted.specs.Counting.{IsBook, counted}
-use Rattle.pb_accepted.specs.Holding.{most_games}
-use Rattle.pb_accepted.specs.Replies.{replies}
-use Rattle.pb_accepted.specs.Rules.{AreRules, CountingRules}
+use Rattle.pb_accepted.specs.Replying.{Replies, ok}
+use Rattle.pb_accepted.specs.Rules.{CountingRules}
 use Rattle.pb_collecting.specs.Ends.{EndStates}
 
 -- line i is the text of a legal game under an id
 abbrev pub Arrives : List (List ℕ) → ℕ → Submission → Type 0
 Arrives L i s = (line : List ℕ) × (slice_get L i ≡ Some line) × IsLawful line s
 
--- and it was answered `ok` with the number n
-abbrev pub IsAccepted : List (List ℕ) → List Answer → ℕ → Submission → ℕ → Type 0
-IsAccepted L R i s n = Arrives L i s × (slice_get R i ≡ Some (Ok n))
+-- and the reply to it is `ok` with the number n
+abbrev pub IsAccepted : List (List ℕ) → List (List ℕ) → ℕ → Submission → ℕ → Type 0
+IsAccepted L R i s n = Arrives L i s × (slice_get R i ≡ Some (ok s n))
 
--- What is made of lines with their answers, wherever the lines came from: the games that are held
+-- What is made of lines with their replies, wherever the lines came from: the games that are held
 -- in the end, the entries of their book, and its bytes.
-pub record Effect (T : Basis) (L : List (List ℕ)) (R : List Answer) (games : List Submission)
+pub record Effect (T : Basis) (L R : List (List ℕ)) (games : List Submission)
     (entries : List Entry) (book : List ℕ) : Type 0 where
-  -- each line is answered, and games are added, by the table of six steps
-  pub run : Run most_games [] L R games
-  -- the games are those that were answered `ok`, under their numbers, each once, under its own id
+  -- each line is replied to, and games are added, by the table of six steps
+  pub run : Replies 1000000 [] L R games
+  -- the games are those with a reply `ok`, under their numbers, each once, under its own id
   pub are : (n : ℕ) (s : Submission) → IsNumber games n s ↔ ((i : ℕ) × IsAccepted L R i s n)
   pub once : AllPairs (λ s t. s.0 ≢ t.0) games
   -- one that comes again gets its number again
   pub repeats : (i j n : ℕ) (s : Submission) → i < j → IsAccepted L R i s n → Arrives L j s
-      → slice_get R j ≡ Some (Ok n)
+      → slice_get R j ≡ Some (ok s n)
   -- the entries and no others are the book of these games, and the bytes decode to no others
   pub is_book : (others : List Entry)
       → IsBook (counted T games) T.rules.least others ↔ (others ≡ entries)
@@ -47,15 +48,16 @@ pub record Effect (T : Basis) (L : List (List ℕ)) (R : List Answer) (games : L
 pub record Headline (rules : CountingRules) (file bytes put : List ℕ) (entries : List Entry)
     (book : List ℕ) : Type 0 where
   -- the rules are within their bounds, and the file is a table
-  pub counting : AreRules rules
+  pub plies : (1 ≤ rules.plies) × (rules.plies ≤ 1024)
+  pub least : (1 ≤ rules.least) × (rules.least ≤ 1000000)
   pub randoms : List ℕ
   pub table : IsTableFile randoms file
-  -- the lines of the submissions are answered, and just the replies were put, in order
-  pub answers : List Answer
+  -- the lines of the submissions are replied to, and just the replies were put, each as a line
+  pub replies : List (List ℕ)
   pub games : List Submission
   pub effect : Effect (record { words = randoms; rules = rules })
-      (lines bytes) answers games entries book
-  pub replied : put ≡ replies (lines bytes) answers
+      (lines bytes) replies games entries book
+  pub replied : put ≡ flat_map (λ r. r ++ 10 ∷ []) replies
 
 -- It is so of all bytes that the two sources handed out, and of those that the sink took.
 abbrev pub HasHeadline : CountingRules → EndStates → List Entry → List ℕ → Type 0

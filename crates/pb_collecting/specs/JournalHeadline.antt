@@ -10,7 +10,7 @@ use Rattle.pb_poly.specs.declared.entry.Entry.{Entry}
 use Rattle.pb_games.specs.Submissions.{Submission}
 use Rattle.pb_accepted.specs.Accepting.{Answer, IsNumber, Run}
 use Rattle.pb_accepted.specs.Holding.{most_games}
-use Rattle.pb_accepted.specs.Replies.{replies}
+use Rattle.pb_accepted.specs.Replies.{replies, reply_texts}
 use Rattle.pb_accepted.specs.Rules.{CountingRules}
 use Rattle.pb_ledger.specs.Journal.{GameLines, Journals, mending}
 use Rattle.pb_collecting.specs.Ends.{Change, EndStates, IsSame, JournalStates}
@@ -30,7 +30,8 @@ pub record JournalsBytes (rules : CountingRules) (file kept bytes put gained : L
   pub new : List Submission
   pub run : Run most_games held (lines bytes) answers (held ++ new)
   pub effect : Effect (record { words = randoms; rules = rules }) (ended_lines kept ++ lines bytes)
-      (holds.answers ++ answers) (held ++ new) entries book
+      (reply_texts (ended_lines kept ++ lines bytes) (holds.answers ++ answers)) (held ++ new)
+      entries book
   pub text : List ℕ
   pub are : GameLines new text
   pub grows : gained ≡ mending kept ++ text

@@ -12,7 +12,7 @@ use Rattle.pb_accepted.specs.Basis.{Basis}
 use Rattle.pb_accepted.specs.Holding.{most_games}
 use Rattle.pb_accepted.specs.Laws.{ArrivalsAreNumbered}
 use Rattle.pb_accepted.specs.Ledger.{LedgerState}
-use Rattle.pb_accepted.specs.Replies.{replies}
+use Rattle.pb_accepted.specs.Replies.{replies, reply_texts}
 use Rattle.pb_accepted.specs.Rules.{CountingRules}
 use Rattle.pb_ledger.specs.Saving.{Saved}
 use Rattle.pb_collecting.specs.ContinueHeadline.{ContinuesBytes}
@@ -40,9 +40,8 @@ pub record OneEffect (L : List (List ℕ)) (R : List Answer) (games : List Submi
 
 -- where no id names two games, each submission has its one effect
 abbrev pub HasOneEffect : Type 0
-HasOneEffect = (T : Basis) (L : List (List ℕ)) (R : List Answer) (games : List Submission)
-    (entries : List Entry) (book : List ℕ)
-    → Effect T L R games entries book → OneGame L → OneEffect L R games
+HasOneEffect = (L : List (List ℕ)) (R : List Answer) (games : List Submission)
+    → Run most_games [] L R games → OneGame L → OneEffect L R games
 
 -- What more is so where a run held these games first, went on with lines L and answers R to the
 -- games `left`, and an earlier run, of lines K with answers Q, saved these.
@@ -51,7 +50,7 @@ pub record OneLongRun (T : Basis) (K L : List (List ℕ)) (Q R : List Answer)
   -- what was saved is what was held
   pub held_is_saved : held ≡ saved
   -- the effect, and the replies, are those of one run of the lines of both
-  pub effect : Effect T (K ++ L) (Q ++ R) left entries book
+  pub effect : Effect T (K ++ L) (reply_texts (K ++ L) (Q ++ R)) left entries book
   pub replied : replies (K ++ L) (Q ++ R) ≡ replies K Q ++ replies L R
 
 -- a run that goes on from what an earlier one saved makes of both what one long run makes
