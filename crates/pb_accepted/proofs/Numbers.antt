@@ -140,9 +140,6 @@ numbers_given cap L R A run accepted n s = (to, λ g. given_number cap [] L R A 
       | inr given ↦ given
     ]
 
-pub numbers_differ : (L : List (List ℕ)) (R : List Answer) (A : List Submission) (m n : ℕ) (s : Submission) → Accepted [] L R A → IsNumber A m s → IsNumber A n s → m ≡ n
-numbers_differ L R A m n s accepted h k = one_number A m n s (own_ids L R A accepted) h k
-
 pub repeats_keep : (cap : ℕ) (L : List (List ℕ)) (R : List Answer) → AllowedRun cap [] L R
     → (i j n : ℕ) (b c : List ℕ) (s : Submission) → i < j → slice_get L i ≡ Some b → IsLawful b s → slice_get R i ≡ Some (Ok n) → slice_get L j ≡ Some c → IsLawful c s → slice_get R j ≡ Some (Ok n)
 repeats_keep cap L R run = repeats cap [] L R run HaveOwnIds-nil

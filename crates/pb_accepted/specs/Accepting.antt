@@ -9,8 +9,9 @@
 --   repeat      a game that is held under its id    ok, its number         stays
 --   conflict    another game under an id held       conflict               stays
 --   refused     no legal game                       why not                stays
-use Rattle.std.specs.Prelude.{◌≡◌, ◌≢◌, ℕ, ◌+◌, ◌<◌, ◌≤◌, ◌⊎◌, List, [], ◌∷◌, ◌++◌}
-use Rattle.std.specs.Prelude.{Bool, false, length, All, Contains, Result, Ok, Err, slice_get, Some}
+use Rattle.std.specs.Prelude.{◌≡◌, ◌≢◌, ℕ, ◌+◌, ◌<◌, ◌≤◌, ◌⊎◌, ◌↔◌, List, [], ◌∷◌, ◌++◌}
+use Rattle.std.specs.Prelude.{Bool, false, length, All, AllPairs, Contains, Result, Ok, Err}
+use Rattle.std.specs.Prelude.{slice_get, Some}
 use Rattle.std.specs.Result.{result_map_both}
 use Rattle.pb_games.specs.declared.game.Game.{Game}
 use Rattle.pb_games.specs.declared.refusal.Refusal.{Refusal}
@@ -65,6 +66,25 @@ Along Steps A L R B = ⊥
 -- These lines are answered so, one after another, from the list A on, and it becomes B.
 abbrev pub Run : ℕ → List Submission → List (List ℕ) → List Answer → List Submission → Type 0
 Run cap = Along (Step cap)
+
+-- ---- numbers
+
+-- line i, counted from 0, is the text of a legal game under an id
+abbrev pub Arrives : List (List ℕ) → ℕ → Submission → Type 0
+Arrives L i s = (line : List ℕ) × (slice_get L i ≡ Some line) × IsLawful line s
+
+-- and it was answered `ok` with the number n
+abbrev pub IsAccepted : List (List ℕ) → List Answer → ℕ → Submission → ℕ → Type 0
+IsAccepted L R i s n = Arrives L i s × (slice_get R i ≡ Some (Ok n))
+
+-- The list has what these answers to these lines number.
+pub record AreNumbered (L : List (List ℕ)) (R : List Answer) (A : List Submission) : Type 0 where
+  -- its members are those that were answered `ok`, under their numbers, each under an id of its own
+  pub are : (n : ℕ) (s : Submission) → IsNumber A n s ↔ ((i : ℕ) × IsAccepted L R i s n)
+  pub ids : AllPairs (λ s t. s.0 ≢ t.0) A
+  -- one that comes again gets its number again
+  pub repeats : (i j n : ℕ) (s : Submission) → i < j → IsAccepted L R i s n → Arrives L j s
+      → slice_get R j ≡ Some (Ok n)
 
 -- ---- the distinct submissions, which look at no id
 

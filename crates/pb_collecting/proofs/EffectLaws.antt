@@ -4,8 +4,8 @@ use Rattle.pb_games.specs.Submissions.{Submission}
 use Rattle.pb_games.specs.declared.refusal.Refusal.{Refusal}
 use Rattle.pb_accepted.specs.Accepting.{Answer, Run, Step}
 use Rattle.pb_accepted.specs.Holding.{most_games}
-use Rattle.pb_accepted.proofs.Steps.{one_left, refusal_step, run_arrives, run_clear, taken_of_run}
-use Rattle.pb_collecting.specs.Laws.{HasOneEffect, RefusalsLeaveTheGames}
+use Rattle.pb_accepted.proofs.Steps.{one_left, refusal_step}
+use Rattle.pb_collecting.specs.Laws.{RefusalsLeaveTheGames}
 
 -- ---- refused lines
 
@@ -28,12 +28,3 @@ refusal_leaves most A (line ∷ L) [] G run i e B C told h k = absurd run
 pub refusals_leave : RefusalsLeaveTheGames
 refusals_leave L R G run i e A B told h k =
     refusal_leaves most_games [] L R G run i e A B told h (subst (λ n. Run most_games [] (take n L) (take n R) B) (add-one i) k)
-
--- ---- where no id names two games
-
-pub one_effect : HasOneEffect
-one_effect T L R games entries book e one = record {
-  taken = taken_of_run most_games L R games one e.run;
-  arrivals = run_arrives most_games L R games one e.run;
-  no_conflict = run_clear most_games L R games one e.run;
-}

@@ -16,7 +16,7 @@ use Rattle.pb_accepted.specs.Ledger.{LedgerState}
 use Rattle.pb_accepted.specs.Replies.{replies}
 use Rattle.pb_accepted.specs.Rules.{CountingRules}
 use Rattle.pb_accepted.proofs.BookLaws.{one_book}
-use Rattle.pb_accepted.proofs.Steps.{distinct_ids, numbers_kept, numbers_of_run}
+use Rattle.pb_accepted.proofs.Steps.{runs_number}
 use Rattle.pb_ledger.specs.declared.totals.Totals.{Totals}
 use Rattle.pb_collecting.specs.Ends.{EndStates}
 use Rattle.pb_collecting.specs.Headline.{Effect, HasHeadline}
@@ -28,13 +28,7 @@ pub effect : (L : List (List ℕ)) (R : List Answer) (games : List Submission) �
     → (T : Basis) (entries : List Entry) → All IsEntry entries → IsBook (counted T games) T.rules.least entries → Effect T L R games entries (book_bytes entries)
 effect L R games run T entries bounds book = record {
   run = run;
-  are = λ n s.
-      let given = numbers_of_run most_games L R games run n s in (
-        (λ at. let g = given.0 at in (g.0, ((g.1, g.2, g.3), g.4))),
-        λ h. given.1 (h.0, h.1.0.0, h.1.0.1, h.1.0.2, h.1.1),
-      );
-  once = distinct_ids most_games L R games run;
-  repeats = λ i j n s lt was here. numbers_kept most_games L R games run i j n was.0.0 here.0 s lt was.0.1 was.0.2 was.1 here.1 here.2;
+  numbered = runs_number most_games L R games run;
   is_book = λ others. (
     λ is. one_book (counted T games) T.rules.least others entries is book,
     λ same. subst (IsBook (counted T games) T.rules.least) (sym same) book,

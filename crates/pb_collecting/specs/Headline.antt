@@ -1,15 +1,15 @@
 -- The theorem of `pbook collect`, for the bytes of a table file and of submissions, which two
 -- sources handed out, those of the replies, which a sink took, and those of the book. Read this
--- file first: nothing is assumed of the submissions, and a list is counted from 0.
-use Rattle.std.specs.Prelude.{◌≡◌, ◌≢◌, ℕ, ◌<◌, ◌↔◌, List, [], AllPairs, Some, Ok, slice_get}
+-- file first: nothing is assumed of the submissions.
+use Rattle.std.specs.Prelude.{◌≡◌, ℕ, ◌↔◌, List, []}
 use Rattle.std.specs.Io.KnownBytes.{Appends}
 use Rattle.pb_io.specs.Lines.{lines}
 use Rattle.pb_io.specs.Source.{HandsOut}
 use Rattle.pb_poly.specs.Book.{BookBytes}
 use Rattle.pb_poly.specs.Table.{IsTableFile}
 use Rattle.pb_poly.specs.declared.entry.Entry.{Entry}
-use Rattle.pb_games.specs.Submissions.{IsLawful, Submission}
-use Rattle.pb_accepted.specs.Accepting.{Answer, IsNumber, Run}
+use Rattle.pb_games.specs.Submissions.{Submission}
+use Rattle.pb_accepted.specs.Accepting.{Answer, AreNumbered, Run}
 use Rattle.pb_accepted.specs.Basis.{Basis}
 use Rattle.pb_accepted.specs.Counting.{IsBook, counted}
 use Rattle.pb_accepted.specs.Holding.{most_games}
@@ -17,26 +17,14 @@ use Rattle.pb_accepted.specs.Replies.{replies}
 use Rattle.pb_accepted.specs.Rules.{AreRules, CountingRules}
 use Rattle.pb_collecting.specs.Ends.{EndStates}
 
--- line i is the text of a legal game under an id
-abbrev pub Arrives : List (List ℕ) → ℕ → Submission → Type 0
-Arrives L i s = (line : List ℕ) × (slice_get L i ≡ Some line) × IsLawful line s
-
--- and it was answered `ok` with the number n
-abbrev pub IsAccepted : List (List ℕ) → List Answer → ℕ → Submission → ℕ → Type 0
-IsAccepted L R i s n = Arrives L i s × (slice_get R i ≡ Some (Ok n))
-
 -- What is made of lines with their answers, wherever the lines came from: the games that are held
 -- in the end, the entries of their book, and its bytes.
 pub record Effect (T : Basis) (L : List (List ℕ)) (R : List Answer) (games : List Submission)
     (entries : List Entry) (book : List ℕ) : Type 0 where
   -- each line is answered, and games are added, by the table of six steps
   pub run : Run most_games [] L R games
-  -- the games are those that were answered `ok`, under their numbers, each once, under its own id
-  pub are : (n : ℕ) (s : Submission) → IsNumber games n s ↔ ((i : ℕ) × IsAccepted L R i s n)
-  pub once : AllPairs (λ s t. s.0 ≢ t.0) games
-  -- one that comes again gets its number again
-  pub repeats : (i j n : ℕ) (s : Submission) → i < j → IsAccepted L R i s n → Arrives L j s
-      → slice_get R j ≡ Some (Ok n)
+  -- the games are those that were answered `ok`, each once, however often it came
+  pub numbered : AreNumbered L R games
   -- the entries and no others are the book of these games, and the bytes decode to no others
   pub is_book : (others : List Entry)
       → IsBook (counted T games) T.rules.least others ↔ (others ≡ entries)

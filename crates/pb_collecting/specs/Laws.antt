@@ -1,16 +1,13 @@
 -- Laws of the theorem of `pbook collect`: what follows from an effect.
-use Rattle.std.specs.Prelude.{◌≡◌, ◌≢◌, ℕ, ◌+◌, ◌++◌, List, [], Some}
-use Rattle.std.specs.Prelude.{Err, All, slice_get, take}
+use Rattle.std.specs.Prelude.{◌≡◌, ℕ, ◌+◌, ◌++◌, List, [], Some, Err, slice_get, take}
 use Rattle.pb_io.specs.Lines.{lines}
 use Rattle.pb_io.specs.Source.{SourceState}
 use Rattle.pb_poly.specs.declared.entry.Entry.{Entry}
 use Rattle.pb_games.specs.Submissions.{Submission}
 use Rattle.pb_games.specs.declared.refusal.Refusal.{Refusal}
-use Rattle.pb_games.specs.declared.refusal.Refusal.TheVariants.{Conflict}
-use Rattle.pb_accepted.specs.Accepting.{Answer, OneGame, Run, Taken}
+use Rattle.pb_accepted.specs.Accepting.{Answer, Run}
 use Rattle.pb_accepted.specs.Basis.{Basis}
 use Rattle.pb_accepted.specs.Holding.{most_games}
-use Rattle.pb_accepted.specs.Laws.{ArrivalsAreNumbered}
 use Rattle.pb_accepted.specs.Ledger.{LedgerState}
 use Rattle.pb_accepted.specs.Replies.{replies}
 use Rattle.pb_accepted.specs.Rules.{CountingRules}
@@ -29,20 +26,6 @@ RefusalsLeaveTheGames = (L : List (List ℕ)) (R : List Answer) (games : List Su
     → (i : ℕ) (e : Refusal) (A B : List Submission) → slice_get R i ≡ Some (Err e)
     → Run most_games [] (take i L) (take i R) A
     → Run most_games [] (take (i + 1) L) (take (i + 1) R) B → B ≡ A
-
--- What more is so of lines in which no id names two games.
-pub record OneEffect (L : List (List ℕ)) (R : List Answer) (games : List Submission) : Type 0 where
-  -- the games are the distinct legal submissions that were accepted, so the book is that of these
-  pub taken : Taken [] L R games
-  -- each legal arrival is accepted, unless its id is new and room or memory is refused
-  pub arrivals : ArrivalsAreNumbered most_games L R
-  pub no_conflict : All (λ r. (n : ℕ) → r ≢ Err (Conflict n)) R
-
--- where no id names two games, each submission has its one effect
-abbrev pub HasOneEffect : Type 0
-HasOneEffect = (T : Basis) (L : List (List ℕ)) (R : List Answer) (games : List Submission)
-    (entries : List Entry) (book : List ℕ)
-    → Effect T L R games entries book → OneGame L → OneEffect L R games
 
 -- What more is so where a run held these games first, went on with lines L and answers R to the
 -- games `left`, and an earlier run, of lines K with answers Q, saved these.

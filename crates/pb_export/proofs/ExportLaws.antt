@@ -15,7 +15,7 @@ use Rattle.pb_accepted.specs.Laws.{NoRepeats, SameMembers}
 use Rattle.pb_accepted.proofs.BookLaws.{one_book, same_book}
 use Rattle.pb_accepted.proofs.Distinct.{Taken-unique, no_repeats}
 use Rattle.pb_accepted.proofs.Members.{same_in_order}
-use Rattle.pb_accepted.proofs.Steps.{taken_of_run}
+use Rattle.pb_accepted.proofs.Steps.{one_effect}
 
 -- ---- one export
 
@@ -78,7 +78,7 @@ pub same_exports : (T : Basis) (m n : ℕ) (K L : List (List ℕ)) (Q R : List A
     → OneGame K → Run m [] K Q A → Taken [] K Q S → OneGame L → Run n [] L R B → Taken [] L R U → SameMembers S U
     → (a b : List ℕ) → ExportText T A a → ExportText T B b → a ≡ b
 same_exports T m n K L Q R A B S U one run taken other arrived brought same a b export twin =
-    let first : A ≡ S = Taken-unique [] K Q A S (taken_of_run m K Q A one run) taken in
-    let second : B ≡ U = Taken-unique [] L R B U (taken_of_run n L R B other arrived) brought in
+    let first : A ≡ S = Taken-unique [] K Q A S (one_effect m K Q A one run).taken taken in
+    let second : B ≡ U = Taken-unique [] L R B U (one_effect n L R B other arrived).taken brought in
     let moved = same_export T S U (no_repeats K Q S taken) (no_repeats L R U brought) same a (subst (λ X. ExportText T X a) first export) in
     one_export T U a b moved (subst (λ X. ExportText T X b) second twin)
