@@ -1,5 +1,5 @@
 -- Laws of the book of plies that count.
-use Rattle.std.proofs.Common.{◌≡◌, ℕ, ◌+◌, ◌<◌, ◌≤◌, ◌⊎◌, List, [], ◌∷◌, IsPermutation, refl, sym, ap, subst, ◌∙◌, inl, inr, arith}
+use Rattle.std.proofs.Common.{◌≡◌, ℕ, ◌+◌, ◌<◌, ◌≤◌, ◌⊎◌, List, [], ◌∷◌, IsPermutation, refl, sym, ap, ◌∙◌, inl, inr, arith}
 use Rattle.std.specs.Prelude.{sum_by}
 use Rattle.std.specs.List.{flat_map}
 use Rattle.std.proofs.lemmas.List.Sorted.{sum_by-IsPermutation}
@@ -9,14 +9,11 @@ use Rattle.pb_poly.specs.Book.{NeverFall}
 use Rattle.pb_games.specs.Submissions.{Submission}
 use Rattle.pb_points.specs.Weight.{scaled, Before}
 use Rattle.pb_points.proofs.Groups.{NeverFall-ordered}
-use Rattle.pb_accepted.specs.Accepting.{Answer, Taken, OneGame}
 use Rattle.pb_accepted.specs.Basis.{Basis}
 use Rattle.pb_accepted.specs.Counting.{count, counted, times, IsGreatest, IsBook}
 use Rattle.pb_accepted.specs.Laws.{NoRepeats, SameMembers}
 use Rattle.pb_accepted.specs.declared.ply_points.PlyPoints.{PlyPoints}
-use Rattle.pb_accepted.proofs.Allowing.{Accepted}
 use Rattle.pb_accepted.proofs.GivenPoints.{counted_of, one, share}
-use Rattle.pb_accepted.proofs.Distinct.{accepts_the_taken, no_repeats, Taken-unique}
 use Rattle.pb_accepted.proofs.Members.{same_in_order, permutation_from_members}
 
 -- ---- one book
@@ -99,14 +96,3 @@ module _ (T : Basis) (S U : List Submission) (once : NoRepeats S) (each : NoRepe
           (λ m. (book.members e).1 (same_often least H G counts_back times_back e.key e.code m.0, same_weight least H G counts_back times_back e.key e.code e.weight m.1, m.2, m.3)),
         );
       }
-
--- ---- whatever the order of arrival
-
-pub same_made : (T : Basis) (K L : List (List ℕ)) (Q R : List Answer) (A B S U : List Submission)
-    → OneGame K → Accepted [] K Q A → Taken [] K Q S → OneGame L → Accepted [] L R B → Taken [] L R U → SameMembers S U
-    → (least : ℕ) (E F : List Entry) → IsBook (counted T A) least E → IsBook (counted T B) least F → E ≡ F
-same_made T K L Q R A B S U one accepted taken other arrived brought same least E F book twin =
-    let first : A ≡ S = Taken-unique [] K Q A S (accepts_the_taken K Q A one accepted) taken in
-    let second : B ≡ U = Taken-unique [] L R B U (accepts_the_taken L R B other arrived) brought in
-    let moved = same_book T S U (no_repeats K Q S taken) (no_repeats L R U brought) same least E (subst (λ X. IsBook (counted T X) least E) first book) in
-    one_book (counted T U) least E F moved (subst (λ X. IsBook (counted T X) least F) second twin)

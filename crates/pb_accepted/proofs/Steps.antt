@@ -8,14 +8,15 @@ use Rattle.pb_games.specs.declared.refusal.Refusal.TheVariants.{Conflict, Memory
 use Rattle.pb_games.specs.Submissions.{Submission, IsLawful}
 use Rattle.pb_accepted.specs.Accepting as steps
 use Rattle.pb_accepted.specs.Accepting.{Answer, IsNewId, IsNumber, Run, Step}
+use Rattle.pb_accepted.specs.Counting.{counted}
 use Rattle.pb_accepted.specs.Holding.{HaveOwnIds}
 use Rattle.pb_accepted.specs.Laws as laws
 use Rattle.pb_accepted.proofs.Allowing.{Accepted, Allowed, AllowedRun, Reply, Takes}
-use Rattle.pb_accepted.proofs.BookLaws.{same_made}
+use Rattle.pb_accepted.proofs.BookLaws.{one_book, same_book}
 use Rattle.pb_accepted.proofs.Distinct.{accepts_the_taken, lawful_arrives, no_conflict}
 use Rattle.pb_accepted.proofs.Naming.{named_short}
 use Rattle.pb_accepted.proofs.Numbers.{numbers_given, repeats_keep}
-use Rattle.pb_accepted.proofs.Replies.{Answered, answered, held, new, other, full, allowed_held, one_reply, Allowed-full, Allowed-new, Allowed-memory, Allowed-refused, Takes-held, Takes-new, Takes-refused, Takes-refusal, Takes-full, Takes-memory, Takes-unique}
+use Rattle.pb_accepted.proofs.Replies.{id_of, Answered, answered, held, new, other, full, allowed_held, one_reply, Allowed-full, Allowed-new, Allowed-memory, Allowed-refused, Takes-held, Takes-new, Takes-refused, Takes-refusal, Takes-full, Takes-memory, Takes-unique}
 use Rattle.pb_accepted.proofs.Runs.{Accepted-append, Accepted-unique, Run-append, own_ids}
 
 -- ---- from a step
@@ -159,6 +160,10 @@ one_effect cap L R A one run =
           lawful_arrives cap L R one p.0 i here.0 s r here.1 here.2 told B (run_to cap [] (take i L) (take i R) B front).1;
     }
 
+-- no submission stands twice
+pub once : (cap : ℕ) (L : List (List ℕ)) (R : List Answer) (A : List Submission) → Run cap [] L R A → laws.NoRepeats A
+once cap L R A run i j d lt within e = distinct_ids cap L R A run i j d lt within (ap id_of e)
+
 pub same_books : laws.SameBooks
-same_books T m n K L Q R A B S U one first taken also second brought =
-    same_made T K L Q R A B S U one (run_to m [] K Q A first).1 taken also (run_to n [] L R B second).1 brought
+same_books T m n K L Q R A B first second same least E F book twin =
+    one_book (counted T B) least E F (same_book T A B (once m K Q A first) (once n L R B second) same least E book) twin

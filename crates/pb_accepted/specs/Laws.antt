@@ -109,11 +109,9 @@ abbrev pub BookByMembers : Type 0
 BookByMembers = (T : Basis) (S U : List Submission) → NoRepeats S → NoRepeats U → SameMembers S U
     → (least : ℕ) (E : List Entry) → IsBook (counted T S) least E → IsBook (counted T U) least E
 
--- whatever the order of arrival, the same distinct submissions give the same book
+-- whatever the order of arrival, the same games give the same book
 abbrev pub SameBooks : Type 0
-SameBooks = (T : Basis) (m n : ℕ) (K L : List (List ℕ)) (Q R : List Answer)
-    (A B S U : List Submission)
-    → OneGame K → Run m [] K Q A → Taken [] K Q S → OneGame L → Run n [] L R B → Taken [] L R U
-    → SameMembers S U
+SameBooks = (T : Basis) (m n : ℕ) (K L : List (List ℕ)) (Q R : List Answer) (A B : List Submission)
+    → Run m [] K Q A → Run n [] L R B → SameMembers A B
     → (least : ℕ) (E F : List Entry) → IsBook (counted T A) least E → IsBook (counted T B) least F
     → E ≡ F
