@@ -6,7 +6,8 @@ use Rattle.pb_games.specs.declared.refusal.Refusal.{Refusal}
 use Rattle.pb_games.specs.declared.refusal.Refusal.TheVariants.{Conflict, Full, Memory}
 use Rattle.pb_games.specs.Submissions.{Submission, IsLawful}
 use Rattle.pb_games.specs.Refusing.{Refuses}
-use Rattle.pb_accepted.specs.Accepting.{Adds, Along, Answer, IsNewId, IsNumber}
+use Rattle.pb_accepted.specs.Accepting.{Adds, Along, Answer}
+use Rattle.pb_accepted.specs.Replying.{IsNewId, IsNumber}
 
 -- the answer to a lawful submission, where the list may have at most cap members
 abbrev pub Answers : ℕ → List Submission → Submission → Answer → Type 0

@@ -7,7 +7,7 @@ use Rattle.pb_board.specs.Fields.{field}
 use Rattle.pb_games.specs.Header.{fields_of}
 use Rattle.pb_games.specs.Submissions.{IsLawful, IsSubmission, Submission}
 use Rattle.pb_games.proofs.Texts.{fields_back, lawful_submission}
-use Rattle.pb_accepted.specs.Accepting.{IsNumber}
+use Rattle.pb_accepted.specs.Replying.{IsNumber}
 
 -- a legal game that a line submits is within the bounds
 pub submitted : (line : List ℕ) (s : Submission) → IsLawful line s → IsSubmission s

@@ -1,22 +1,19 @@
 -- Laws of the book of plies that count.
-use Rattle.std.proofs.Common.{◌≡◌, ℕ, ◌+◌, ◌<◌, ◌≤◌, ◌⊎◌, List, [], ◌∷◌, IsPermutation, refl, sym, ap, subst, ◌∙◌, inl, inr, arith}
+use Rattle.std.proofs.Common.{◌≡◌, ℕ, ◌+◌, ◌<◌, ◌≤◌, ◌⊎◌, List, [], ◌∷◌, IsPermutation, refl, sym, ap, ◌∙◌, inl, inr, arith}
 use Rattle.std.specs.Prelude.{sum_by}
 use Rattle.std.specs.List.{flat_map}
 use Rattle.std.proofs.lemmas.List.Sorted.{sum_by-IsPermutation}
 use Rattle.std.proofs.lemmas.List.Sums.{sum_by-append, sum_by-cons}
 use Rattle.pb_poly.specs.declared.entry.Entry.{Entry}
-use Rattle.pb_poly.specs.Book.{BookBytes, NeverFall, book_bytes}
+use Rattle.pb_poly.specs.Book.{NeverFall}
 use Rattle.pb_games.specs.Submissions.{Submission}
 use Rattle.pb_points.specs.Weight.{scaled, Before}
 use Rattle.pb_points.proofs.Groups.{NeverFall-ordered}
-use Rattle.pb_accepted.specs.Accepting.{Answer, Taken, OneGame}
 use Rattle.pb_accepted.specs.Basis.{Basis}
 use Rattle.pb_accepted.specs.Counting.{count, counted, times, IsGreatest, IsBook}
 use Rattle.pb_accepted.specs.Laws.{NoRepeats, SameMembers}
 use Rattle.pb_accepted.specs.declared.ply_points.PlyPoints.{PlyPoints}
-use Rattle.pb_accepted.proofs.Allowing.{Accepted}
 use Rattle.pb_accepted.proofs.GivenPoints.{counted_of, one, share}
-use Rattle.pb_accepted.proofs.Distinct.{accepts_the_taken, no_repeats, Taken-unique}
 use Rattle.pb_accepted.proofs.Members.{same_in_order, permutation_from_members}
 
 -- ---- one book
@@ -45,9 +42,6 @@ pub one_book : (G : List PlyPoints) (least : ℕ) (E F : List Entry) → IsBook 
 one_book G least E F h k = same_in_order Before before_itself before_both E F h.ordered k.ordered
     (λ e here. (k.members e).1 ((h.members e).0 here))
     (λ e here. (h.members e).1 ((k.members e).0 here))
-
-pub one_text : (G : List PlyPoints) (least : ℕ) (E F : List Entry) (b c : List ℕ) → IsBook G least E → BookBytes E b → IsBook G least F → BookBytes F c → b ≡ c
-one_text G least E F b c h hb k kc = hb.are ∙ ap book_bytes (one_book G least E F h k) ∙ sym kc.are
 
 -- the keys of a book never fall
 pub never_falls : (G : List PlyPoints) (least : ℕ) (E : List Entry) → IsBook G least E → NeverFall E
@@ -102,14 +96,3 @@ module _ (T : Basis) (S U : List Submission) (once : NoRepeats S) (each : NoRepe
           (λ m. (book.members e).1 (same_often least H G counts_back times_back e.key e.code m.0, same_weight least H G counts_back times_back e.key e.code e.weight m.1, m.2, m.3)),
         );
       }
-
--- ---- whatever the order of arrival
-
-pub same_bytes : (T : Basis) (K L : List (List ℕ)) (Q R : List Answer) (A B S U : List Submission)
-    → OneGame K → Accepted [] K Q A → Taken [] K Q S → OneGame L → Accepted [] L R B → Taken [] L R U → SameMembers S U
-    → (least : ℕ) (E F : List Entry) (b c : List ℕ) → IsBook (counted T A) least E → BookBytes E b → IsBook (counted T B) least F → BookBytes F c → b ≡ c
-same_bytes T K L Q R A B S U one accepted taken other arrived brought same least E F b c book bytes twin text =
-    let first : A ≡ S = Taken-unique [] K Q A S (accepts_the_taken K Q A one accepted) taken in
-    let second : B ≡ U = Taken-unique [] L R B U (accepts_the_taken L R B other arrived) brought in
-    let moved = same_book T S U (no_repeats K Q S taken) (no_repeats L R U brought) same least E (subst (λ X. IsBook (counted T X) least E) first book) in
-    one_text (counted T U) least E F b c moved bytes (subst (λ X. IsBook (counted T X) least F) second twin) text

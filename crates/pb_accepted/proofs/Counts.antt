@@ -1,11 +1,11 @@
 -- The counts that a ledger's tally holds, and one game more.
-use Rattle.std.proofs.Common.{◌≡◌, ◌≢◌, ℕ, ◌+◌, ◌*◌, ◌<◌, ◌≤◌, ◌^◌, List, [], ◌∷◌, ◌++◌, length, get_or, All, sym, ap, ◌∙◌, arith}
+use Rattle.std.proofs.Common.{◌≡◌, ◌≢◌, ℕ, ◌+◌, ◌*◌, ◌<◌, ◌≤◌, ◌^◌, List, [], ◌∷◌, ◌++◌, length, sym, ap, ◌∙◌, arith}
 use Rattle.std.proofs.lemmas.List.{length_push}
 use Rattle.std.proofs.lemmas.List.Elements.{All-push}
 use Rattle.std.proofs.lemmas.List.Quantifiers.{all_pairs_push}
 use Rattle.pb_games.specs.Submissions.{Submission, IsSubmission}
 use Rattle.pb_points.specs.Tally.{Content, Held, held}
-use Rattle.pb_accepted.specs.Accepting.{IsNewId}
+use Rattle.pb_accepted.specs.Replying.{IsNewId}
 use Rattle.pb_accepted.specs.Basis.{Basis}
 use Rattle.pb_accepted.specs.Counting.{count, counted, times}
 use Rattle.pb_accepted.specs.Holding.{HoldsCounts, with_ply_points}

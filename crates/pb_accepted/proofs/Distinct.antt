@@ -10,7 +10,8 @@ use Rattle.pb_games.specs.declared.refusal.Refusal.TheVariants.{Conflict, Full, 
 use Rattle.pb_games.specs.Submissions.{Submission, IsLawful}
 use Rattle.pb_games.specs.Refusing.{Refuses}
 use Rattle.pb_games.proofs.Refused as refused
-use Rattle.pb_accepted.specs.Accepting.{Answer, IsNumber, IsNewId, Adds, Taken, OneGame}
+use Rattle.pb_accepted.specs.Accepting.{Answer, Adds, Taken, OneGame}
+use Rattle.pb_accepted.specs.Replying.{IsNumber, IsNewId}
 use Rattle.pb_accepted.specs.Laws.{NoRepeats}
 use Rattle.pb_accepted.proofs.Allowing.{Accepted, Allowed, AllowedRun, Answers, Takes}
 use Rattle.pb_accepted.proofs.Replies.{Answered, answered, held, new, other, full, id_of, game_of, one_submission, Adds-unique, Takes-unique, room-Takes}

@@ -8,6 +8,7 @@ pub mod Decimals
 pub mod Distinct
 pub mod Frequent
 pub mod GivenPoints
+pub mod Held
 pub mod Members
 pub mod Naming
 pub mod Numbers

@@ -3,11 +3,12 @@ use Rattle.std.proofs.Common.{zero, suc, ◌≡◌, ℕ, ◌+◌, ◌<◌, ◌�
 use Rattle.pb_games.specs.declared.refusal.Refusal.TheVariants.{Memory}
 use Rattle.pb_games.specs.Submissions.{Submission, IsLawful}
 use Rattle.pb_games.proofs.Refused as refused
-use Rattle.pb_accepted.specs.Accepting.{Answer, IsNumber}
+use Rattle.pb_accepted.specs.Accepting.{Answer}
+use Rattle.pb_accepted.specs.Replying.{IsNumber}
 use Rattle.pb_accepted.specs.Holding.{HaveOwnIds}
 use Rattle.pb_accepted.proofs.Allowing.{Accepted, Allowed, AllowedRun, Answers, Takes}
-use Rattle.pb_accepted.proofs.Replies.{one_submission, one_number, allowed_held, new_is_next, HaveOwnIds-Takes, Takes-unique}
-use Rattle.pb_accepted.proofs.Runs.{Along-keeps, own_ids, HaveOwnIds-nil}
+use Rattle.pb_accepted.proofs.Replies.{one_submission, allowed_held, new_is_next, HaveOwnIds-Takes, Takes-unique}
+use Rattle.pb_accepted.proofs.Runs.{Along-keeps, HaveOwnIds-nil}
 
 -- ---- lists
 
@@ -139,9 +140,6 @@ numbers_given cap L R A run accepted n s = (to, λ g. given_number cap [] L R A 
       | inl none ↦ let no : None ≡ Some s = none.2 in cc
       | inr given ↦ given
     ]
-
-pub numbers_differ : (L : List (List ℕ)) (R : List Answer) (A : List Submission) (m n : ℕ) (s : Submission) → Accepted [] L R A → IsNumber A m s → IsNumber A n s → m ≡ n
-numbers_differ L R A m n s accepted h k = one_number A m n s (own_ids L R A accepted) h k
 
 pub repeats_keep : (cap : ℕ) (L : List (List ℕ)) (R : List Answer) → AllowedRun cap [] L R
     → (i j n : ℕ) (b c : List ℕ) (s : Submission) → i < j → slice_get L i ≡ Some b → IsLawful b s → slice_get R i ≡ Some (Ok n) → slice_get L j ≡ Some c → IsLawful c s → slice_get R j ≡ Some (Ok n)

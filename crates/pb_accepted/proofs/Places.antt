@@ -11,7 +11,7 @@ use Rattle.std.proofs.lemmas.Option.{slice_get_cases}
 use Rattle.std.proofs.lemmas.Slice.Eq.{bytes_eq-Decides}
 use Rattle.pb_games.specs.declared.game.Game.{Game}
 use Rattle.pb_games.specs.Submissions.{Submission}
-use Rattle.pb_accepted.specs.Accepting.{IsNewId, IsNumber}
+use Rattle.pb_accepted.specs.Replying.{IsNewId, IsNumber}
 
 bytes_same : (a b : List ℕ) → Decides (bytes_eq a b) (a ≡ b)
 bytes_same = bytes_eq-Decides

@@ -1,5 +1,5 @@
 -- What one line is answered and what it does to the list of what is held.
-use Rattle.std.proofs.Common.{◌≡◌, ◌≢◌, ℕ, ◌+◌, ◌-◌, ◌<◌, ◌≤◌, ◌⊎◌, List, [], ◌∷◌, ◌++◌, length, Some, slice_get, get_or, Ok, Err, refl, sym, ap, subst, ◌∙◌, inl, inr, arith}
+use Rattle.std.proofs.Common.{◌≡◌, ◌≢◌, ℕ, ◌+◌, ◌<◌, ◌≤◌, ◌⊎◌, List, [], ◌∷◌, ◌++◌, length, Some, slice_get, get_or, Ok, Err, refl, sym, ap, subst, ◌∙◌, inl, inr, arith}
 use Rattle.std.proofs.lemmas.Bool.{cases_lt}
 use Rattle.std.proofs.lemmas.List.{length_push}
 use Rattle.std.proofs.lemmas.List.Quantifiers.{all_pairs_push}
@@ -12,7 +12,8 @@ use Rattle.pb_games.specs.Refusing.{Refuses}
 use Rattle.pb_games.proofs.OneLine as line
 use Rattle.pb_games.proofs.OneRefused as refusals
 use Rattle.pb_games.proofs.Refused as refused
-use Rattle.pb_accepted.specs.Accepting.{Answer, IsNumber, IsNewId, HasRoom, Adds}
+use Rattle.pb_accepted.specs.Accepting.{Answer, HasRoom, Adds}
+use Rattle.pb_accepted.specs.Replying.{IsNumber, IsNewId}
 use Rattle.pb_accepted.specs.Holding.{HaveOwnIds}
 use Rattle.pb_accepted.proofs.Allowing.{Allowed, Answers, Reply, Takes}
 

@@ -1,9 +1,9 @@
 -- What is answered to lines, as the replies say it.
-use Rattle.std.proofs.Common.{◌≡◌, ℕ, zero, suc, ◌+◌, List, [], ◌∷◌, ◌++◌, length, drop, get_or, Option, Some, None, Ok, Err, refl, sym, ap, subst, ◌∙◌, inl, inr, arith}
+use Rattle.std.proofs.Common.{◌≡◌, ℕ, zero, suc, ◌+◌, List, [], ◌∷◌, ◌++◌, ◌≤◌, length, drop, get_or, Option, Some, None, Ok, Err, refl, sym, ap, subst, ◌∙◌, inl, inr, arith}
 use Rattle.std.specs.Prelude.{codes, decimal, slice_get, slice_index_or}
 use Rattle.std.specs.List.{flat_map}
 use Rattle.std.proofs.lemmas.List.{append_assoc}
-use Rattle.std.proofs.lemmas.List.Concat.{flat_map-cons}
+use Rattle.std.proofs.lemmas.Option.{slice_get_within}
 use Rattle.pb_board.specs.Fields.{field}
 use Rattle.pb_board.specs.LineEnd.{with_end}
 use Rattle.pb_games.specs.declared.refusal.Refusal.TheVariants.{Conflict, Full, Memory}
@@ -14,8 +14,12 @@ use Rattle.pb_accepted.specs.Accepting.{Answer, Run, Step}
 use Rattle.pb_accepted.specs.Accepting as step
 use Rattle.pb_accepted.specs.Replies.{replies, reply, reply_text, reply_texts}
 use Rattle.pb_accepted.specs.Replying as replied
-use Rattle.pb_accepted.specs.Replying.{Replies, Reply, ok, refused}
+use Rattle.pb_accepted.specs.Holding.{most_games}
+use Rattle.pb_accepted.specs.Replying.{AreNumbered, Arrives, IsNumber, Replies, Reply, ok, refused}
+use Rattle.pb_accepted.proofs.Decimals.{same_number}
+use Rattle.pb_accepted.proofs.Held.{has_room}
 use Rattle.pb_accepted.proofs.RefusedTexts.{refused_to}
+use Rattle.pb_accepted.proofs.Steps.{runs_number}
 
 -- the id that a lawful line names
 id_is : (line : List ℕ) (s : Submission) → IsLawful line s → field (fields_of line) 0 ≡ s.0
@@ -85,3 +89,34 @@ ok_back line s n (Ok m) law e =
     let same : ok s n ≡ ok s m = e ∙ ok_is line s law m in
     (m, refl, sym (ap (drop 1) (cancel s.0 (32 ∷ decimal n) (32 ∷ decimal m) (ap (drop 3) same))))
 ok_back line s n (Err x) law e = absurd (let first = ap (λ (t : List ℕ). get_or t 0 0) e in omega (arith, first))
+
+-- ---- the replies number what is held
+
+module _ (L : List (List ℕ)) (R : List Answer) (games : List Submission) (run : Run most_games [] L R games) where
+  numbers : AreNumbered (λ s n. let r : Answer = Ok n in r) L R games
+  numbers = runs_number most_games L R games run
+
+  ok_to : (i n : ℕ) (s : Submission) → (a : Arrives L i s) → slice_get R i ≡ Some (Ok n) → slice_get (reply_texts L R) i ≡ Some (ok s n)
+  ok_to i n s a at = told L R i a.0 (Ok n) a.1 at ∙ ap (λ (t : List ℕ). Some t) (ok_is a.0 s a.2 n)
+
+  -- the number of a game that is held is no more than a million
+  small : (m : ℕ) (s : Submission) → IsNumber games m s → m ≤ 1000000
+  small m s at = omega (arith, slice_get_within games at.0 s at.2, at.1, has_room most_games L R games run)
+
+  ok_from : (i n : ℕ) (s : Submission) → (a : Arrives L i s) → slice_get (reply_texts L R) i ≡ Some (ok s n) → slice_get R i ≡ Some (Ok n)
+  ok_from i n s a at =
+      let back = told_back L R i a.0 (ok s n) a.1 at in
+      let number = ok_back a.0 s n back.0 a.2 back.2 in
+      let here : slice_get R i ≡ Some (Ok number.0) = back.1 ∙ ap (λ (r : Answer). Some r) number.1 in
+      let held = (numbers.are number.0 s).1 (i, a, here) in
+      subst (λ (k : ℕ). slice_get R i ≡ Some (Ok k)) (same_number number.0 n (small number.0 s held) number.2) here
+
+  pub replies_number : AreNumbered ok L (reply_texts L R) games
+  replies_number = record {
+    are = λ n s. (
+      (λ at. let g = (numbers.are n s).0 at in (g.0, g.1.0, ok_to g.0 n s g.1.0 g.1.1)),
+      λ h. (numbers.are n s).1 (h.0, h.1.0, ok_from h.0 n s h.1.0 h.1.1),
+    );
+    ids = numbers.ids;
+    repeats = λ i j n s lt was here. ok_to j n s here (numbers.repeats i j n s lt (was.0, ok_from i n s was.0 was.1) here);
+  }

@@ -1,5 +1,5 @@
 -- Plies that count have a book, and the entries of a ledger's are in their ranges.
-use Rattle.std.proofs.Common.{◌≡◌, ℕ, ◌*◌, ◌/◌, ◌<◌, ◌≤◌, ◌^◌, ◌↔◌, nat_le, zero, suc, Bool, true, false, cond, Option, Some, None, unwrap_or, List, [], ◌∷◌, map, take, All, Contains, refl, sym, ap, subst, ◌∙◌, inl, inr, arith}
+use Rattle.std.proofs.Common.{◌≡◌, ℕ, ◌*◌, ◌/◌, ◌<◌, ◌≤◌, ◌^◌, ◌↔◌, nat_le, zero, suc, Bool, true, false, cond, Option, Some, None, unwrap_or, List, [], ◌∷◌, map, take, All, Contains, refl, ap, subst, ◌∙◌, inl, inr, arith}
 use Rattle.std.specs.Prelude.{sum_by}
 use Rattle.std.specs.Option.{option_map_or}
 use Rattle.std.proofs.Math.Nat.{div-le_of_le-mul}
@@ -166,7 +166,7 @@ pub book_bounds : (l : LedgerState) → IsLedger l → (E : List Entry) → IsBo
 book_bounds l is E book = all_of IsEntry E (λ e here.
     let G = counted l.basis l.accepted in
     let m = (book.members e).0 here in
-    let p = ply_of G e.key e.code (omega (arith, m.0, is.counting.once)) in
+    let p = ply_of G e.key e.code (omega (arith, m.0, is.counting.least.0)) in
     let small = All-contains Fits G p.0 (fits l.basis is.table l.accepted is.games) p.1 in
     record {
       key = subst (λ n. n < 2 ^ 64) p.2 small.0;
@@ -178,5 +178,5 @@ book_bounds l is E book = all_of IsEntry E (λ e here.
 -- a ledger has a book
 pub some_book_of_ledger : (l : LedgerState) → IsLedger l → (E : List Entry) × IsBook (counted l.basis l.accepted) l.basis.rules.least E × All IsEntry E
 some_book_of_ledger l is =
-    let book = some_book_of (counted l.basis l.accepted) l.basis.rules.least is.counting.once in
+    let book = some_book_of (counted l.basis l.accepted) l.basis.rules.least is.counting.least.0 in
     (book.0, book.1, book_bounds l is book.0 book.1)

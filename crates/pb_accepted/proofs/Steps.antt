@@ -7,14 +7,17 @@ use Rattle.std.proofs.lemmas.Option.{get_or_from_slice_get, slice_get_within}
 use Rattle.pb_games.specs.declared.refusal.Refusal.TheVariants.{Conflict, Memory}
 use Rattle.pb_games.specs.Submissions.{Submission, IsLawful}
 use Rattle.pb_accepted.specs.Accepting as steps
-use Rattle.pb_accepted.specs.Accepting.{Answer, IsNewId, IsNumber, Run, Step}
+use Rattle.pb_accepted.specs.Accepting.{Answer, Run, Step}
+use Rattle.pb_accepted.specs.Replying.{IsNewId, IsNumber}
+use Rattle.pb_accepted.specs.Counting.{counted}
+use Rattle.pb_accepted.specs.Holding.{HaveOwnIds}
 use Rattle.pb_accepted.specs.Laws as laws
 use Rattle.pb_accepted.proofs.Allowing.{Accepted, Allowed, AllowedRun, Reply, Takes}
-use Rattle.pb_accepted.proofs.BookLaws.{same_bytes}
+use Rattle.pb_accepted.proofs.BookLaws.{one_book, same_book}
 use Rattle.pb_accepted.proofs.Distinct.{accepts_the_taken, lawful_arrives, no_conflict}
 use Rattle.pb_accepted.proofs.Naming.{named_short}
-use Rattle.pb_accepted.proofs.Numbers.{numbers_differ, numbers_given, repeats_keep}
-use Rattle.pb_accepted.proofs.Replies.{Answered, answered, held, new, other, full, allowed_held, one_reply, Allowed-full, Allowed-new, Allowed-memory, Allowed-refused, Takes-held, Takes-new, Takes-refused, Takes-refusal, Takes-full, Takes-memory, Takes-unique}
+use Rattle.pb_accepted.proofs.Numbers.{numbers_given, repeats_keep}
+use Rattle.pb_accepted.proofs.Replies.{id_of, Answered, answered, held, new, other, full, allowed_held, one_reply, Allowed-full, Allowed-new, Allowed-memory, Allowed-refused, Takes-held, Takes-new, Takes-refused, Takes-refusal, Takes-full, Takes-memory, Takes-unique}
 use Rattle.pb_accepted.proofs.Runs.{Accepted-append, Accepted-unique, Run-append, own_ids}
 
 -- ---- from a step
@@ -125,7 +128,7 @@ new_grows cap A line n B fresh (steps.refused x why e f) = cc
 
 -- ---- laws of runs
 
-pub distinct_ids : laws.IdsAreDistinct
+pub distinct_ids : (cap : ℕ) (L : List (List ℕ)) (R : List Answer) (A : List Submission) → Run cap [] L R A → HaveOwnIds A
 distinct_ids cap L R A run = own_ids L R A (run_to cap [] L R A run).1
 
 pub one_run : laws.OneRun
@@ -137,25 +140,31 @@ runs_join cap A B C K L Q R h k =
     let t = run_to cap B L R C k in
     run_from cap A _ _ C (Run-append cap A B K L Q R p.0 p.1 t.0) (Accepted-append A B C K L Q R p.1 t.1)
 
-pub numbers_distinct : laws.NumbersAreDistinct
-numbers_distinct cap L R A m n s run = numbers_differ L R A m n s (run_to cap [] L R A run).1
+pub runs_number : laws.RunsNumber
+runs_number cap L R A run =
+    let p = run_to cap [] L R A run in record {
+      are = λ n s.
+          let given = numbers_given cap L R A p.0 p.1 n s in (
+            λ at. let g = given.0 at in (g.0, ((g.1, g.2, g.3), g.4)),
+            λ h. given.1 (h.0, h.1.0.0, h.1.0.1, h.1.0.2, h.1.1),
+          );
+      ids = distinct_ids cap L R A run;
+      repeats = λ i j n s lt was here. repeats_keep cap L R p.0 i j n was.0.0 here.0 s lt was.0.1 was.0.2 was.1 here.1 here.2;
+    }
 
-pub numbers_of_run : laws.NumbersAreGiven
-numbers_of_run cap L R A run = let p = run_to cap [] L R A run in numbers_given cap L R A p.0 p.1
+pub one_effect : laws.HasOneEffect
+one_effect cap L R A one run =
+    let p = run_to cap [] L R A run in record {
+      taken = accepts_the_taken L R A one p.1;
+      no_conflict = no_conflict cap L R one p.0;
+      arrivals = λ i s r B here told front.
+          lawful_arrives cap L R one p.0 i here.0 s r here.1 here.2 told B (run_to cap [] (take i L) (take i R) B front).1;
+    }
 
-pub numbers_kept : laws.RepeatsKeepTheirNumber
-numbers_kept cap L R A run = repeats_keep cap L R (run_to cap [] L R A run).0
+-- no submission stands twice
+pub once : (cap : ℕ) (L : List (List ℕ)) (R : List Answer) (A : List Submission) → Run cap [] L R A → laws.NoRepeats A
+once cap L R A run i j d lt within e = distinct_ids cap L R A run i j d lt within (ap id_of e)
 
-pub taken_of_run : laws.AcceptsTheTaken
-taken_of_run cap L R A one run = accepts_the_taken L R A one (run_to cap [] L R A run).1
-
-pub run_clear : laws.NoConflict
-run_clear cap L R A one run = no_conflict cap L R one (run_to cap [] L R A run).0
-
-pub run_arrives : laws.LawfulArrives
-run_arrives cap L R A one run i line s r here law told B front =
-    lawful_arrives cap L R one (run_to cap [] L R A run).0 i line s r here law told B (run_to cap [] (take i L) (take i R) B front).1
-
-pub run_bytes : laws.SameBytes
-run_bytes T m n K L Q R A B S U one first taken also second brought =
-    same_bytes T K L Q R A B S U one (run_to m [] K Q A first).1 taken also (run_to n [] L R B second).1 brought
+pub same_books : laws.SameBooks
+same_books T m n K L Q R A B first second same least E F book twin =
+    one_book (counted T B) least E F (same_book T A B (once m K Q A first) (once n L R B second) same least E book) twin

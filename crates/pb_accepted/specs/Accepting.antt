@@ -10,12 +10,13 @@
 --   conflict    another game under an id held       conflict               stays
 --   refused     no legal game                       why not                stays
 use Rattle.std.specs.Prelude.{◌≡◌, ◌≢◌, ℕ, ◌+◌, ◌<◌, ◌≤◌, ◌⊎◌, List, [], ◌∷◌, ◌++◌}
-use Rattle.std.specs.Prelude.{Bool, false, length, All, Contains, Result, Ok, Err, slice_get, Some}
+use Rattle.std.specs.Prelude.{Bool, false, length, Contains, Result, Ok, Err}
 use Rattle.std.specs.Result.{result_map_both}
 use Rattle.pb_games.specs.declared.game.Game.{Game}
 use Rattle.pb_games.specs.declared.refusal.Refusal.{Refusal}
 use Rattle.pb_games.specs.declared.refusal.Refusal.TheVariants.{Conflict, Full, Memory}
 use Rattle.pb_games.specs.Submissions.{Submission, IsLawful}
+use Rattle.pb_accepted.specs.Replying.{IsNewId, IsNumber}
 use Rattle.pb_accepted.specs.declared.ledger.Accepted.{Accepted}
 use Rattle.pb_games.specs.Refusing.{Refuses}
 
@@ -31,14 +32,6 @@ answer_of = result_map_both (λ accepted. accepted.number) (λ e. e)
 abbrev pub says_new : Result Accepted Refusal → Bool
 says_new (Ok accepted) = accepted.is_new
 says_new (Err e) = false
-
--- the submission is number n of the list, from 1
-abbrev pub IsNumber : List Submission → ℕ → Submission → Type 0
-IsNumber A n s = (k : ℕ) × (n ≡ k + 1) × (slice_get A k ≡ Some s)
-
--- no submission of the list has this id
-abbrev pub IsNewId : List ℕ → List Submission → Type 0
-IsNewId id A = All (λ s. s.0 ≢ id) A
 
 -- A line is answered r, where the list A may have at most cap members, and it becomes B.
 pub data Step (cap : ℕ) (A : List Submission) (line : List ℕ) (r : Answer)

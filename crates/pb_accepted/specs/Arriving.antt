@@ -4,7 +4,7 @@ use Rattle.pb_games.specs.declared.game.Game.{Game}
 use Rattle.pb_games.specs.Submissions.{Submission, IsLawful}
 use Rattle.pb_accepted.specs.declared.ledger.Arrival.{Arrival}
 use Rattle.pb_accepted.specs.declared.ledger.Arrival.TheVariants.{New, Repeat, Other}
-use Rattle.pb_accepted.specs.Accepting.{IsNewId, IsNumber}
+use Rattle.pb_accepted.specs.Replying.{IsNewId, IsNumber}
 
 -- a lawful submission of the line is new, is held under this number, or has another game held under
 -- its id

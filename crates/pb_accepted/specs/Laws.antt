@@ -4,16 +4,15 @@ use Rattle.std.specs.Prelude.{take, All, AllPairs, Contains, Ok, Err, Some, slic
 use Rattle.std.specs.List.{flat_map}
 use Rattle.pb_board.specs.LineEnd.{with_end}
 use Rattle.pb_poly.specs.declared.entry.Entry.{Entry}
-use Rattle.pb_poly.specs.Book.{BookBytes}
 use Rattle.pb_games.specs.declared.refusal.Refusal.{Refusal}
 use Rattle.pb_games.specs.declared.refusal.Refusal.TheVariants.{Conflict, Full, Memory}
 use Rattle.pb_games.specs.Submissions.{Submission, IsLawful}
-use Rattle.pb_accepted.specs.Accepting.{Answer, IsNumber, IsNewId, OneGame, Run, Step, Taken}
+use Rattle.pb_accepted.specs.Accepting.{Answer, OneGame, Run, Step, Taken}
 use Rattle.pb_accepted.specs.Basis.{Basis}
 use Rattle.pb_accepted.specs.Counting.{count, counted, IsBook}
-use Rattle.pb_accepted.specs.Holding.{HaveOwnIds}
+use Rattle.pb_accepted.specs.Holding.{HaveOwnIds, most_games}
 use Rattle.pb_accepted.specs.Replies.{named, replies, reply_texts}
-use Rattle.pb_accepted.specs.Replying.{Replies}
+use Rattle.pb_accepted.specs.Replying.{Arrives, AreNumbered, IsNewId, IsNumber, Replies, ok}
 use Rattle.pb_accepted.specs.declared.ply_points.PlyPoints.{PlyPoints}
 
 -- ---- one line
@@ -42,21 +41,6 @@ NamesAreShort = (cap : ℕ) (A : List Submission) (line : List ℕ) (r : Answer)
 
 -- ---- runs
 
--- what lines are answered is what they are replied to
-abbrev pub RunsAreReplied : Type 0
-RunsAreReplied = (cap : ℕ) (A : List Submission) (L : List (List ℕ)) (R : List Answer)
-    (B : List Submission) → Run cap A L R B → Replies cap A L (reply_texts L R) B
-
--- each reply is a line
-abbrev pub RepliesAreLines : Type 0
-RepliesAreLines = (L : List (List ℕ)) (R : List Answer)
-    → replies L R ≡ flat_map with_end (reply_texts L R)
-
--- no id stands twice in what a ledger holds
-abbrev pub IdsAreDistinct : Type 0
-IdsAreDistinct = (cap : ℕ) (L : List (List ℕ)) (R : List Answer) (A : List Submission)
-    → Run cap [] L R A → HaveOwnIds A
-
 -- the lines with their answers fix what is held, whatever room there was
 abbrev pub OneRun : Type 0
 OneRun = (cap most : ℕ) (A : List Submission) (L : List (List ℕ)) (R : List Answer)
@@ -72,59 +56,47 @@ abbrev pub RunsJoin : Type 0
 RunsJoin = (cap : ℕ) (A B C : List Submission) (K L : List (List ℕ)) (Q R : List Answer)
     → Run cap A K Q B → Run cap B L R C → Run cap A (K ++ L) (Q ++ R) C
 
--- ---- numbers
+-- what is held is what was answered with a number
+abbrev pub RunsNumber : Type 0
+RunsNumber = (cap : ℕ) (L : List (List ℕ)) (R : List Answer) (A : List Submission)
+    → Run cap [] L R A → AreNumbered (λ s n. Ok n) L R A
 
--- a submission has one number
-abbrev pub NumbersAreDistinct : Type 0
-NumbersAreDistinct = (cap : ℕ) (L : List (List ℕ)) (R : List Answer) (A : List Submission) (m n : ℕ)
-    (s : Submission)
-    → Run cap [] L R A → IsNumber A m s → IsNumber A n s → m ≡ n
+-- ---- replies
 
--- the numbers of what is held are 1 to its length, and they are just those that were answered
-abbrev pub NumbersAreGiven : Type 0
-NumbersAreGiven = (cap : ℕ) (L : List (List ℕ)) (R : List Answer) (A : List Submission)
-    → Run cap [] L R A → (n : ℕ) (s : Submission)
-    → IsNumber A n s ↔ ((j : ℕ) × (line : List ℕ) × (slice_get L j ≡ Some line) × IsLawful line s
-    × (slice_get R j ≡ Some (Ok n)))
+-- what lines are answered is what they are replied to
+abbrev pub RunsAreReplied : Type 0
+RunsAreReplied = (cap : ℕ) (A : List Submission) (L : List (List ℕ)) (R : List Answer)
+    (B : List Submission) → Run cap A L R B → Replies cap A L (reply_texts L R) B
 
--- once one of these lines was answered with a number, each later arrival of its submission is
--- answered with that number
-abbrev pub RepeatsAreAnsweredAlike : List (List ℕ) → List Answer → Type 0
-RepeatsAreAnsweredAlike L R = (i j n : ℕ) (b c : List ℕ) (s : Submission) → i < j
-    → slice_get L i ≡ Some b → IsLawful b s → slice_get R i ≡ Some (Ok n)
-    → slice_get L j ≡ Some c → IsLawful c s → slice_get R j ≡ Some (Ok n)
+-- each reply is a line
+abbrev pub RepliesAreLines : Type 0
+RepliesAreLines = (L : List (List ℕ)) (R : List Answer)
+    → replies L R ≡ flat_map with_end (reply_texts L R)
 
--- so it is in each run
-abbrev pub RepeatsKeepTheirNumber : Type 0
-RepeatsKeepTheirNumber = (cap : ℕ) (L : List (List ℕ)) (R : List Answer) (A : List Submission)
-    → Run cap [] L R A → RepeatsAreAnsweredAlike L R
+-- and the replies number what is held
+abbrev pub RepliesNumber : Type 0
+RepliesNumber = (L : List (List ℕ)) (R : List Answer) (A : List Submission)
+    → Run most_games [] L R A → AreNumbered ok L (reply_texts L R) A
 
 -- ---- where no id names two games
 
--- what is held is the list of the distinct submissions taken
-abbrev pub AcceptsTheTaken : Type 0
-AcceptsTheTaken = (cap : ℕ) (L : List (List ℕ)) (R : List Answer) (A : List Submission) → OneGame L
-    → Run cap [] L R A → Taken [] L R A
-
--- no answer is a conflict
-abbrev pub NoConflict : Type 0
-NoConflict = (cap : ℕ) (L : List (List ℕ)) (R : List Answer) (A : List Submission) → OneGame L
-    → Run cap [] L R A → All (λ r. (n : ℕ) → r ≢ Err (Conflict n)) R
-
--- each lawful one of these lines gets a number, unless its id is new and there is no room, or room
--- and no memory
-abbrev pub ArrivalsAreNumbered : ℕ → List (List ℕ) → List Answer → Type 0
-ArrivalsAreNumbered cap L R =
-    (i : ℕ) (line : List ℕ) (s : Submission) (r : Answer) → slice_get L i ≡ Some line
-    → IsLawful line s → slice_get R i ≡ Some r
-    → (A : List Submission) → Run cap [] (take i L) (take i R) A
-    → ((n : ℕ) × (r ≡ Ok n)) ⊎ (((r ≡ Err Full) × IsNewId s.0 A × (length A ≡ cap))
-    ⊎ ((r ≡ Err Memory) × IsNewId s.0 A × (length A < cap)))
+-- What more is so of lines in which no id names two games.
+pub record OneEffect (cap : ℕ) (L : List (List ℕ)) (R : List Answer) (A : List Submission)
+    : Type 0 where
+  -- what is held is the list of the distinct submissions taken
+  pub taken : Taken [] L R A
+  pub no_conflict : All (λ r. (n : ℕ) → r ≢ Err (Conflict n)) R
+  -- each lawful one of the lines gets a number, unless its id is new and there is no room, or room
+  -- and no memory
+  pub arrivals : (i : ℕ) (s : Submission) (r : Answer) (B : List Submission) → Arrives L i s
+      → slice_get R i ≡ Some r → Run cap [] (take i L) (take i R) B
+      → ((n : ℕ) × (r ≡ Ok n)) ⊎ (((r ≡ Err Full) × IsNewId s.0 B × (length B ≡ cap))
+      ⊎ ((r ≡ Err Memory) × IsNewId s.0 B × (length B < cap)))
 
 -- so it is in each run
-abbrev pub LawfulArrives : Type 0
-LawfulArrives = (cap : ℕ) (L : List (List ℕ)) (R : List Answer) (A : List Submission) → OneGame L
-    → Run cap [] L R A → ArrivalsAreNumbered cap L R
+abbrev pub HasOneEffect : Type 0
+HasOneEffect = (cap : ℕ) (L : List (List ℕ)) (R : List Answer) (A : List Submission) → OneGame L
+    → Run cap [] L R A → OneEffect cap L R A
 
 -- ---- lists without repeats
 
@@ -156,16 +128,9 @@ abbrev pub BookByMembers : Type 0
 BookByMembers = (T : Basis) (S U : List Submission) → NoRepeats S → NoRepeats U → SameMembers S U
     → (least : ℕ) (E : List Entry) → IsBook (counted T S) least E → IsBook (counted T U) least E
 
--- the bytes of the book are one text
-abbrev pub OneBookText : Type 0
-OneBookText = (G : List PlyPoints) (least : ℕ) (E F : List Entry) (b c : List ℕ) → IsBook G least E
-    → BookBytes E b → IsBook G least F → BookBytes F c → b ≡ c
-
--- whatever the order of arrival, the same distinct submissions give the same bytes
-abbrev pub SameBytes : Type 0
-SameBytes = (T : Basis) (m n : ℕ) (K L : List (List ℕ)) (Q R : List Answer)
-    (A B S U : List Submission)
-    → OneGame K → Run m [] K Q A → Taken [] K Q S → OneGame L → Run n [] L R B → Taken [] L R U
-    → SameMembers S U
-    → (least : ℕ) (E F : List Entry) (b c : List ℕ) → IsBook (counted T A) least E → BookBytes E b
-    → IsBook (counted T B) least F → BookBytes F c → b ≡ c
+-- whatever the order of arrival, the same games give the same book
+abbrev pub SameBooks : Type 0
+SameBooks = (T : Basis) (m n : ℕ) (K L : List (List ℕ)) (Q R : List Answer) (A B : List Submission)
+    → Run m [] K Q A → Run n [] L R B → SameMembers A B
+    → (least : ℕ) (E F : List Entry) → IsBook (counted T A) least E → IsBook (counted T B) least F
+    → E ≡ F

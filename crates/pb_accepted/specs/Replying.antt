@@ -9,12 +9,19 @@
 --   repeat      a game that is held under its id    ok ID and its number        stays
 --   conflict    another game under an id held       refused ID conflict NUMBER  stays
 --   refused     no legal game                       refused, and why            stays
-use Rattle.std.specs.Prelude.{◌≡◌, ◌≢◌, ℕ, ◌+◌, ◌<◌, ◌≤◌, List, [], ◌∷◌, ◌++◌, length, codes}
-use Rattle.std.specs.Prelude.{decimal}
+use Rattle.std.specs.Prelude.{◌≡◌, ◌≢◌, ℕ, ◌+◌, ◌<◌, ◌≤◌, ◌↔◌, List, [], ◌∷◌, ◌++◌, length, codes}
+use Rattle.std.specs.Prelude.{decimal, slice_get, Some, All, AllPairs}
 use Rattle.pb_games.specs.declared.game.Game.{Game}
 use Rattle.pb_games.specs.Refusals.{IsRefused}
 use Rattle.pb_games.specs.Submissions.{Submission, IsLawful}
-use Rattle.pb_accepted.specs.Accepting.{IsNewId, IsNumber}
+
+-- the submission is number n of the list, from 1
+abbrev pub IsNumber : List Submission → ℕ → Submission → Type 0
+IsNumber A n s = (k : ℕ) × (n ≡ k + 1) × (slice_get A k ≡ Some s)
+
+-- no submission of the list has this id
+abbrev pub IsNewId : List ℕ → List Submission → Type 0
+IsNewId id A = All (λ s. s.0 ≢ id) A
 
 abbrev pub ok : Submission → ℕ → List ℕ
 ok s n = codes "ok " ++ s.0 ++ 32 ∷ decimal n
@@ -49,3 +56,24 @@ abbrev pub Replies : ℕ → List Submission → List (List ℕ) → List (List 
 Replies cap A [] [] B = B ≡ A
 Replies cap A (line ∷ L) (r ∷ R) B = (M : List Submission) × Reply cap A line r M × Replies cap M L R B
 Replies cap A L R B = ⊥
+
+-- ---- numbers, by answers that say `say s n` where game s was accepted under the number n
+
+-- line i, counted from 0, is the text of a legal game under an id
+abbrev pub Arrives : List (List ℕ) → ℕ → Submission → Type 0
+Arrives L i s = (line : List ℕ) × (slice_get L i ≡ Some line) × IsLawful line s
+
+-- and it was accepted under the number n
+abbrev pub IsAccepted : {X : Type 0} → (Submission → ℕ → X) → List (List ℕ) → List X → ℕ
+    → Submission → ℕ → Type 0
+IsAccepted say L R i s n = Arrives L i s × (slice_get R i ≡ Some (say s n))
+
+-- The list has what the answers to these lines number.
+pub record AreNumbered {X : Type 0} (say : Submission → ℕ → X) (L : List (List ℕ)) (R : List X)
+    (A : List Submission) : Type 0 where
+  -- its members are those that were accepted, under their numbers, each under an id of its own
+  pub are : (n : ℕ) (s : Submission) → IsNumber A n s ↔ ((i : ℕ) × IsAccepted say L R i s n)
+  pub ids : AllPairs (λ s t. s.0 ≢ t.0) A
+  -- one that comes again gets its number again
+  pub repeats : (i j n : ℕ) (s : Submission) → i < j → IsAccepted say L R i s n → Arrives L j s
+      → slice_get R j ≡ Some (say s n)

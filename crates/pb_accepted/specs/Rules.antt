@@ -7,16 +7,10 @@ pub record CountingRules : Type 0 where
   pub plies : ℕ
   pub least : ℕ
 
--- the most occurrences that a move may be asked for
-abbrev pub most_occurrences : ℕ
-most_occurrences = 1000000
-
 -- the numbers lie in their ranges
 pub record AreRules (rules : CountingRules) : Type 0 where
-  pub some : 1 ≤ rules.plies
-  pub within_a_game : rules.plies ≤ most_plies
-  pub once : 1 ≤ rules.least
-  pub not_above : rules.least ≤ most_occurrences
+  pub plies : (1 ≤ rules.plies) × (rules.plies ≤ most_plies)
+  pub least : (1 ≤ rules.least) × (rules.least ≤ 1000000)
 
 -- all plies of each game count, and no move that occurs is left out for that
 abbrev pub all_plies : CountingRules

@@ -9,23 +9,21 @@ ghost use Rattle.pb_accepted.specs.declared.rules.TheConstants.{MAX_LEAST};
 ghost use Rattle.pb_games.specs.Submissions.{IsLawful, Submission};
 ghost use Rattle.pb_accepted.specs.Accepting.{OneGame};
 ghost use Rattle.pb_accepted.specs.Holding.{most_games};
-ghost use Rattle.pb_accepted.specs.Laws.{AcceptsTheTaken, BookByMembers, CountsByMembers};
-ghost use Rattle.pb_accepted.specs.Laws.{HeldIsAnswered, IdsAreDistinct, LawfulArrives};
-ghost use Rattle.pb_accepted.specs.Laws.{NamesAreShort, NoConflict, NumbersAreDistinct};
-ghost use Rattle.pb_accepted.specs.Laws.{NumbersAreGiven, OneBook, OneBookText, OneRun, OneStep};
-ghost use Rattle.pb_accepted.specs.Laws.{RefusalsChangeNothing, RepeatsKeepTheirNumber};
-ghost use Rattle.pb_accepted.specs.Laws.{RepliesAreLines, RunsAreReplied, RunsJoin};
-ghost use Rattle.pb_accepted.specs.Laws.{SameBytes, SameMembers, TakenHasNoRepeats, TakenIsOne};
-ghost use Rattle.pb_accepted.specs.Rules.{CountingRules, most_occurrences};
+ghost use Rattle.pb_accepted.specs.Laws.{BookByMembers, CountsByMembers, HasOneEffect};
+ghost use Rattle.pb_accepted.specs.Laws.{HeldIsAnswered, NamesAreShort, OneBook, OneRun, OneStep};
+ghost use Rattle.pb_accepted.specs.Laws.{RefusalsChangeNothing, RepliesAreLines, RepliesNumber};
+ghost use Rattle.pb_accepted.specs.Laws.{RunsAreReplied, RunsJoin, RunsNumber, SameBooks};
+ghost use Rattle.pb_accepted.specs.Laws.{SameMembers, TakenHasNoRepeats, TakenIsOne};
+ghost use Rattle.pb_accepted.specs.Rules.{CountingRules};
 
 use crate::ledger::Accepted;
 use crate::rules::Rules;
 
-/// The most games that a ledger may be made for is the number that the definitions have, and so are
-/// the most occurrences that a move may be asked for.
+/// The most games that a ledger may be made for, and the most occurrences that a move may be asked
+/// for, are the numbers that the definitions have.
 pub fn limits()
     ensures cap { MAX_CAP ≡ most_games }
-    ensures least { MAX_LEAST ≡ most_occurrences }
+    ensures least { MAX_LEAST ≡ 1000000 }
 {}
 
 /// What one line is answered and does, where no id stands twice: one answer and no other, to a
@@ -38,35 +36,31 @@ pub fn one_line()
     ensures named { NamesAreShort }
 {}
 
-/// The lines with their answers fix what is held, and no id stands twice in it; two runs in a row
-/// are one.
+/// The lines with their answers fix what is held; two runs in a row are one.
 pub fn runs()
-    ensures distinct { IdsAreDistinct }
     ensures one { OneRun }
     ensures join { RunsJoin }
 {}
 
-/// What lines are answered is what they are replied to, and the replies are lines.
+/// What lines are answered is what they are replied to, each reply is a line, and the replies number
+/// what is held.
 pub fn replies()
     ensures run { RunsAreReplied }
     ensures lines { RepliesAreLines }
+    ensures numbers { RepliesNumber }
 {}
 
-/// A submission has one number; the numbers of what is held, 1 to its length, are those that were
-/// answered; and once it was answered with a number, a submission is answered with that number
+/// The numbers of what is held, 1 to its length, are those that were answered, and no id stands
+/// twice in it; and once it was answered with a number, a submission is answered with that number
 /// whenever it comes again.
 pub fn numbers()
-    ensures distinct { NumbersAreDistinct }
-    ensures given { NumbersAreGiven }
-    ensures kept { RepeatsKeepTheirNumber }
+    ensures { RunsNumber }
 {}
 
 /// Where no id names two games, what is held is the distinct submissions that were taken, no answer
 /// is a conflict, and a lawful arrival is refused only a new number, for want of room or memory.
 pub fn one_game()
-    ensures taken { AcceptsTheTaken }
-    ensures no_conflict { NoConflict }
-    ensures arrives { LawfulArrives }
+    ensures { HasOneEffect }
 {}
 
 /// The distinct submissions are one list, without repeats.
@@ -75,14 +69,13 @@ pub fn distinct()
     ensures no_repeats { TakenHasNoRepeats }
 {}
 
-/// At most one list of entries is the book of a list of games, and one text its bytes; both depend
-/// on the members alone.
+/// At most one list of entries is the book of plies, and that of a list of games depends on the
+/// members alone.
 pub fn books()
     ensures one { OneBook }
     ensures counts { CountsByMembers }
     ensures members { BookByMembers }
-    ensures text { OneBookText }
-    ensures same_bytes { SameBytes }
+    ensures same { SameBooks }
 {}
 
 /// Rules and answers are equal (`==`) exactly where they are one value.

@@ -9,7 +9,6 @@ use Rattle.pb_poly.specs.Book.{book_bytes}
 use Rattle.pb_poly.specs.Entry.{IsEntry}
 use Rattle.pb_poly.specs.declared.entry.Entry.{Entry}
 use Rattle.pb_poly.proofs.ReadRows.{found_table}
-use Rattle.pb_accepted.specs.Accepting.{Run}
 use Rattle.pb_accepted.specs.Basis.{Basis}
 use Rattle.pb_accepted.specs.Counting.{IsBook, counted}
 use Rattle.pb_accepted.specs.Holding.{most_games}
@@ -55,7 +54,6 @@ module _ (rules : CountingRules) (fills : ℕ) (e : EndStates) (source : Change 
           run = leads.run;
           is = ap (λ (T : Basis). record left { basis = T }) leads.basis ∙ ap (λ n. record (ledger_of rules first.randoms left.accepted) { cap = n }) leads.cap;
           replied = refl;
-          is_book = book;
           effect = λ K Q run.
               effect (K ++ lines took.came) (Q ++ collects.answers) left.accepted
               (runs_join most_games [] first.held left.accepted K (lines took.came) Q collects.answers run leads.run) left.basis entries bounds book;
@@ -106,10 +104,5 @@ module _ (rules : CountingRules) (fills : ℕ) (table source : Change SourceStat
 
 pub goes_on_as_one_run : GoesOnAsOneRun
 goes_on_as_one_run rules file saved bytes put left entries book h K Q A run is_saved =
-    let same = loaded_back most_games K Q A h.held saved run is_saved h.loads in
     let one = continued most_games K (lines bytes) Q h.answers A h.held left.accepted saved run is_saved h.loads h.run in
-    record {
-      held_is_saved = same;
-      effect = h.effect K Q (subst (λ X. Run most_games [] K Q X) (sym same) run);
-      replied = one.1;
-    }
+    (loaded_back most_games K Q A h.held saved run is_saved h.loads, one.1 ∙ ap (λ l. replies K Q ++ l) (sym h.replied))

@@ -8,15 +8,15 @@ use Rattle.pb_board.specs.LineEnd.{with_end}
 use Rattle.pb_io.specs.Lines.{ended_lines}
 use Rattle.pb_games.specs.Submissions.{IsLawful, IsSubmission, Submission, submission_text}
 use Rattle.pb_accepted.specs.Accepting as steps
-use Rattle.pb_accepted.specs.Accepting.{Answer, IsNumber, Run, Step}
+use Rattle.pb_accepted.specs.Accepting.{Answer, Run, Step}
+use Rattle.pb_accepted.specs.Replying.{Arrives, IsNumber}
 use Rattle.pb_accepted.specs.Holding.{HaveOwnIds}
 use Rattle.pb_accepted.specs.Replies.{replies, reply_line}
 use Rattle.pb_accepted.proofs.Numbers.{IsNumber-Accepted, slice_get-push}
 use Rattle.pb_accepted.proofs.Steps.{distinct_ids, run_to, runs_join}
 use Rattle.pb_ledger.specs.Journal.{GameLines, Journals, mending}
-use Rattle.pb_ledger.proofs.Continued.{are_submissions, has_room}
+use Rattle.pb_accepted.proofs.Held.{are_submissions, has_room}
 use Rattle.pb_ledger.proofs.Journals.{journal_grows, journal_may_tear}
-use Rattle.pb_collecting.specs.Headline.{Arrives}
 
 -- ---- runs
 

@@ -11,7 +11,8 @@ use Rattle.pb_io.specs.Lines.{ended_lines, lines}
 use Rattle.pb_io.specs.Reads.{Reads, ReadsAll, ReadsFront, chunk_len}
 use Rattle.pb_io.proofs.LineLemmas.{lines-begin}
 use Rattle.pb_games.specs.Submissions.{Submission}
-use Rattle.pb_accepted.specs.Accepting.{Answer, IsNumber, Run}
+use Rattle.pb_accepted.specs.Accepting.{Answer, Run}
+use Rattle.pb_accepted.specs.Replying.{Arrives, IsNumber}
 use Rattle.pb_accepted.specs.Holding.{most_games}
 use Rattle.pb_accepted.specs.Ledger.{LedgerState}
 use Rattle.pb_accepted.specs.Replies.{replies, reply_line}
@@ -24,7 +25,6 @@ use Rattle.pb_ledger.specs.declared.journaling.JournalFault.{JournalFault}
 use Rattle.pb_ledger.specs.declared.journaling.JournalFault.TheVariants as journal
 use Rattle.pb_ledger.specs.declared.totals.Totals.{Totals}
 use Rattle.pb_collecting.specs.Ends.{Change, EndStates, IsSame, JournalStates}
-use Rattle.pb_collecting.specs.Headline.{Arrives}
 use Rattle.pb_collecting.specs.JournalHeadline.{AreFirst, HoldsAnswered, Outlives, Survives}
 use Rattle.pb_collecting.specs.Runs.{ReplaysFirst, Takes}
 use Rattle.pb_collecting.proofs.JournalGains.{IsNumber-front, gains_all, gains_torn, has_numbers, replies-push}

@@ -8,7 +8,6 @@ use Rattle.pb_poly.specs.Table.{IsTableFile}
 use Rattle.pb_poly.specs.declared.entry.Entry.{Entry}
 use Rattle.pb_games.specs.Submissions.{Submission}
 use Rattle.pb_accepted.specs.Accepting.{Answer, Run}
-use Rattle.pb_accepted.specs.Counting.{IsBook, counted}
 use Rattle.pb_accepted.specs.Holding.{most_games}
 use Rattle.pb_accepted.specs.Ledger.{LedgerState}
 use Rattle.pb_accepted.specs.Replies.{replies, reply_texts}
@@ -20,8 +19,7 @@ use Rattle.pb_collecting.specs.Headline.{Effect}
 use Rattle.pb_collecting.specs.Runs.{ledger_of}
 
 -- The saved ledger wasn't cut and its games were held first, the lines of the submissions were
--- answered from there, and this ledger is left; the replies were put in order, and the entries are
--- the book of the games that are held then.
+-- answered from there, and this ledger is left; the replies were put in order.
 pub record ContinuesBytes (rules : CountingRules) (file saved bytes put : List ℕ)
     (left : LedgerState) (entries : List Entry) (book : List ℕ) : Type 0 where
   pub randoms : List ℕ
@@ -33,10 +31,9 @@ pub record ContinuesBytes (rules : CountingRules) (file saved bytes put : List �
   pub run : Run most_games held (lines bytes) answers left.accepted
   pub is : left ≡ ledger_of rules randoms left.accepted
   pub replied : put ≡ replies (lines bytes) answers
-  pub is_book : IsBook (counted left.basis left.accepted) left.basis.rules.least entries
-  -- Whatever earlier run left the games that were held first, of lines K with answers Q: the effect
-  -- is that of one run of the lines of both. So the book is that of the games that were answered
-  -- `ok` in both, each of them once.
+  -- Whatever earlier run left the games that were held first, of lines K with answers Q, as that
+  -- of the saved lines did: the effect is that of one run of the lines of both. So the book is that
+  -- of the games that were answered `ok` in both, each of them once.
   pub effect : (K : List (List ℕ)) (Q : List Answer) → Run most_games [] K Q held
       → Effect left.basis (K ++ lines bytes) (reply_texts (K ++ lines bytes) (Q ++ answers))
       left.accepted entries book

@@ -61,7 +61,8 @@ pub record KeepsLedger (run : Result Left Stopped → Type 0)
 -- read no submission was put; before a submission was read, or later, and then the ledger was kept
 -- if its store took it; without the ledger at its store; or with it there and without the book
 abbrev pub ContinuesInto : (Result Left Stopped → Type 0)
-    → (LedgerState → List Entry → List ℕ → Type 0) → Change StoreState → Change StoreState → Result Made NotContinued → Type 0
+    → (LedgerState → List Entry → List ℕ → Type 0) → Change StoreState → Change StoreState
+    → Result Made NotContinued → Type 0
 ContinuesInto run says ledger book (Ok (Book report)) =
     (made : Collected) × (games : ℕ) × KeepsLedger run says ledger (Ok made) (Ok games)
     × KeepsEntries book made.entries (Ok report.entries) × (report.totals ≡ made.totals)

@@ -8,13 +8,14 @@ use Rattle.pb_io.specs.Source.{HandsOut, SourceState}
 use Rattle.pb_poly.specs.Table.{IsTableFile}
 use Rattle.pb_poly.specs.declared.entry.Entry.{Entry}
 use Rattle.pb_games.specs.Submissions.{Submission}
-use Rattle.pb_accepted.specs.Accepting.{Answer, IsNumber, Run}
+use Rattle.pb_accepted.specs.Accepting.{Answer, Run}
+use Rattle.pb_accepted.specs.Replying.{Arrives, IsNumber}
 use Rattle.pb_accepted.specs.Holding.{most_games}
 use Rattle.pb_accepted.specs.Replies.{replies, reply_texts}
 use Rattle.pb_accepted.specs.Rules.{CountingRules}
 use Rattle.pb_ledger.specs.Journal.{GameLines, Journals, mending}
 use Rattle.pb_collecting.specs.Ends.{Change, EndStates, IsSame, JournalStates}
-use Rattle.pb_collecting.specs.Headline.{Arrives, Effect}
+use Rattle.pb_collecting.specs.Headline.{Effect}
 
 -- The lines of the journal and then those of the submissions were answered as the lines of one run,
 -- whose effect this is, and the replies to the submissions were put. The journal was mended and

@@ -1,66 +1,37 @@
--- Laws of the theorem of `pbook collect`: what follows from an effect.
-use Rattle.std.specs.Prelude.{◌≡◌, ◌≢◌, ℕ, ◌+◌, ◌++◌, List, [], Some}
-use Rattle.std.specs.Prelude.{Err, All, slice_get, take}
+-- Laws of the runs of `pbook collect`.
+use Rattle.std.specs.Prelude.{◌≡◌, ℕ, ◌+◌, ◌++◌, List, [], Some, Err, slice_get, take}
 use Rattle.pb_io.specs.Lines.{lines}
 use Rattle.pb_io.specs.Source.{SourceState}
 use Rattle.pb_poly.specs.declared.entry.Entry.{Entry}
 use Rattle.pb_games.specs.Submissions.{Submission}
 use Rattle.pb_games.specs.declared.refusal.Refusal.{Refusal}
-use Rattle.pb_games.specs.declared.refusal.Refusal.TheVariants.{Conflict}
-use Rattle.pb_accepted.specs.Accepting.{Answer, OneGame, Run, Taken}
-use Rattle.pb_accepted.specs.Basis.{Basis}
+use Rattle.pb_accepted.specs.Accepting.{Answer, Run}
 use Rattle.pb_accepted.specs.Holding.{most_games}
-use Rattle.pb_accepted.specs.Laws.{ArrivalsAreNumbered}
 use Rattle.pb_accepted.specs.Ledger.{LedgerState}
-use Rattle.pb_accepted.specs.Replies.{replies, reply_texts}
+use Rattle.pb_accepted.specs.Replies.{replies}
 use Rattle.pb_accepted.specs.Rules.{CountingRules}
 use Rattle.pb_ledger.specs.Saving.{Saved}
 use Rattle.pb_collecting.specs.ContinueHeadline.{ContinuesBytes}
 use Rattle.pb_collecting.specs.Ends.{Change, EndStates, IsSame, JournalStates}
-use Rattle.pb_collecting.specs.Headline.{Effect}
 use Rattle.pb_collecting.specs.Runs.{CollectRun, ContinueRun, JournalRun}
 use Rattle.pb_collecting.specs.declared.made.Stopped.TheVariants as stopped
 use Rattle.pb_collecting.specs.declared.made.Unread.{Unread}
 
 -- in every run a line that was refused left the games that are held as they were
 abbrev pub RefusalsLeaveTheGames : Type 0
-RefusalsLeaveTheGames = (L : List (List ℕ)) (R : List Answer) (games : List Submission)
-    → Run most_games [] L R games
-    → (i : ℕ) (e : Refusal) (A B : List Submission) → slice_get R i ≡ Some (Err e)
-    → Run most_games [] (take i L) (take i R) A
-    → Run most_games [] (take (i + 1) L) (take (i + 1) R) B → B ≡ A
+RefusalsLeaveTheGames = (cap : ℕ) (L : List (List ℕ)) (R : List Answer) (i : ℕ) (e : Refusal)
+    (A B : List Submission) → slice_get R i ≡ Some (Err e)
+    → Run cap [] (take i L) (take i R) A → Run cap [] (take (i + 1) L) (take (i + 1) R) B → B ≡ A
 
--- What more is so of lines in which no id names two games.
-pub record OneEffect (L : List (List ℕ)) (R : List Answer) (games : List Submission) : Type 0 where
-  -- the games are the distinct legal submissions that were accepted, so the book is that of these
-  pub taken : Taken [] L R games
-  -- each legal arrival is accepted, unless its id is new and room or memory is refused
-  pub arrivals : ArrivalsAreNumbered most_games L R
-  pub no_conflict : All (λ r. (n : ℕ) → r ≢ Err (Conflict n)) R
-
--- where no id names two games, each submission has its one effect
-abbrev pub HasOneEffect : Type 0
-HasOneEffect = (L : List (List ℕ)) (R : List Answer) (games : List Submission)
-    → Run most_games [] L R games → OneGame L → OneEffect L R games
-
--- What more is so where a run held these games first, went on with lines L and answers R to the
--- games `left`, and an earlier run, of lines K with answers Q, saved these.
-pub record OneLongRun (T : Basis) (K L : List (List ℕ)) (Q R : List Answer)
-    (saved held left : List Submission) (entries : List Entry) (book : List ℕ) : Type 0 where
-  -- what was saved is what was held
-  pub held_is_saved : held ≡ saved
-  -- the effect, and the replies, are those of one run of the lines of both
-  pub effect : Effect T (K ++ L) (reply_texts (K ++ L) (Q ++ R)) left entries book
-  pub replied : replies (K ++ L) (Q ++ R) ≡ replies K Q ++ replies L R
-
--- a run that goes on from what an earlier one saved makes of both what one long run makes
+-- what a run holds first that goes on from what an earlier one saved is what that one left; so the
+-- effect of both is that of one long run, and the replies are those of one
 abbrev pub GoesOnAsOneRun : Type 0
 GoesOnAsOneRun = (rules : CountingRules) (file saved bytes put : List ℕ) (left : LedgerState)
     (entries : List Entry) (book : List ℕ)
     (h : ContinuesBytes rules file saved bytes put left entries book) (K : List (List ℕ))
     (Q : List Answer) (A : List Submission)
     → Run most_games [] K Q A → Saved A saved
-    → OneLongRun left.basis K (lines bytes) Q h.answers A h.held left.accepted entries book
+    → (h.held ≡ A) × (replies (K ++ lines bytes) (Q ++ h.answers) ≡ replies K Q ++ put)
 
 -- A run that was refused its table or its saved ledger read no submission, and left a journal as it
 -- was.

@@ -11,8 +11,7 @@ ghost use Rattle.pb_accepted.specs.Rules.{CountingRules};
 ghost use Rattle.pb_collecting.specs.CheckLaws.{CheckEnds, RefusedByLedgers, TakenByLedgers};
 ghost use Rattle.pb_collecting.specs.CheckRun.{ChecksOrEnds};
 ghost use Rattle.pb_collecting.specs.Ends.{EndStates};
-ghost use Rattle.pb_collecting.specs.Laws.{GoesOnAsOneRun, HasOneEffect, RefusalsLeaveTheGames};
-ghost use Rattle.pb_collecting.specs.Laws.{RefusedIsUnread};
+ghost use Rattle.pb_collecting.specs.Laws.{GoesOnAsOneRun, RefusalsLeaveTheGames, RefusedIsUnread};
 ghost use Rattle.pb_collecting.specs.declared.continuing_into.NotContinued.{NotContinued};
 ghost use Rattle.pb_collecting.specs.declared.keeping.NoBook.{NoBook};
 ghost use Rattle.pb_collecting.specs.declared.made.Unread.{Unread};
@@ -21,17 +20,11 @@ ghost use Rattle.pb_collecting.specs.declared.store.StoreError.{StoreError};
 use crate::continuing_into::NotContinued;
 use crate::keeping::NoBook;
 use crate::store::StoreError;
+pub use pb_ledger::laws::one_game;
 
 /// Whatever the submissions are, a refused submission changes nothing.
 pub fn every_run()
     ensures { RefusalsLeaveTheGames }
-{}
-
-/// Where no id names two games, the book is that of the distinct legal submissions that were
-/// accepted, each counted once, no answer is a conflict, and every legal arrival is accepted unless
-/// room or memory is refused to a new id.
-pub fn one_game()
-    ensures { HasOneEffect }
 {}
 
 /// What an earlier run saved is what a run holds that goes on from it, and the replies and the book

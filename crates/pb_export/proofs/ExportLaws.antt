@@ -7,15 +7,14 @@ use Rattle.pb_epd.specs.ByteOrder.{IsBytesBelow}
 use Rattle.pb_epd.proofs.Order.{below_itself, both_below}
 use Rattle.pb_games.specs.Submissions.{Submission}
 use Rattle.pb_poly.specs.declared.entry.Entry.{Entry}
-use Rattle.pb_accepted.specs.Accepting.{Answer, OneGame, Run, Taken}
+use Rattle.pb_accepted.specs.Accepting.{Answer, Run}
 use Rattle.pb_accepted.specs.Basis.{Basis}
 use Rattle.pb_accepted.specs.Counting.{counted}
 use Rattle.pb_export.specs.Exporting.{StandsBefore, Listed, IsListed, IsListing, ExportLines, text_of_lines, ExportText}
 use Rattle.pb_accepted.specs.Laws.{NoRepeats, SameMembers}
 use Rattle.pb_accepted.proofs.BookLaws.{one_book, same_book}
-use Rattle.pb_accepted.proofs.Distinct.{Taken-unique, no_repeats}
 use Rattle.pb_accepted.proofs.Members.{same_in_order}
-use Rattle.pb_accepted.proofs.Steps.{taken_of_run}
+use Rattle.pb_accepted.proofs.Steps.{once}
 
 -- ---- one export
 
@@ -74,11 +73,6 @@ same_export T S U once each same a h =
 
 -- ---- whatever the order of arrival
 
-pub same_exports : (T : Basis) (m n : ℕ) (K L : List (List ℕ)) (Q R : List Answer) (A B S U : List Submission)
-    → OneGame K → Run m [] K Q A → Taken [] K Q S → OneGame L → Run n [] L R B → Taken [] L R U → SameMembers S U
+pub same_exports : (T : Basis) (m n : ℕ) (K L : List (List ℕ)) (Q R : List Answer) (A B : List Submission) → Run m [] K Q A → Run n [] L R B → SameMembers A B
     → (a b : List ℕ) → ExportText T A a → ExportText T B b → a ≡ b
-same_exports T m n K L Q R A B S U one run taken other arrived brought same a b export twin =
-    let first : A ≡ S = Taken-unique [] K Q A S (taken_of_run m K Q A one run) taken in
-    let second : B ≡ U = Taken-unique [] L R B U (taken_of_run n L R B other arrived) brought in
-    let moved = same_export T S U (no_repeats K Q S taken) (no_repeats L R U brought) same a (subst (λ X. ExportText T X a) first export) in
-    one_export T U a b moved (subst (λ X. ExportText T X b) second twin)
+same_exports T m n K L Q R A B first second same a b export twin = one_export T B a b (same_export T A B (once m K Q A first) (once n L R B second) same a export) twin

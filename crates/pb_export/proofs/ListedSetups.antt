@@ -19,7 +19,7 @@ use Rattle.pb_epd.proofs.Forms.{form_is_text, record_is_one}
 use Rattle.pb_epd.proofs.Lists.{contains_none, pairs_none}
 use Rattle.pb_games.specs.declared.game.Game.{Game}
 use Rattle.pb_games.specs.Submissions.{IsLegalGame, IsSubmission, Submission, plies}
-use Rattle.pb_accepted.specs.Accepting.{IsNumber}
+use Rattle.pb_accepted.specs.Replying.{IsNumber}
 use Rattle.pb_poly.specs.declared.entry.Entry.{Entry}
 use Rattle.pb_poly.specs.Found.{Found}
 use Rattle.pb_export.specs.Packed.{IsPacked}

@@ -2,7 +2,7 @@
 use Rattle.std.specs.Prelude.{◌≡◌, ◌≢◌, ℕ, List, [], AllPairs}
 use Rattle.pb_games.specs.Submissions.{Submission}
 use Rattle.pb_poly.specs.declared.entry.Entry.{Entry}
-use Rattle.pb_accepted.specs.Accepting.{Answer, OneGame, Run, Taken}
+use Rattle.pb_accepted.specs.Accepting.{Answer, Run}
 use Rattle.pb_accepted.specs.Basis.{Basis}
 use Rattle.pb_export.specs.Exporting.{Listed, IsListed, IsListing, ExportText}
 use Rattle.pb_accepted.specs.Laws.{NoRepeats, SameMembers}
@@ -22,10 +22,8 @@ abbrev pub ExportByMembers : Type 0
 ExportByMembers = (T : Basis) (S U : List Submission) → NoRepeats S → NoRepeats U → SameMembers S U
     → (a : List ℕ) → ExportText T S a → ExportText T U a
 
--- whatever the order of arrival, the same distinct submissions give the same export
+-- whatever the order of arrival, the same games give the same export
 abbrev pub SameExports : Type 0
 SameExports = (T : Basis) (m n : ℕ) (K L : List (List ℕ)) (Q R : List Answer)
-    (A B S U : List Submission)
-    → OneGame K → Run m [] K Q A → Taken [] K Q S → OneGame L → Run n [] L R B → Taken [] L R U
-    → SameMembers S U
+    (A B : List Submission) → Run m [] K Q A → Run n [] L R B → SameMembers A B
     → (a b : List ℕ) → ExportText T A a → ExportText T B b → a ≡ b

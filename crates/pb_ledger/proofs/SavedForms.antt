@@ -8,7 +8,7 @@ use Rattle.pb_board.specs.LineEnd.{with_end}
 use Rattle.pb_moves.specs.Moved.{Moved}
 use Rattle.pb_moves.specs.Spelling.{spelling}
 use Rattle.pb_games.specs.Submissions.{Submission, moves_text, submission_text}
-use Rattle.pb_accepted.specs.Accepting.{IsNumber}
+use Rattle.pb_accepted.specs.Replying.{IsNumber}
 use Rattle.pb_ledger.specs.Saving.{Saved, header}
 
 -- ---- a game's moves

@@ -15,7 +15,8 @@ use Rattle.pb_poly.proofs.ToldReads.{all_came, came_first, no_endless, no_fault}
 use Rattle.pb_games.specs.Submissions.{IsLawful, IsSubmission, Submission, submission_text}
 use Rattle.pb_games.proofs.Texts.{one_line, submits}
 use Rattle.pb_accepted.specs.Accepting as steps
-use Rattle.pb_accepted.specs.Accepting.{Answer, IsNewId, Run, Step}
+use Rattle.pb_accepted.specs.Accepting.{Answer, Run, Step}
+use Rattle.pb_accepted.specs.Replying.{IsNewId}
 use Rattle.pb_accepted.specs.Holding.{HaveOwnIds}
 use Rattle.pb_accepted.specs.Ledger.{LedgerState}
 use Rattle.pb_accepted.proofs.Replies.{id_of, one_submission}

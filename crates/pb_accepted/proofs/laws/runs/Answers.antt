@@ -1,5 +1,5 @@
-use Rattle.pb_accepted.proofs.Steps.{distinct_ids, one_run, runs_join}
+use Rattle.pb_accepted.proofs.Steps.{one_run, runs_join}
 use Rattle.pb_accepted.proofs.laws.runs.Goals as goal
 
 pub returns : goal.returns
-returns c = record { distinct = distinct_ids; one = one_run; join = runs_join }
+returns c = record { one = one_run; join = runs_join }

@@ -8,7 +8,7 @@ use Rattle.pb_board.specs.LineEnd.{with_end}
 use Rattle.pb_io.proofs.PutLemmas.{Lasts-trans, front_more, put_cut, put_failed}
 use Rattle.pb_io.proofs.WritesLemmas.{Writes-flushed, Writes-stopped}
 use Rattle.pb_games.specs.Submissions.{submission_text}
-use Rattle.pb_accepted.specs.Accepting.{IsNumber}
+use Rattle.pb_accepted.specs.Replying.{IsNumber}
 use Rattle.pb_accepted.proofs.Places.{game_there}
 use Rattle.pb_ledger.specs.Saving.{header}
 use Rattle.pb_ledger.proofs.SavedForms.{lines_at, lines_more, numbered_text}

@@ -17,5 +17,5 @@ returns-clause-ok g c =
     rw (← c.self.view_is)
     (IfOk-weaker c.add_stretch.result (λ next. AddsBookOf (stretch_of c.args.first next content) c.from-least.result c.args.entries.now.items c.add_stretch.new.entries.items)
     (λ next. (book : List Entry) × IsBook (counted T games) T.rules.least book × (c.add_stretch.new.entries.items ≡ c.args.entries.now.items ++ stretch c.args.first next book))
-    (λ next adds. stretch_added (counted T games) T.rules.least c.args.first next content _ _ _ c.self.invariant.rules.counting.once c.self.invariant.counts least adds)
+    (λ next adds. stretch_added (counted T games) T.rules.least c.args.first next content _ _ _ c.self.invariant.rules.counting.least.0 c.self.invariant.counts least adds)
     c.add_stretch.ensures.ok)

@@ -1,6 +1,6 @@
 use Rattle.std.proofs.Common.{sym, subst, ◌∙◌}
 use Rattle.pb_games.specs.Ids.{IsId}
-use Rattle.pb_accepted.specs.Accepting.{IsNewId}
+use Rattle.pb_accepted.specs.Replying.{IsNewId}
 use Rattle.pb_accepted.proofs.Arrivals.{first_is_id, other_held, submission_at}
 use Rattle.pb_accepted.proofs.Places.{IsNewId-absent, key_found}
 use Rattle.pb_accepted.proofs.ledger.Ledger.arrival.Goals as goal

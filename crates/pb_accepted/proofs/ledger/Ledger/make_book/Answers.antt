@@ -35,4 +35,4 @@ returns-clause-book g c =
     ) in
     rw (← c.self.view_is)
     (subst (IsBook (counted T games) T.rules.least) (sym (made ∙ are))
-    (IsBook-rows (counted T games) T.rules.least (g.T.Tally.content inside.tally) (frequent inside.rules.least adds.rows) c.self.invariant.rules.counting.once c.self.invariant.counts each adds.book book))
+    (IsBook-rows (counted T games) T.rules.least (g.T.Tally.content inside.tally) (frequent inside.rules.least adds.rows) c.self.invariant.rules.counting.least.0 c.self.invariant.counts each adds.book book))

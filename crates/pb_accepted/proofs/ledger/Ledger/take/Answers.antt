@@ -2,7 +2,7 @@ use Rattle.std.proofs.Common.{◌≡◌, ℕ, ◌+◌, ◌<◌, ◌≤◌, ◌++
 use Rattle.std.proofs.lemmas.List.{length_push}
 use Rattle.std.proofs.lemmas.Result.{err_from_is_err_and}
 use Rattle.pb_points.specs.Tally.{held}
-use Rattle.pb_accepted.specs.Accepting.{IsNewId}
+use Rattle.pb_accepted.specs.Replying.{IsNewId}
 use Rattle.pb_accepted.specs.Accepting as steps
 use Rattle.pb_accepted.specs.Counting.{counted}
 use Rattle.pb_accepted.specs.Holding.{HoldsCounts, with_ply_points}

@@ -2,7 +2,7 @@ use Rattle.std.proofs.Common.{◌≡◌, ℕ, ◌+◌, List, [], take, sym, subs
 use Rattle.std.proofs.lemmas.List.{take_all}
 use Rattle.pb_board.specs.Position.{Position}
 use Rattle.pb_games.specs.Submissions.{Submission}
-use Rattle.pb_accepted.specs.Accepting.{IsNumber}
+use Rattle.pb_accepted.specs.Replying.{IsNumber}
 use Rattle.pb_accepted.proofs.Places.{game_there}
 use Rattle.pb_moves.specs.Moved.{Moved}
 use Rattle.pb_poly.specs.declared.entry.Entry.{Entry}
