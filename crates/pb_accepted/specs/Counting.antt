@@ -1,6 +1,6 @@
 -- The plies that count, and the book that is made of them. T is the basis, S the list of
 -- submissions, G what their plies give that count.
-use Rattle.std.specs.Prelude.{◌≡◌, ℕ, ◌≤◌, ◌↔◌, List, Option, map, take, sum_by}
+use Rattle.std.specs.Prelude.{◌≡◌, ℕ, ◌≤◌, ◌↔◌, ◌&&◌, ◌==◌, List, Option, map, take, sum_by}
 use Rattle.std.specs.Prelude.{count_by, AllPairs, Contains, if◌then◌else◌}
 use Rattle.std.specs.List.{filter, flat_map}
 use Rattle.pb_board.specs.declared.piece.Colour.{Colour}
@@ -12,7 +12,6 @@ use Rattle.pb_poly.specs.declared.entry.Entry.{Entry}
 use Rattle.pb_games.specs.declared.outcome.Outcome.{Outcome}
 use Rattle.pb_games.specs.declared.outcome.Outcome.TheVariants.{White, Black, Draw}
 use Rattle.pb_games.specs.Submissions.{Submission, plies}
-use Rattle.pb_points.specs.Tally.{is_pair}
 use Rattle.pb_points.specs.TallyBook.{is_within}
 use Rattle.pb_points.specs.Weight.{scaled, Before}
 use Rattle.pb_accepted.specs.Basis.{Basis}
@@ -37,10 +36,10 @@ counted T S = flat_map (λ s. map (given_by T.words s.1.outcome) (take T.rules.p
 
 -- how often a key and a code occur, and their count, which is the sum of their points
 abbrev pub times : List PlyPoints → ℕ → ℕ → ℕ
-times G k c = count_by (λ p. is_pair p.key p.code k c) G
+times G k c = count_by (λ p. p.key == k && p.code == c) G
 
 abbrev pub count : List PlyPoints → ℕ → ℕ → ℕ
-count G k c = sum_by (λ p. if is_pair p.key p.code k c then p.points else 0) G
+count G k c = sum_by (λ p. if p.key == k && p.code == c then p.points else 0) G
 
 -- M is the greatest count under the key, over the codes that occur often enough under it
 pub record IsGreatest (G : List PlyPoints) (least k M : ℕ) : Type 0 where

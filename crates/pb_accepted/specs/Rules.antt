@@ -1,6 +1,5 @@
 -- What of the games counts.
 use Rattle.std.specs.Prelude.{ℕ, ◌≤◌}
-use Rattle.pb_games.specs.Limits.{most_plies}
 
 -- so many first plies of each game count, and a move that occurs less often in them is left out
 pub record CountingRules : Type 0 where
@@ -9,9 +8,9 @@ pub record CountingRules : Type 0 where
 
 -- the numbers lie in their ranges
 pub record AreRules (rules : CountingRules) : Type 0 where
-  pub plies : (1 ≤ rules.plies) × (rules.plies ≤ most_plies)
+  pub plies : (1 ≤ rules.plies) × (rules.plies ≤ 1024)
   pub least : (1 ≤ rules.least) × (rules.least ≤ 1000000)
 
 -- all plies of each game count, and no move that occurs is left out for that
 abbrev pub all_plies : CountingRules
-all_plies = record { plies = most_plies; least = 1 }
+all_plies = record { plies = 1024; least = 1 }

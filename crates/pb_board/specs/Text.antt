@@ -9,7 +9,6 @@ use Rattle.pb_board.specs.declared.piece.Piece.{Piece}
 use Rattle.pb_board.specs.declared.setup.Rights.{Rights}
 use Rattle.pb_board.specs.Piece.{piece_number}
 use Rattle.pb_board.specs.Board.{Place, file, rank}
-use Rattle.pb_board.specs.Fields.{space}
 use Rattle.pb_board.specs.Position.{Position, Record}
 use Rattle.pb_board.specs.Rights.{of_rights, only_if}
 
@@ -56,8 +55,8 @@ setup_fields p =
 
 -- the text of a setup: the first four fields
 abbrev pub setup_text : Position → List ℕ
-setup_text p = join_with_byte space (setup_fields p)
+setup_text p = join_with_byte 32 (setup_fields p)
 
 -- the text of a record: six fields
 abbrev pub fen_text : Record → List ℕ
-fen_text f = join_with_byte space (setup_fields f.setup ++ decimal f.half ∷ decimal f.full ∷ [])
+fen_text f = join_with_byte 32 (setup_fields f.setup ++ decimal f.half ∷ decimal f.full ∷ [])

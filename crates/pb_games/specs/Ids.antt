@@ -1,6 +1,5 @@
 -- Ids of submissions.
 use Rattle.std.specs.Prelude.{ℕ, ◌≤◌, List, [], ◌∷◌, length, All}
-use Rattle.pb_games.specs.Limits.{id_limit}
 
 -- a byte of ASCII that shows something
 abbrev pub IsPrintable : ℕ → Type 0
@@ -9,8 +8,8 @@ IsPrintable c = (33 ≤ c) × (c ≤ 126)
 -- 1 to 64 bytes of 33 to 126
 pub record IsId (bytes : List ℕ) : Type 0 where
   pub some : 1 ≤ length bytes
-  pub few : length bytes ≤ id_limit
-  pub printable : All IsPrintable bytes
+  pub few : length bytes ≤ 64
+  pub printable : All (λ c. (33 ≤ c) × (c ≤ 126)) bytes
 
 -- what an id hands to a hasher: its bytes, at once
 abbrev pub hashed : List ℕ → List (List ℕ)

@@ -1,5 +1,4 @@
 pub mod Ids
-pub mod Limits
 pub mod Words
 pub mod Results
 pub mod Submissions

@@ -13,7 +13,6 @@ use Rattle.pb_moves.specs.Played.{AreLegal, IsSpelled}
 use Rattle.pb_games.specs.declared.outcome.Outcome.{Outcome}
 use Rattle.pb_games.specs.declared.refusal.Refusal.{Refusal}
 use Rattle.pb_games.specs.declared.refusal.Refusal.TheVariants as refusal
-use Rattle.pb_games.specs.Limits.{line_limit, most_plies}
 use Rattle.pb_games.specs.Ids.{IsId}
 use Rattle.pb_games.specs.Refusals.{SpellsMoves, SpellsStart}
 use Rattle.pb_games.specs.Results.{outcome_text}
@@ -21,16 +20,17 @@ use Rattle.pb_games.specs.Words.{words_of}
 
 -- when each refusal is due; the three that are never due here look at more than the line
 abbrev pub IsDue : List ℕ → List (List ℕ) → Refusal → Type 0
-IsDue line parts refusal.Long = line_limit < length line
+IsDue line parts refusal.Long = 8192 < length line
 IsDue line parts refusal.Shape = length parts ≢ 4
 IsDue line parts refusal.Id = ¬ IsId (field parts 0)
 IsDue line parts refusal.Result = (outcome : Outcome) → field parts 1 ≢ outcome_text outcome
 IsDue line parts (refusal.Fen e) = IsFirstOf fen_errors (IsDueFen (fields space (field parts 2))) e
 IsDue line parts refusal.Start = (f : Record) × SpellsStart parts f × ¬ IsPlayable f.setup
 IsDue line parts (refusal.Spelling n) = BreaksAt (All IsSpelled) (words_of (field parts 3)) n
-IsDue line parts refusal.Plies = most_plies < length (words_of (field parts 3))
+IsDue line parts refusal.Plies = 1024 < length (words_of (field parts 3))
 IsDue line parts (refusal.Illegal n) = (f : Record) × (moves : List Moved)
-    × SpellsStart parts f × SpellsMoves (words_of (field parts 3)) moves × BreaksAt (AreLegal f.setup) moves n
+    × SpellsStart parts f × SpellsMoves (words_of (field parts 3)) moves
+    × BreaksAt (AreLegal f.setup) moves n
 IsDue line parts _ = ⊥
 
 -- in the order in which they are looked for: one has a cause, two have a number

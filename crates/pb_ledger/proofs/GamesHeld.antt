@@ -12,11 +12,10 @@ use Rattle.std.proofs.lemmas.Slice.Eq.{bytes_eq-Decides}
 use Rattle.pb_board.specs.Fields.{fields, tab}
 use Rattle.pb_board.specs.LineEnd.{with_end}
 use Rattle.pb_board.proofs.LineEnds.{length-strip}
-use Rattle.pb_io.specs.Lines.{ended_lines, is_torn, last_piece, line_feed}
+use Rattle.pb_io.specs.Lines.{ended_lines, is_torn, last_piece, line_feed, line_limit}
 use Rattle.pb_io.proofs.LineLemmas.{IsQuiet, is_line_feed, ended_lines-ended, ended_lines-quiet}
 use Rattle.pb_games.specs.declared.refusal.Refusal.{Refusal}
 use Rattle.pb_games.specs.declared.refusal.Refusal.TheVariants as refusal
-use Rattle.pb_games.specs.Limits.{line_limit}
 use Rattle.pb_games.specs.Header.{fields_of}
 use Rattle.pb_games.specs.Refusing.{IsDue, Refuses}
 use Rattle.pb_games.specs.Submissions.{IsLawful, IsSubmission, Submission, submission_text}

@@ -3,7 +3,8 @@
 -- promotion. Castling is coded as the king's move to its rook.
 use Rattle.std.specs.Prelude.{◌≡◌, ℕ, ◌+◌, ◌*◌, ◌&&◌, if◌then◌else◌}
 use Rattle.std.specs.Option.{option_map_or}
-use Rattle.pb_board.specs.Piece.{kind_number, king_of}
+use Rattle.pb_board.specs.Piece.{kind_number, piece_of}
+use Rattle.pb_board.specs.declared.piece.Kind.TheVariants.{King}
 use Rattle.pb_board.specs.Position.{Position, IsSetup}
 use Rattle.pb_board.specs.Board.{file, rank, at, is_piece}
 use Rattle.pb_moves.specs.Moved.{Moved}
@@ -12,7 +13,7 @@ use Rattle.pb_moves.specs.Successor.{is_castling, rook_home}
 
 -- the square that an encoded move names as reached: castling goes to the rook's square
 abbrev pub encoded_to : Position → Moved → ℕ
-encoded_to s m = if is_piece (king_of s.turn) (at s.board m.from) && is_castling s.turn m
+encoded_to s m = if is_piece (piece_of s.turn King) (at s.board m.from) && is_castling s.turn m
     then rook_home m
     else m.to
 
