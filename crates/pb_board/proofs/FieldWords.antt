@@ -35,7 +35,7 @@ letter_short : (flag : Bool) (c : ℕ) → length (only_if flag c) ≤ 1
 letter_short true c = omega arith
 letter_short false c = omega arith
 
-flags_short : (r : Rights) → length (flag_letters r) ≤ 4
+pub flags_short : (r : Rights) → length (flag_letters r) ≤ 4
 flags_short r =
     let short = letter_short r.black_long 113 in
     let two = only_if r.black_short 107 ++ only_if r.black_long 113 in

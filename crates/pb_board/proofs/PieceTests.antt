@@ -42,6 +42,6 @@ is_piece-is piece (Some p) e = ap (λ (x : Piece). Some x) (piece_one p piece (e
 pub is_piece-passes : (piece : Piece) → is_piece piece (Some piece) ≡ true
 is_piece-passes piece = eq-eqb (piece_number piece) (piece_number piece) refl
 
--- the test is that of the kind and that of the colour
-pub is_piece-both : (p q : Piece) → (kind_number p.kind == kind_number q.kind && colour_number p.colour == colour_number q.colour) ≡ (piece_number p == piece_number q)
-is_piece-both p q = let small = colour_small p.colour in let other = colour_small q.colour in grind (arith, nat_tests)
+-- pieces of one number are of one kind and one colour
+pub piece_number-parts : (p q : Piece) → (kind_number p.kind == kind_number q.kind && colour_number p.colour == colour_number q.colour) ≡ (piece_number p == piece_number q)
+piece_number-parts p q = let small = colour_small p.colour in let other = colour_small q.colour in grind (arith, nat_tests)

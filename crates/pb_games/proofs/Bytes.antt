@@ -1,5 +1,5 @@
 -- The bytes of the parts of a text, and how many they are.
-use Rattle.std.proofs.Common.{ℕ, ◌-◌, ◌*◌, ◌<◌, ◌≤◌, Bool, true, false, List, [], ◌∷◌, ◌++◌, length, length-append, map, Option, Some, None, subst, arith, lit<}
+use Rattle.std.proofs.Common.{ℕ, ◌-◌, ◌*◌, ◌<◌, ◌≤◌, List, [], ◌∷◌, ◌++◌, length, length-append, map, Option, Some, None, subst, arith, lit<}
 use Rattle.std.specs.List.{All, join_with_byte}
 use Rattle.std.specs.Prelude.{decimal, option_to_list}
 use Rattle.std.proofs.lemmas.List.Elements.{All-head, All-tail}
@@ -9,9 +9,9 @@ use Rattle.pb_board.specs.declared.piece.Kind.{Kind}
 use Rattle.pb_board.specs.declared.piece.Kind.TheVariants.{Pawn, Knight, Bishop, Rook, Queen, King}
 use Rattle.pb_board.specs.declared.setup.Rights.{Rights}
 use Rattle.pb_board.specs.Position.{Record, IsRecord}
-use Rattle.pb_board.specs.Rights.{only_if}
 use Rattle.pb_board.specs.Text.{castling_text, en_passant_text, fen_text, placement_text, turn_text}
 use Rattle.pb_board.proofs.FieldBytes.{AreFieldBytes, above_space, placement_length, placement_bytes, turn_bytes, castling_bytes, en_passant_bytes, number_bytes}
+use Rattle.pb_board.proofs.FieldWords.{flags_short}
 use Rattle.pb_board.proofs.Joins.{Above, AllAbove}
 use Rattle.pb_board.proofs.Numbers.{clock_numeral}
 use Rattle.pb_board.proofs.Spelled.{castling_is, flag_letters, or_dash}
@@ -76,30 +76,12 @@ fen_above f lawful =
       (field_above _ (turn_bytes p.turn), (field_above _ (castling_bytes p.rights), (field_above _ en_passant, (half, (full, tt))))),
     )
 
-letter_short : (flag : Bool) (c : ℕ) → length (only_if flag c) ≤ 1
-letter_short true c = omega arith
-letter_short false c = omega arith
-
 dash_short : (text : List ℕ) → length text ≤ 4 → length (or_dash text) ≤ 4
 dash_short [] h = omega arith
 dash_short (c ∷ text) h = h
 
 castling_short : (r : Rights) → length (castling_text r) ≤ 4
-castling_short r =
-    let last = only_if r.black_long 113 in
-    let two = only_if r.black_short 107 ++ last in
-    let three = only_if r.white_long 81 ++ two in
-    let Short : List ℕ → Type 0 = λ t. length t ≤ 4 in
-    subst Short (castling_is r) (dash_short (flag_letters r) (omega (
-      arith,
-      length-append (only_if r.white_short 75) three,
-      length-append (only_if r.white_long 81) two,
-      length-append (only_if r.black_short 107) last,
-      letter_short r.white_short 75,
-      letter_short r.white_long 81,
-      letter_short r.black_short 107,
-      letter_short r.black_long 113,
-    )))
+castling_short r = let Short : List ℕ → Type 0 = λ t. length t ≤ 4 in subst Short (castling_is r) (dash_short (flag_letters r) (flags_short r))
 
 turn_short : (turn : Colour) → length (turn_text turn) ≤ 1
 turn_short White = omega arith

@@ -15,7 +15,7 @@ ghost use Rattle.pb_poly.specs.Table.{IsTable};
 use crate::table::Table;
 use pb_board::{Colour, Kind, Piece, Rights, Setup, Square};
 
-/// Where the words of castling rights begin.
+/// Where the words of castling rights begin, which are in the order of the letters `KQkq`.
 const CASTLING_START: usize = 768;
 
 /// Where the words of en passant files begin.
