@@ -68,29 +68,98 @@ refused_to line refusal.Result h =
 refused_to line (refusal.Fen c) h =
     let e = refusal.Fen c in
     let never : (f : Record) → ¬ SpellsStart (fields_of line) f = λ f s.
-        record_never_due f (fen_text f) c s.0 refl (subst (λ (t : List ℕ). IsFirstDue fen_errors c (fields 32 t)) s.1 h.due) in
-    inr ((λ w d. no_long line e h (omega arith) d.1), inr ((λ w d. no_shape line e h (omega arith) d.1), inr ((λ w d. no_id line e h (omega arith) d.1),
-    inr ((λ w d. no_result line e h (omega arith) d.1), inl (refl, never)))))
+    record_never_due f (fen_text f) c s.0 refl (subst (λ (t : List ℕ). IsFirstDue fen_errors c (fields 32 t)) s.1 h.due) in
+    inr (
+      (λ w d. no_long line e h (omega arith) d.1),
+      inr (
+        (λ w d. no_shape line e h (omega arith) d.1),
+        inr (
+          (λ w d. no_id line e h (omega arith) d.1),
+          inr ((λ w d. no_result line e h (omega arith) d.1), inl (refl, never)),
+        ),
+      ),
+    )
 refused_to line refusal.Start h =
     let e = refusal.Start in
-    inr ((λ w d. no_long line e h (omega arith) d.1), inr ((λ w d. no_shape line e h (omega arith) d.1), inr ((λ w d. no_id line e h (omega arith) d.1),
-    inr ((λ w d. no_result line e h (omega arith) d.1), inr ((λ w d. no_fen line e h (omega arith) d.1), inl (refl, h.due))))))
+    inr (
+      (λ w d. no_long line e h (omega arith) d.1),
+      inr (
+        (λ w d. no_shape line e h (omega arith) d.1),
+        inr (
+          (λ w d. no_id line e h (omega arith) d.1),
+          inr ((λ w d. no_result line e h (omega arith) d.1), inr ((λ w d. no_fen line e h (omega arith) d.1), inl (refl, h.due))),
+        ),
+      ),
+    )
 refused_to line (refusal.Spelling n) h =
     let e = refusal.Spelling n in
-    inr ((λ w d. no_long line e h (omega arith) d.1), inr ((λ w d. no_shape line e h (omega arith) d.1), inr ((λ w d. no_id line e h (omega arith) d.1),
-    inr ((λ w d. no_result line e h (omega arith) d.1), inr ((λ w d. no_fen line e h (omega arith) d.1), inr ((λ w d. no_start line e h (omega arith) d.1 d.2 d.3),
-    inl (n, sym (append_assoc (field (fields_of line) 0) (codes " spelling ") (decimal n)), h.due)))))))
+    inr (
+      (λ w d. no_long line e h (omega arith) d.1),
+      inr (
+        (λ w d. no_shape line e h (omega arith) d.1),
+        inr (
+          (λ w d. no_id line e h (omega arith) d.1),
+          inr (
+            (λ w d. no_result line e h (omega arith) d.1),
+            inr (
+              (λ w d. no_fen line e h (omega arith) d.1),
+              inr (
+                (λ w d. no_start line e h (omega arith) d.1 d.2 d.3),
+                inl (n, sym (append_assoc (field (fields_of line) 0) (codes " spelling ") (decimal n)), h.due),
+              ),
+            ),
+          ),
+        ),
+      ),
+    )
 refused_to line refusal.Plies h =
     let e = refusal.Plies in
-    inr ((λ w d. no_long line e h (omega arith) d.1), inr ((λ w d. no_shape line e h (omega arith) d.1), inr ((λ w d. no_id line e h (omega arith) d.1),
-    inr ((λ w d. no_result line e h (omega arith) d.1), inr ((λ w d. no_fen line e h (omega arith) d.1), inr ((λ w d. no_start line e h (omega arith) d.1 d.2 d.3),
-    inr ((λ w d. no_spelling line e h (omega arith) d.0 d.2), inl (refl, h.due))))))))
+    inr (
+      (λ w d. no_long line e h (omega arith) d.1),
+      inr (
+        (λ w d. no_shape line e h (omega arith) d.1),
+        inr (
+          (λ w d. no_id line e h (omega arith) d.1),
+          inr (
+            (λ w d. no_result line e h (omega arith) d.1),
+            inr (
+              (λ w d. no_fen line e h (omega arith) d.1),
+              inr (
+                (λ w d. no_start line e h (omega arith) d.1 d.2 d.3),
+                inr ((λ w d. no_spelling line e h (omega arith) d.0 d.2), inl (refl, h.due)),
+              ),
+            ),
+          ),
+        ),
+      ),
+    )
 refused_to line (refusal.Illegal n) h =
     let e = refusal.Illegal n in
-    inr ((λ w d. no_long line e h (omega arith) d.1), inr ((λ w d. no_shape line e h (omega arith) d.1), inr ((λ w d. no_id line e h (omega arith) d.1),
-    inr ((λ w d. no_result line e h (omega arith) d.1), inr ((λ w d. no_fen line e h (omega arith) d.1), inr ((λ w d. no_start line e h (omega arith) d.1 d.2 d.3),
-    inr ((λ w d. no_spelling line e h (omega arith) d.0 d.2), inr ((λ w d. no_plies line e h (omega arith) d.1),
-    inl (n, h.due.0, h.due.1, sym (append_assoc (field (fields_of line) 0) (codes " illegal ") (decimal n)), h.due.2, h.due.3, h.due.4)))))))))
+    inr (
+      (λ w d. no_long line e h (omega arith) d.1),
+      inr (
+        (λ w d. no_shape line e h (omega arith) d.1),
+        inr (
+          (λ w d. no_id line e h (omega arith) d.1),
+          inr (
+            (λ w d. no_result line e h (omega arith) d.1),
+            inr (
+              (λ w d. no_fen line e h (omega arith) d.1),
+              inr (
+                (λ w d. no_start line e h (omega arith) d.1 d.2 d.3),
+                inr (
+                  (λ w d. no_spelling line e h (omega arith) d.0 d.2),
+                  inr (
+                    (λ w d. no_plies line e h (omega arith) d.1),
+                    inl (n, h.due.0, h.due.1, sym (append_assoc (field (fields_of line) 0) (codes " illegal ") (decimal n)), h.due.2, h.due.3, h.due.4),
+                  ),
+                ),
+              ),
+            ),
+          ),
+        ),
+      ),
+    )
 refused_to line (refusal.Conflict n) h = absurd h.due
 refused_to line refusal.Full h = absurd h.due
 refused_to line refusal.Memory h = absurd h.due

@@ -31,8 +31,8 @@ pub record IsGame (g : Game) : Type 0 where
 -- a TAB between each two
 abbrev pub submission_text : Submission → List ℕ
 submission_text s =
-    join_with_byte 9 (s.0 ∷ outcome_text s.1.outcome ∷ fen_text s.1.start ∷ moves_text s.1.moves
-    ∷ [])
+    join_with_byte 9 (s.0 ∷ outcome_text s.1.outcome ∷ fen_text s.1.start
+    ∷ join_with_byte 32 (map spelling s.1.moves) ∷ [])
 
 -- the moves of the game, each with the setup before it
 abbrev pub plies : Game → List Ply

@@ -128,11 +128,13 @@ pub record IsByRow (side : Colour) (from to : ℕ) (c : Castling) : Type 0 where
 -- either way a castling of its side, short or long
 two_files : (m : Moved) (home : ℕ) → (m.from == home && (m.to == m.from + 2 || m.from == m.to + 2)) ≡ true → (m.from ≡ home) × ((m.to ≡ m.from + 2) ⊎ (m.from ≡ m.to + 2))
 two_files m home h =
-    let both = and_parts (m.from == home) (m.to == m.from + 2 || m.from == m.to + 2) h in
-    (eqb-true m.from home both.0, elim (or_cases (m.to == m.from + 2) (m.from == m.to + 2) both.1) [
-      | inl short ↦ inl (eqb-true m.to (m.from + 2) short)
-      | inr long ↦ inr (eqb-true m.from (m.to + 2) long)
-    ])
+    let both = and_parts (m.from == home) (m.to == m.from + 2 || m.from == m.to + 2) h in (
+      eqb-true m.from home both.0,
+      elim (or_cases (m.to == m.from + 2) (m.from == m.to + 2) both.1) [
+        | inl short ↦ inl (eqb-true m.to (m.from + 2) short)
+        | inr long ↦ inr (eqb-true m.from (m.to + 2) long)
+      ],
+    )
 
 pub by_row : (side : Colour) (m : Moved) → is_castling side m ≡ true → (c : Castling) × IsByRow side m.from m.to c
 by_row White m h =
@@ -159,8 +161,8 @@ rook_home_is side m c is =
 pub near_is_none : (side : Colour) (m : Moved) → files_apart m.from m.to ≤ 1 → is_castling side m ≡ false
 near_is_none side m near = none (is_castling side m) refl
   where
-  none : (b : Bool) → is_castling side m ≡ b → b ≡ false
-  none false is = refl
-  none true is =
-      let x = by_row side m is in
-      absurd (let two = class_of_castling x.0 m.from m.to x.1.from_is x.1.to_is in omega arith)
+    none : (b : Bool) → is_castling side m ≡ b → b ≡ false
+    none false is = refl
+    none true is =
+        let x = by_row side m is in
+        absurd (let two = class_of_castling x.0 m.from m.to x.1.from_is x.1.to_is in omega arith)

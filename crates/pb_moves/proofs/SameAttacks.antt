@@ -43,10 +43,20 @@ pub between_to : (a q b : ℕ) → IsLine a b → lower.LiesBetween a q b → ch
 between_to a q b (inl d) h =
     let slant = h.on_diagonal d in
     (h.not_first, h.not_last, h.files, h.ranks, rw (slant.0, d.0) refl)
-between_to a q b (inr (inl s)) h = (h.not_first, h.not_last, h.files, h.ranks,
-    line_first (files_apart a q) (files_apart q b) (ranks_apart a q) (ranks_apart q b) (files_apart a b) (ranks_apart a b) h.files h.ranks s.0)
-between_to a q b (inr (inr s)) h = (h.not_first, h.not_last, h.files, h.ranks,
-    line_second (files_apart a q) (files_apart q b) (ranks_apart a q) (ranks_apart q b) (files_apart a b) (ranks_apart a b) h.files h.ranks s.1)
+between_to a q b (inr (inl s)) h = (
+  h.not_first,
+  h.not_last,
+  h.files,
+  h.ranks,
+  line_first (files_apart a q) (files_apart q b) (ranks_apart a q) (ranks_apart q b) (files_apart a b) (ranks_apart a b) h.files h.ranks s.0,
+)
+between_to a q b (inr (inr s)) h = (
+  h.not_first,
+  h.not_last,
+  h.files,
+  h.ranks,
+  line_second (files_apart a q) (files_apart q b) (ranks_apart a q) (ranks_apart q b) (files_apart a b) (ranks_apart a b) h.files h.ranks s.1,
+)
 
 slants : (f r n m : ℕ) → f * m ≡ r * n → (n ≡ m) × (0 < n) → 0 < f + r → (f ≡ r) × (0 < f)
 slants f r n m line d some = let same : f ≡ r = cancels f r n m line d.0 d.1 in (same, omega arith)

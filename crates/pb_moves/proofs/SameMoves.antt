@@ -195,10 +195,13 @@ own_reach p side board a b own h = let R : Colour → Type 0 = λ c. Attacks c p
 
 case_to : (s : Position) (m : Moved) (p : Piece) (new : Board) → p.colour ≡ s.turn → lower.CaseOf s m p new → chess.MayGo s m p.kind
 case_to s m p new own (lower.piece_move x) =
-    inl (own_reach p s.turn s.board m.from m.to own x.reaches, elim x.target [
-      | inl empty ↦ lands_quiet s p.kind m.to x.no_pawn empty
-      | inr capturable ↦ lands_taking s p.kind m.to (capturable.kind, capturable.no_king, capturable.stands)
-    ])
+    inl (
+      own_reach p s.turn s.board m.from m.to own x.reaches,
+      elim x.target [
+        | inl empty ↦ lands_quiet s p.kind m.to x.no_pawn empty
+        | inr capturable ↦ lands_taking s p.kind m.to (capturable.kind, capturable.no_king, capturable.stands)
+      ],
+    )
 case_to s m p new own (lower.pawn_step x) =
     let ranks : ranks_apart m.from m.to ≡ 1 = step_ranks s.turn 1 m.from m.to x.forward in
     inr (inl (x.pawn, record { same_file = x.same_file; forward = inl x.forward; way = no_near s.board m.from m.to (inl (omega arith, omega arith)); empty = x.empty }))
@@ -320,7 +323,7 @@ module _ (s : Position) (m : Moved) (kind : Kind) (ok : IsSetup s) (is : IsMove 
       let row = castling_row c in
       let none = king_promo m s.turn kind m.promo refl king names in
       let arrives : becoming ≡ king_of row.colour =
-          ap (λ (o : Option Kind). piece_of s.turn (unwrap_or o kind)) none ∙ piece_is piece row.colour King x.side_is king in
+      ap (λ (o : Option Kind). piece_of s.turn (unwrap_or o kind)) none ∙ piece_is piece row.colour King x.side_is king in
       let D : ℕ → ℕ → Piece → Type 0 = λ a b q. let now : List (ℕ × Place) = (a, None) ∷ (b, Some q) ∷ rook_goes row in Differs s.board (puts s.board now) now in
       let one = castled_writes row s.board (rows c) ok.places in
       let two = subst (λ (a : ℕ). D a row.king_to (king_of row.colour)) (sym x.from_is) one in

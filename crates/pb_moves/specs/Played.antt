@@ -31,6 +31,6 @@ abbrev pub Ply : Type 0
 Ply = Position × Moved
 
 -- the moves, each with the setup before it
-abbrev pub plies_from : Position → List Moved → List Ply
+abbrev pub plies_from : Position → List Moved → List (Position × Moved)
 plies_from s [] = []
 plies_from s (m ∷ ms) = (s, m) ∷ plies_from (after s m) ms

@@ -26,7 +26,8 @@ piece_offset p square = 64 * piece_number p + square
 abbrev pub piece_offsets : Board → ℕ → List ℕ
 piece_offsets [] square = []
 piece_offsets (None ∷ board) square = piece_offsets board (square + 1)
-piece_offsets (Some p ∷ board) square = piece_offset p square ∷ piece_offsets board (square + 1)
+piece_offsets (Some p ∷ board) square =
+    (64 * piece_number p + square) ∷ piece_offsets board (square + 1)
 
 -- a pawn of the side to move stands directly beside the square, one file lower or higher
 abbrev pub has_capturer : Board → Colour → ℕ → Bool
