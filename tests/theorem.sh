@@ -28,7 +28,7 @@ program: upper
 library_uses: lower
 END
 
-# 10 tokens on 3 lines, 14 on 2, 21 on 4, 31 on 4, 9 on 2, 5 on 2, 5 on 2 and 7 on 2
+# 10 tokens on 3 lines, 14 on 2, 25 on 4, 31 on 4, 9 on 2, 5 on 2, 5 on 2 and 7 on 2
 put crates/lower/specs/Parts.antt << 'END'
 -- Pairs of numbers.
 -- Everything stands on them.
@@ -47,10 +47,10 @@ abbrev pub sum : Pair → ℕ
 sum p = p.left + p.right
 
 unfoldable pub swapped : Pair → Pair
-swapped p = record {
+swapped p = (λ q _. q) (record {
   left = p.right;
   right = p.left;
-}
+}) unused
 
 -- kept, or swapped
 pub data Kept (p : Pair) : Type 0 where
@@ -149,15 +149,23 @@ pub enum Colour {
     Blue(Tone),
 }
 
-impl Colour {}
+impl Colour {
+    ghost use Rattle.lower.specs.Parts.{unused};
+
+    fn tone(self) -> u32
+        ensures { result ≡ unused }
+    {
+        0
+    }
+}
 END
 
-# The contracts of `double` and `public`, and the model.
+# The contracts of both `double` and of `public`, up to a brace, and the models
 put crates/upper/src/tone.rt << 'END'
 //! Tones.
 
 ghost use Rattle.std.specs.Prelude.{◌≡◌};
-ghost use Rattle.lower.specs.Parts.{Pair, hidden, plain, twice};
+ghost use Rattle.lower.specs.Parts.{Pair, hidden, plain, twice, unused};
 
 /// A tone.
 pub struct Tone {
@@ -165,8 +173,6 @@ pub struct Tone {
 }
 
 impl Model for Tone {
-    ghost use Rattle.lower.specs.Parts.{unused};
-
     ghost Value = { Pair };
 
     ghost invariant = { unused };
@@ -185,21 +191,27 @@ impl Doubles for Tone {
     fn double(&self) -> u32
         ensures { result ≡ hidden }
     {
-        hidden(self)
+        unused(self)
     }
 }
 
 pub fn public(tone: &Tone) -> u32
-    ensures { result ≡ record {
-      one = 1;
-      three = plain;
+    ensures { result ≡ plain }
+    ensures again { result ≡ record {
+      three = unused;
     } }
 {
-    hidden(tone)
+    unused(tone)
 }
 
+pub fn empty()
+    ensures { plain ≡ plain }
+{}
+
+const FIVE: u32 = unused;
+
 pub(crate) fn inner() -> u32
-    ensures { result ≡ hidden }
+    ensures { result ≡ unused }
 {
     0
 }
@@ -221,11 +233,11 @@ put crates/library_uses/specs/Lib.antt < /dev/null
 # counts: what a definition rests on is counted, by its own name, by a case and by what is passed on
 counts() {
     holds test "$(theorem --count --of upper.Top.Promise)" = \
-        '7 definitions, 20 lines, 122 tokens, 4 files'
+        '7 definitions, 20 lines, 126 tokens, 4 files'
     holds test "$(theorem --count --of lower.Parts.same)" = \
-        '4 definitions, 13 lines, 76 tokens, 1 files'
+        '4 definitions, 13 lines, 80 tokens, 1 files'
     holds test "$(theorem --count --of upper.Passed.turned_round)" = \
-        '2 definitions, 7 lines, 31 tokens, 1 files'
+        '2 definitions, 7 lines, 35 tokens, 1 files'
     holds test "$(theorem --count --of lower.Parts.unused)" = \
         '1 definitions, 2 lines, 7 tokens, 1 files'
 }
@@ -233,8 +245,8 @@ counts() {
 # contracts: public contracts and models are counted, and no body, invariant or other function
 contracts() {
     theorem --contracts > "$work/printed"
-    printf '%s\n' 'crates/lower/specs/Parts.antt: 3 definitions, 7 lines, 24 tokens' \
-        '3 definitions, 7 lines, 24 tokens, 1 files' > "$work/due"
+    printf '%s\n' 'crates/lower/specs/Parts.antt: 4 definitions, 9 lines, 29 tokens' \
+        '4 definitions, 9 lines, 29 tokens, 1 files' > "$work/due"
     holds diff "$work/due" "$work/printed"
 }
 
@@ -274,10 +286,10 @@ abbrev pub sum : Pair → ℕ
 sum p = p.left + p.right
 
 unfoldable pub swapped : Pair → Pair
-swapped p = record {
+swapped p = (λ q _. q) (record {
   left = p.right;
   right = p.left;
-}
+}) unused
 
 -- kept, or swapped
 pub data Kept (p : Pair) : Type 0 where
@@ -322,7 +334,7 @@ Rattle.std.specs.Prelude
     ◌∷◌
     ◌+◌
 
-7 definitions, 20 lines, 122 tokens, 4 files
+7 definitions, 20 lines, 126 tokens, 4 files
 END
     holds diff "$work/due" "$work/printed"
     theorem --of lower.Parts.plain | sed '/^plain = /q' > "$work/printed"

@@ -2,7 +2,8 @@
 
 A definition rests on those whose names stand in it, by the imports of its file. A line of it counts
 where it has a token: a name, a number or a run of signs. Brackets, commas, comments, ℕ, λ, and the
-words `pub`, `abbrev`, `unfoldable` and `inline` are none.
+words `pub`, `abbrev`, `unfoldable` and `inline` are none. A line that begins with a closing brace
+doesn't count.
 """
 import dataclasses
 import functools
@@ -31,19 +32,15 @@ def imports(source):
 
 def contract_words(source):
     """The words of the contracts of public functions and of members of traits, and of what models
-    of types show, by the layout of `rt fmt`."""
-    words, indent, is_trait, is_function, open_braces = set(), None, False, False, 0
+    of types show. It reads lines and no grammar: a contract up to its first line that ends with a
+    brace or a semicolon, of a model the first line, and in a file with a trait each method."""
+    begins = r"\s*pub fn \w|    fn \w" if "trait " in source else r"\s*pub fn \w"
+    words, is_inside = set(), False
     for line in source.split("\n"):
-        is_trait = (is_trait or line.startswith("pub trait ")) and not line.startswith("}")
-        begun = re.match(r"( *)(pub fn|fn|(?:pub )?ghost (?:Value|view|state|content)\b)", line)
-        if indent is None and begun and (begun[2] != "fn" or is_trait):
-            indent, is_function, open_braces = begun[1], begun[2].endswith("fn"), 0
-        if indent is not None:
+        is_inside = is_inside or bool(re.match(begins, line))
+        if is_inside or re.match(r"\s*(pub )?ghost (Value|view|state|content)\b", line):
             words.update(TOKEN.findall(line))
-            open_braces += line.count("{") - line.count("}")
-            is_body = is_function and line.endswith(("{", "{}")) and line[len(indent)] != " "
-            if is_body or (open_braces == 0 and line.endswith(";")):
-                indent = None
+        is_inside = is_inside and not re.search(r"^\s*\{|[;{]$", line)
     return words
 
 
@@ -65,8 +62,8 @@ class Definition:
 
     @functools.cached_property
     def tokens(self):
-        """The tokens of each line that has any."""
-        bare = [re.sub(r"(^|\s)\s*--(\s.*|$)", "", line) for line in self.lines]
+        """The tokens of each line that counts."""
+        bare = [re.sub(r"^}.*|(^|\s)\s*--(\s.*|$)", "", line) for line in self.lines]
         found = [[it for it in TOKEN.findall(line) if it not in NO_TOKENS] for line in bare]
         return [it for it in found if it]
 
