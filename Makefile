@@ -25,7 +25,7 @@ WANTS_TOOLCHAIN = command -v rt > /dev/null || { \
 # The program that tests and measurements run. The gate leaves it there.
 EXAMPLES := crates/worked_examples/out/worked_examples
 
-.PHONY: build unproved install dist demo check dev test test-bodies test-hostile test-files \
+.PHONY: build unproved install dist demo theorem check dev test test-bodies test-hostile test-files \
     test-order test-locks test-messages test-memory test-growths test-io test-noise test-replies \
     test-completions test-examples test-dist test-journal test-crashes test-wrong-programs bench \
     clean
@@ -68,6 +68,11 @@ dist: $(PROGRAM)
 demo:
 	@sh scripts/demo.sh
 
+# Prints the definitions that the theorem of `pbook collect` rests on, in reading order, and how
+# much that is.
+theorem:
+	@python3 -B scripts/theorem.py
+
 # Builds the program once without proof, with a check in the place of each, and tries it in a few
 # minutes. Nothing is proved.
 check:
@@ -85,6 +90,8 @@ dev:
 test:
 	@$(WANTS_TOOLCHAIN)
 	@sh scripts/named_mistakes.sh
+	@sh tests/theorem.sh
+	@python3 -B scripts/theorem.py --check
 	@scripts/bodies.py --before-gate
 	rt ci
 	@scripts/bodies.py --after-gate

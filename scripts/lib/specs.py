@@ -1,0 +1,162 @@
+"""Reads the definitions of crates/*/specs, finds what rests on what, and counts it.
+
+A definition rests on those whose names stand in it, by the imports of its file. A line of it counts
+where it has a token: a name, a number or a run of signs. Brackets, commas, comments, ℕ, λ, and the
+words `pub`, `abbrev`, `unfoldable` and `inline` are none. A line that begins with a closing brace
+doesn't count.
+"""
+import dataclasses
+import functools
+import re
+
+TOKEN = re.compile(r"[A-Za-z_][\w'-]*|\d+|[^\s\w(){}\[\],]+")
+NO_TOKENS = {"pub", "abbrev", "unfoldable", "inline"}
+# A module with the names that are taken from it, or with a name for itself, or with its own.
+IMPORT = re.compile(r"^\s*(?:\w+ )*use ([\w.]*?)(\w+)(?:\.\{([^}]*)\}| as (\w+))?;?$", re.M)
+# The words before the name of what is defined.
+BEFORE = r"(?:(?:abbrev|unfoldable|inline|pub|record|data) )*"
+
+
+def imports(source):
+    """What each imported name stands for: a module and a name there. A name for a module stands for
+    the module and none."""
+    found = {}
+    for above, last, names, alias in IMPORT.findall(source):
+        for item in filter(None, (it.strip() for it in names.split(","))):
+            name, _, local = item.partition(" as ")
+            found[local or name] = above + last, name
+        if not names:
+            found[alias or last] = above + last, None
+    return found
+
+
+def contract_words(source):
+    """The words of the contracts of public functions and of members of traits, and of what models
+    of types show. It reads lines and no grammar: a contract up to its first line that ends with a
+    brace or a semicolon, of a model the first line, and in a file with a trait each method."""
+    begins = r"\s*pub fn \w|    fn \w" if "trait " in source else r"\s*pub fn \w"
+    words, is_inside = set(), False
+    for line in source.split("\n"):
+        is_inside = is_inside or bool(re.match(begins, line))
+        if is_inside or re.match(r"\s*(pub )?ghost (Value|view|state|content)\b", line):
+            words.update(TOKEN.findall(line))
+        is_inside = is_inside and not re.search(r"^\s*\{|[;{]$", line)
+    return words
+
+
+def count_of(found):
+    """How much these definitions are."""
+    lines, files = [line for it in found for line in it.tokens], {it.file for it in found}
+    tokens = sum(map(len, lines))
+    return f"{len(found)} definitions, {len(lines)} lines, {tokens} tokens, {len(files)} files"
+
+
+@dataclasses.dataclass(eq=False)
+class Definition:
+    """A definition: its file as CRATE.FILE, the comment over its part of the file, and its lines,
+    with the comments above them."""
+
+    file: str
+    part: str
+    lines: list
+
+    @functools.cached_property
+    def tokens(self):
+        """The tokens of each line that counts."""
+        bare = [re.sub(r"^}.*|(^|\s)\s*--(\s.*|$)", "", line) for line in self.lines]
+        found = [[it for it in TOKEN.findall(line) if it not in NO_TOKENS] for line in bare]
+        return [it for it in found if it]
+
+    @functools.cached_property
+    def words(self):
+        """All its tokens."""
+        return {it for line in self.tokens for it in line}
+
+
+class Specs:
+    """The definitions of all crates below a folder, by file and name, the cases of each `data`, the
+    imports of each file, and the comment with which it begins."""
+
+    def __init__(self, crates):
+        self.crates, self.imports, self.heads = crates, {}, {}
+        self.definitions, self.cases = {}, {}
+        for path in sorted(crates.glob("*/specs/*.antt")):
+            self.read(f"{path.parts[-3]}.{path.stem}", path.read_text(encoding="utf-8"))
+
+    def read(self, file, source):
+        """Reads a file. A comment that stands alone is over what follows."""
+        self.imports[file] = imports(source)
+        own, part, is_data = None, "", False
+        for block in source.split("\n\n"):
+            notes = []
+            for line in filter(None, block.split("\n")):
+                if line.startswith("--"):
+                    notes.append(line)
+                elif line.startswith((" ", "}")):
+                    own.lines.append(line)
+                    case = is_data and re.match(r" +([a-z_]\w*) :", line)
+                    if case:
+                        self.cases[file, case[1]] = own
+                elif not re.match(r"(pub )?(use|mod) ", line):
+                    name = re.match(rf"{BEFORE}([^\s(:{{]+)", line)[1]
+                    own = self.definitions.setdefault((file, name), Definition(file, part, []))
+                    own.lines += [*notes, line]
+                    notes, is_data = [], line.startswith(("data ", "pub data "))
+            if notes:
+                part = "\n".join(notes)
+                self.heads.setdefault(file, part)
+
+    def find(self, file, name):
+        """The definition that a name stands for in a file, or none."""
+        own = self.definitions.get((file, name)) or self.cases.get((file, name))
+        return own or self.find_import(self.imports.get(file, {}).get(name))
+
+    def find_import(self, imported):
+        """The definition that is imported so, or none. A crate may pass on a module by its Lib."""
+        module, name = imported or ("", None)
+        place = re.fullmatch(r"Rattle\.(\w+)\.specs\.(\w+)", module)
+        if not place:
+            return None
+        passed = self.imports.get(f"{place[1]}.Lib", {}).get(place[2])
+        if passed:
+            return self.find_import((passed[0], name))
+        return self.find(f"{place[1]}.{place[2]}", name)
+
+    def cited(self, own):
+        """The definitions that this one names, by their names or with that of a module in front."""
+        known = self.imports[own.file]
+        for line in own.tokens:
+            yield from (self.find(own.file, word) for word in line)
+            for alias, point, name in zip(line, line[1:], line[2:]):
+                module, among = known.get(alias, ("", alias))
+                if point == "." and not among:
+                    yield self.find_import((module, name))
+
+    def closure(self, seeds):
+        """All that these definitions rest on, they included, in the order of their files."""
+        seen, left = {None}, list(seeds)
+        while left:
+            own = left.pop()
+            if own not in seen:
+                seen.add(own)
+                left += self.cited(own)
+        return [it for it in self.definitions.values() if it in seen]
+
+    def of_contracts(self):
+        """The definitions that public contracts name. Crates without specs/ have none, nor has
+        library_uses, which serves tests."""
+        for path in sorted(self.crates.glob("*/src/*.rt")):
+            if (path.parents[1] / "specs").is_dir() and path.parts[-3] != "library_uses":
+                source = path.read_text(encoding="utf-8")
+                known = imports(source)
+                yield from (self.find_import(known.get(it)) for it in contract_words(source))
+
+    def imported(self, found):
+        """The imports whose names stand in these definitions, each once."""
+        named = [self.imports[it.file][local] for it in found for local in self.named(it)]
+        return list(dict.fromkeys(named))
+
+    def named(self, own):
+        """The imported names that stand in a definition. A circle is the place of an argument."""
+        tokens = {it: TOKEN.findall(it.replace("◌", " ")) for it in self.imports[own.file]}
+        return [it for it, parts in tokens.items() if own.words.issuperset(parts)]

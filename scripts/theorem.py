@@ -1,0 +1,203 @@
+#!/usr/bin/env python3
+"""Prints what the theorem of `pbook collect` rests on, in reading order.
+
+Usage: python3 -B scripts/theorem.py [--count] [--of CRATE.FILE.NAME]
+       python3 -B scripts/theorem.py --contracts
+       python3 -B scripts/theorem.py --check
+It runs at the top of the repository. `make theorem` and `make test` call it.
+
+Each definition is printed as it stands in crates/*/specs, with its comments. Then come the types of
+the code that definitions name, and the words of the toolchain's library, where `rt` is to be had.
+--of begins with another definition. --count prints the last line alone, which tells how much it is
+(scripts/lib/specs.py says what counts). --contracts tells that of what all public contracts rest
+on, file by file. --check compares docs/THEOREM.md with the count.
+"""
+import argparse
+import json
+import pathlib
+import re
+import shutil
+import signal
+import subprocess
+import sys
+
+from lib.specs import BEFORE, Specs, count_of, imports
+
+DOCUMENT = pathlib.Path("docs/THEOREM.md")
+HEADLINE = "pb_collecting.Headline.HasHeadline"
+# The files of specs in reading order. All others come after them, by their crates.
+ORDER = """
+    pb_collecting.Headline
+    pb_accepted.Accepting pb_accepted.Laws pb_accepted.Holding pb_accepted.Replies
+    pb_games.Refusing pb_board.Refusal
+    pb_games.Submissions pb_games.Ids pb_games.Results pb_games.Words pb_games.Limits
+    pb_io.Lines pb_board.LineEnd pb_board.Fields pb_board.Text pb_moves.Spelling
+    pb_board.Board pb_board.Piece pb_board.Position pb_board.Castling
+    pb_moves.Attacks pb_moves.Moved pb_moves.Successor pb_moves.Legal pb_moves.Played
+    pb_poly.Table pb_poly.Key pb_poly.Code
+    pb_accepted.Counting pb_accepted.Basis pb_points.Tally pb_points.Weight
+    pb_collecting.OneText pb_poly.Book pb_poly.Entry
+    pb_accepted.Rules pb_collecting.Ends pb_io.Source pb_io.Sink
+""".split()
+
+
+def by_files(found, first):
+    """Definitions by the paths of their files, in reading order: of this file first."""
+    crates = re.findall(r"^(\w+):", pathlib.Path("crates.txt").read_text(encoding="utf-8"), re.M)
+
+    def place(own):
+        crate, name = own.file.split(".")
+        at = ORDER.index(own.file) if own.file in ORDER else len(ORDER)
+        return own.file != first, at, crates.index(crate), name
+
+    files = {}
+    for own in sorted(found, key=place):
+        path = f"crates/{own.file.replace('.', '/specs/')}.antt"
+        files.setdefault(path, []).append(own)
+    return files
+
+
+def declared_of(folder, module):
+    """The file below this folder and the name of the type whose names the module has, or none."""
+    crate, declared, place = module.removeprefix("Rattle.").partition(".specs.declared.")
+    *folders, name = re.sub(r"\.The\w+$", "", place).split(".")
+    file = folder.joinpath(crate, "src", *folders).with_suffix(".rt")
+    return (file, name) if declared and file.is_file() else None
+
+
+def declaration(source, name):
+    """The declaration of a type with its doc comments, without attributes."""
+    above = r"(?:^(?:///|#\[)[^\n]*\n)*"
+    kind = rf"^(?:pub(?:\(\w+\))? )?(?:struct|enum) {name}\b(?:[^;{{]*;|.*?^\}})"
+    found = re.search(f"{above}{kind}", source, re.M | re.S)
+    return re.sub(r"^ *#\[[^]]*\]\n", "", found[0], flags=re.M)
+
+
+class Library:
+    """The toolchain's library, which declares the words of std."""
+
+    def __init__(self):
+        told = subprocess.run(["rt", "doc"], capture_output=True, text=True, check=True).stdout
+        self.root = pathlib.Path(told.strip()).parent / "rattle"
+        project = (self.root / "logic/antt-project.json").read_text(encoding="utf-8")
+        self.mounts = {"Rattle": "..", **json.loads(project)["mounts"]}
+
+    def file(self, module):
+        """The file of a module, or none: one that is built in has none."""
+        root, *rest = module.split(".")
+        folder = self.root / "logic" / self.mounts.get(root, root)
+        files = [it.joinpath(*rest).with_suffix(".antt") for it in (folder, folder / "src")]
+        return next((it.resolve() for it in files if it.is_file()), None)
+
+    def passed_on(self, module):
+        """The module that a crate passes on by its Lib in the place of this one, or none."""
+        place = re.fullmatch(r"(Rattle\.\w+\.specs)\.(\w+)(.*)", module)
+        lib = place and self.file(f"{place[1]}.Lib")
+        passed = imports(lib.read_text(encoding="utf-8")).get(place[2]) if lib else None
+        return passed and passed[0] + place[3]
+
+    def find(self, module, name):
+        """Where a word is declared that is imported so, and the first line of that."""
+        declared, file = declared_of(self.root, module), self.file(module)
+        if declared:
+            return declared
+        if not file:
+            passed = self.passed_on(module)
+            return self.find(passed, name) if passed else (module, name)
+        source = file.read_text(encoding="utf-8")
+        found = re.search(rf"^ *{BEFORE}((?:\w+ )*{re.escape(name)} .*: .*)", source, re.M)
+        passed = imports(source).get(name)
+        if passed and not found:
+            return self.find(*passed)
+        return file, found[1] if found else name
+
+
+def print_definitions(specs, files):
+    """Prints definitions below the paths of their files and the comments that they stand under."""
+    for path, found in files.items():
+        print(f"==== {path}\n")
+        told = {""}
+        for own in found:
+            for comment in (specs.heads.get(own.file, ""), own.part):
+                if comment not in told:
+                    print(f"{comment}\n")
+                    told.add(comment)
+            print(*own.lines, "", sep="\n")
+
+
+def print_types(specs, imported):
+    """Prints the types of the code that definitions name, and what they see in place of others
+    that these have in their fields."""
+    types = {}
+    for path, name in filter(None, (declared_of(specs.crates, it) for it, _ in imported)):
+        types.setdefault(path, {})[name] = declaration(path.read_text(encoding="utf-8"), name)
+    for path, names in types.items():
+        print(f"==== {path}", *names.values(), "", sep="\n\n", end="")
+    texts = "".join(it for names in types.values() for it in names.values())
+    fields = set(re.findall(r"(?:: |[(<])(\w+)", re.sub("///.*", "", texts)))
+    model = r"^impl\S* Model for (\w+)(?:(?!^\}).)*?ghost Value = \{ (.*?) \};"
+    print("==== What definitions see in the place of types of fields\n")
+    for path in sorted(specs.crates.glob("*/src/*.rt")):
+        for name, value in re.findall(model, path.read_text(encoding="utf-8"), re.M | re.S):
+            if name in fields:
+                print(f"{name} ({path}): {value}")
+
+
+def print_words(specs, imported):
+    """Prints the words of the toolchain's library that stand in definitions, by where they are
+    declared; without the toolchain, by where they are imported from."""
+    library, places = Library() if shutil.which("rt") else None, {}
+    for module, name in imported:
+        if name and not (specs.crates / module.split(".")[1]).is_dir():
+            place, line = library.find(module, name) if library else (module, name)
+            line = line if name in line.split() else f"{name}: {line}"
+            places.setdefault(str(place), {})[line] = None
+    print("\n==== Words of the toolchain's library")
+    for place, lines in sorted(places.items()):
+        print("", place, *(f"    {it}" for it in lines), sep="\n")
+
+
+def check(found):
+    """Says whether the document tells how much these definitions are, and whether the order names
+    no other file."""
+    lines = sum(len(it.tokens) for it in found)
+    due = f"the definitions: {len(found)}, on {lines} lines"
+    if due not in " ".join(DOCUMENT.read_text(encoding="utf-8").split()):
+        sys.exit(f"{DOCUMENT}: it has to say '{due}'")
+    left = {*ORDER} - {it.file for it in found}
+    if left:
+        sys.exit(f"scripts/theorem.py: the order names {' '.join(sorted(left))} for nothing")
+    print(f"{DOCUMENT} tells how much the theorem rests on: {count_of(found)}")
+
+
+def main():
+    # A reader may leave before the end.
+    signal.signal(signal.SIGPIPE, signal.SIG_DFL)
+    parser = argparse.ArgumentParser(usage=__doc__)
+    for option in ("--count", "--contracts", "--check"):
+        parser.add_argument(option, action="store_true")
+    parser.add_argument("--of", default=HEADLINE)
+    given = parser.parse_args()
+    specs = Specs(pathlib.Path("crates"))
+    file, _, name = given.of.rpartition(".")
+    seeds = list(specs.of_contracts()) if given.contracts else [specs.find(file, name)]
+    found = specs.closure(seeds)
+    if not found:
+        sys.exit(f"scripts/theorem.py: no definition is named {given.of}")
+    if given.check:
+        return check(found)
+    files = by_files(found, file)
+    if given.contracts:
+        for path, own in files.items():
+            print(f"{path}: {count_of(own).rpartition(',')[0]}")
+    elif not given.count:
+        print_definitions(specs, files)
+        imported = specs.imported([it for own in files.values() for it in own])
+        print_types(specs, imported)
+        print_words(specs, imported)
+        print()
+    return print(count_of(found))
+
+
+if __name__ == "__main__":
+    main()
