@@ -28,16 +28,15 @@ HEADLINE = "pb_collecting.Headline.HasHeadline"
 # The files of specs in reading order. All others come after them, by their crates.
 ORDER = """
     pb_collecting.Headline
-    pb_accepted.Accepting pb_accepted.Laws pb_accepted.Holding pb_accepted.Replies
-    pb_games.Refusing pb_board.Refusal
-    pb_games.Submissions pb_games.Ids pb_games.Results pb_games.Words pb_games.Limits
-    pb_io.Lines pb_board.LineEnd pb_board.Fields pb_board.Text pb_moves.Spelling
-    pb_board.Board pb_board.Piece pb_board.Position pb_board.Castling
+    pb_accepted.Replying pb_games.Refusals pb_board.Refusal
+    pb_games.Submissions pb_games.Ids pb_games.Results pb_games.Words
+    pb_io.Lines pb_board.Fields pb_board.Text pb_board.Rights pb_moves.Spelling
+    pb_board.Board pb_board.Piece pb_board.Position
     pb_moves.Attacks pb_moves.Moved pb_moves.Successor pb_moves.Legal pb_moves.Played
     pb_poly.Table pb_poly.Key pb_poly.Code
-    pb_accepted.Counting pb_accepted.Basis pb_points.Tally pb_points.Weight
-    pb_collecting.OneText pb_poly.Book pb_poly.Entry
-    pb_accepted.Rules pb_collecting.Ends pb_io.Source pb_io.Sink
+    pb_accepted.Counting pb_accepted.Basis pb_points.Weight
+    pb_poly.Book pb_poly.Entry
+    pb_accepted.Rules pb_collecting.Ends pb_io.Source pb_io.Count pb_io.Sink
 """.split()
 
 
