@@ -55,9 +55,9 @@ module _ (rules : CountingRules) (e : EndStates) (file bytes put : List ℕ) (to
 
 -- bytes that are a table file are never refused
 no_table : (file randoms : List ℕ) (e : TableFault) → IsTableFile randoms file → AsTable file (Err e) → ⊥
-no_table file randoms table.Long is h = let few = is.few in omega (arith, few, h)
-no_table file randoms (table.Line n) is h = let same = only_memory randoms file (poly.Line n) is.text h.1 in cc
-no_table file randoms (table.Count n) is h = let same = only_memory randoms file (poly.Count n) is.text h.1 in cc
+no_table file randoms table.Long is h = let few = is.0 in omega (arith, few, h)
+no_table file randoms (table.Line n) is h = let same = only_memory randoms file (poly.Line n) is.1 h.1 in cc
+no_table file randoms (table.Count n) is h = let same = only_memory randoms file (poly.Count n) is.1 h.1 in cc
 no_table file randoms (table.Fault fault) is h = h
 
 pub never_refused : (rules : CountingRules) (fills : ℕ) (e : EndStates) (file : List ℕ) → e.table.old.to_come ≡ Some file → (why : Unread) × CollectRun rules fills e (Err (stopped.Unread why))
