@@ -1,4 +1,4 @@
--- Castling rights as a choice of numbers.
+-- Numbers that count only if something is so, as those that stand for castling rights.
 use Rattle.std.specs.Prelude.{ℕ, Bool, List, [], ◌∷◌, ◌++◌, if◌then◌else◌}
 use Rattle.pb_board.specs.declared.setup.Rights.{Rights}
 

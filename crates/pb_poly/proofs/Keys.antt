@@ -6,22 +6,12 @@ use Rattle.pb_board.specs.declared.piece.Colour.{Colour}
 use Rattle.pb_board.specs.declared.setup.Rights.{Rights}
 use Rattle.pb_board.specs.Board.{Board}
 use Rattle.pb_board.specs.Position.{Position}
-use Rattle.pb_board.specs.Rights.{only_if}
 use Rattle.pb_poly.specs.Key.{key, en_passant_offsets, piece_offsets}
 use Rattle.pb_poly.specs.KeyChange.{toggled}
 use Rattle.pb_poly.proofs.Offsets.{right_offsets, turn_offsets}
 
 pub toggled-append : (words : List ℕ) (k : ℕ) (xs ys : List ℕ) → toggled words k (xs ++ ys) ≡ toggled words (toggled words k xs) ys
 toggled-append words k xs ys = fold-append (λ n offset. bit_xor n (slice_index words offset)) k xs ys
-
--- the castling rights, one after the other
-pub rights_in_parts : (words : List ℕ) (r : Rights) (k a b c d : ℕ) → a ≡ toggled words k (only_if r.white_short 768) → b ≡ toggled words a (only_if r.white_long 769)
-    → c ≡ toggled words b (only_if r.black_short 770) → d ≡ toggled words c (only_if r.black_long 771) → d ≡ toggled words k (right_offsets r)
-rights_in_parts words r k a b c d first second third fourth =
-    let later = only_if r.black_short 770 ++ only_if r.black_long 771 in
-    fourth ∙ ap (λ n. toggled words n (only_if r.black_long 771)) third ∙ sym (toggled-append words b (only_if r.black_short 770) (only_if r.black_long 771))
-    ∙ ap (λ n. toggled words n later) second ∙ sym (toggled-append words a (only_if r.white_long 769) later)
-    ∙ ap (λ n. toggled words n (only_if r.white_long 769 ++ later)) first ∙ sym (toggled-append words k (only_if r.white_short 768) (only_if r.white_long 769 ++ later))
 
 -- the parts of the code, one after the other
 pub key_in_parts : (words : List ℕ) (s : Position) (board : Board) (rights : Rights) (turn : Colour) (a b c d : ℕ) → board ≡ s.board → rights ≡ s.rights → turn ≡ s.turn

@@ -64,10 +64,10 @@ pub(crate) fn toggle_if(table: &Table, key: u64, flag: bool, offset: usize) -> u
 pub(crate) fn toggle_rights(table: &Table, key: u64, rights: Rights) -> u64
     ensures { result ≡ toggled table.now key (of_rights rights 768 769 770 771) }
 {
-    let white_short = toggle_if(table, key, rights.white_short, CASTLING_START);
-    let white_long = toggle_if(table, white_short, rights.white_long, CASTLING_START + 1);
-    let black_short = toggle_if(table, white_long, rights.black_short, CASTLING_START + 2);
-    toggle_if(table, black_short, rights.black_long, CASTLING_START + 3)
+    let key = toggle_if(table, key, rights.white_short, CASTLING_START);
+    let key = toggle_if(table, key, rights.white_long, CASTLING_START + 1);
+    let key = toggle_if(table, key, rights.black_short, CASTLING_START + 2);
+    toggle_if(table, key, rights.black_long, CASTLING_START + 3)
 }
 
 /// Whether a pawn of this side stands on the square of this index.
