@@ -1,5 +1,7 @@
 -- The bytes of a table file, fill after fill.
-use Rattle.std.proofs.Common.{◌≡◌, ◌∙◌, ℕ, ◌+◌, ◌<◌, ◌≤◌, List, ◌++◌, Ok, Err, append-nil, arith, length, length-append, length-take, subst, sym, take}
+use Rattle.std.proofs.Common.{◌≡◌, ◌∙◌, ap, append_assoc, ℕ, ◌+◌, ◌<◌, ◌≤◌, List, ◌++◌, Ok, Err, append-nil, arith, length, length-append, length-take, subst, sym, take}
+use Rattle.std.proofs.Math.Seq.{take-append-add}
+use Rattle.std.proofs.lemmas.List.{take-append-le, take-take}
 use Rattle.pb_io.specs.Source.{Fill, SourceState}
 use Rattle.pb_io.specs.Reads.{ReadsAll, ReadsOn}
 use Rattle.pb_io.specs.declared.source.Failed.{Failed}
@@ -42,3 +44,12 @@ module _ (n : ℕ) (old mid new : SourceState) (held : List ℕ) (on : ReadsOn t
           few = omega (arith, few);
         }
     fill_fails held' _ few h = absurd h
+
+-- what is held, and then a front of a slice that was put behind it
+pub front_held : (n k room : ℕ) (front slice rest behind : List ℕ) → length front ≡ n → k ≤ length slice → n + k ≤ room
+    → take (n + k) (take room ((front ++ (slice ++ rest)) ++ behind)) ≡ front ++ take k slice
+front_held n k room front slice rest behind len within fits =
+    take-take (n + k) room ((front ++ (slice ++ rest)) ++ behind) fits
+    ∙ ap (take (n + k)) (append_assoc front (slice ++ rest) behind ∙ ap (λ (w : List ℕ). front ++ w) (append_assoc slice rest behind))
+    ∙ subst (λ (m : ℕ). take (m + k) (front ++ (slice ++ (rest ++ behind))) ≡ front ++ take k slice) len
+    (take-append-add front (slice ++ (rest ++ behind)) k ∙ ap (λ (w : List ℕ). front ++ w) (take-append-le k slice (rest ++ behind) within))
