@@ -28,7 +28,7 @@ HEADLINE = "pb_collecting.Headline.HasHeadline"
 # The files of specs in reading order. All others come after them, by their crates.
 ORDER = """
     pb_collecting.Headline
-    pb_accepted.Replying pb_games.Refusals pb_board.Refusal
+    pb_accepted.Replying pb_accepted.Refusals pb_games.Refusing pb_board.Refusal
     pb_games.Submissions pb_games.Ids pb_games.Results pb_games.Words
     pb_io.Lines pb_board.Fields pb_board.Text pb_board.Rights pb_moves.Spelling
     pb_board.Board pb_board.Piece pb_board.Position

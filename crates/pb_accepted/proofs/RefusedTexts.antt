@@ -15,7 +15,8 @@ use Rattle.pb_games.specs.declared.refusal.Refusal.{Refusal}
 use Rattle.pb_games.specs.declared.refusal.Refusal.TheVariants as refusal
 use Rattle.pb_games.specs.Header.{fields_of}
 use Rattle.pb_games.specs.Ids.{IsId}
-use Rattle.pb_games.specs.Refusals.{IsRefused, SpellsStart}
+use Rattle.pb_accepted.specs.Refusals.{IsRefused}
+use Rattle.pb_games.specs.Refusing.{SpellsStart}
 use Rattle.pb_games.specs.Refusing.{IsDue, Refuses}
 use Rattle.pb_games.specs.Words.{words_of}
 use Rattle.pb_games.proofs.Dues.{none_before, order}

@@ -7,11 +7,11 @@ pub mod Laws
 pub mod Ledger
 pub mod Noting
 pub mod Replies
+pub mod Refusals
 pub mod Replying
 pub mod Rules
 pub use Rattle.pb_games.specs.Ids
 pub use Rattle.pb_games.specs.Laws as LineLaws
-pub use Rattle.pb_games.specs.Refusals
 pub use Rattle.pb_games.specs.Refusing
 pub use Rattle.pb_games.specs.Results
 pub use Rattle.pb_games.specs.Submissions

@@ -12,7 +12,7 @@
 use Rattle.std.specs.Prelude.{◌≡◌, ◌≢◌, ℕ, ◌+◌, ◌<◌, ◌≤◌, ◌↔◌, List, [], ◌∷◌, ◌++◌, length, codes}
 use Rattle.std.specs.Prelude.{decimal, slice_get, Some, All, AllPairs}
 use Rattle.pb_games.specs.declared.game.Game.{Game}
-use Rattle.pb_games.specs.Refusals.{IsRefused}
+use Rattle.pb_accepted.specs.Refusals.{IsRefused}
 use Rattle.pb_games.specs.Submissions.{Submission, IsLawful}
 
 -- the submission is number n of the list, from 1

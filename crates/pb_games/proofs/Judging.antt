@@ -21,7 +21,7 @@ use Rattle.pb_games.specs.Header.{IsHeader, fields_of}
 use Rattle.pb_games.specs.LineFields.{submission_of, IsChecked}
 use Rattle.pb_games.specs.Reading.{AreRead, AreRefused}
 use Rattle.pb_games.specs.Refusing.{Refuses}
-use Rattle.pb_games.specs.Refusals.{SpellsStart}
+use Rattle.pb_games.specs.Refusing.{SpellsStart}
 use Rattle.pb_games.specs.Results.{outcome_text}
 use Rattle.pb_games.specs.Submissions.{IsLawful, IsGame, moves_text, submission_text}
 use Rattle.pb_games.specs.Words.{words_of, move_named, moves_named}

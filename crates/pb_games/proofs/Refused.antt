@@ -21,7 +21,7 @@ use Rattle.pb_games.specs.declared.refusal.Refusal.TheVariants as refusal
 use Rattle.pb_games.specs.Ids.{IsId}
 use Rattle.pb_games.specs.Header.{fields_of}
 use Rattle.pb_games.specs.Refusing.{IsOfLine}
-use Rattle.pb_games.specs.Refusals.{SpellsStart}
+use Rattle.pb_games.specs.Refusing.{SpellsStart}
 use Rattle.pb_games.specs.Results.{outcome_text}
 use Rattle.pb_games.specs.Submissions.{Submission, IsLawful, moves_text}
 use Rattle.pb_games.specs.Words.{words_of}

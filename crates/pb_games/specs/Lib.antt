@@ -2,7 +2,6 @@ pub mod Ids
 pub mod Words
 pub mod Results
 pub mod Submissions
-pub mod Refusals
 pub mod Refusing
 pub mod Header
 pub mod LineFields

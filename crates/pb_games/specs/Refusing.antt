@@ -14,9 +14,15 @@ use Rattle.pb_games.specs.declared.outcome.Outcome.{Outcome}
 use Rattle.pb_games.specs.declared.refusal.Refusal.{Refusal}
 use Rattle.pb_games.specs.declared.refusal.Refusal.TheVariants as refusal
 use Rattle.pb_games.specs.Ids.{IsId}
-use Rattle.pb_games.specs.Refusals.{SpellsMoves, SpellsStart}
 use Rattle.pb_games.specs.Results.{outcome_text}
 use Rattle.pb_games.specs.Words.{words_of}
+
+-- the third of a line's parts spells the record, and these words spell the moves
+abbrev pub SpellsStart : List (List ℕ) → Record → Type 0
+SpellsStart parts f = IsRecord f × (field parts 2 ≡ fen_text f)
+
+abbrev pub SpellsMoves : List (List ℕ) → List Moved → Type 0
+SpellsMoves words moves = All IsMove moves × (map spelling moves ≡ words)
 
 -- when each refusal is due; the three that are never due here look at more than the line
 abbrev pub IsDue : List ℕ → List (List ℕ) → Refusal → Type 0

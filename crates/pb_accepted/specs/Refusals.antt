@@ -1,26 +1,18 @@
 -- Why a line is refused by itself, as the reply says it.
-use Rattle.std.specs.Prelude.{◌≡◌, ◌≢◌, ℕ, ◌<◌, ◌⊎◌, List, [], ◌∷◌, ◌++◌, length, map, All, codes}
+use Rattle.std.specs.Prelude.{◌≡◌, ◌≢◌, ℕ, ◌<◌, ◌⊎◌, List, [], ◌∷◌, ◌++◌, length, All, codes}
 use Rattle.std.specs.Prelude.{decimal}
 use Rattle.std.specs.Str.Lines.{strip_carriage_return}
 use Rattle.pb_board.specs.Fields.{field, fields}
-use Rattle.pb_board.specs.Position.{IsRecord, Record}
+use Rattle.pb_board.specs.Position.{Record}
 use Rattle.pb_board.specs.Refusal.{BreaksAt}
-use Rattle.pb_board.specs.Text.{fen_text}
 use Rattle.pb_moves.specs.Attacks.{IsPlayable}
-use Rattle.pb_moves.specs.Moved.{IsMove, Moved}
+use Rattle.pb_moves.specs.Moved.{Moved}
 use Rattle.pb_moves.specs.Played.{AreLegal, IsSpelled}
-use Rattle.pb_moves.specs.Spelling.{spelling}
 use Rattle.pb_games.specs.declared.outcome.Outcome.{Outcome}
 use Rattle.pb_games.specs.Ids.{IsId}
+use Rattle.pb_games.specs.Refusing.{SpellsMoves, SpellsStart}
 use Rattle.pb_games.specs.Results.{outcome_text}
 use Rattle.pb_games.specs.Words.{words_of}
-
--- the third of a line's parts spells the record, and these words spell the moves
-abbrev pub SpellsStart : List (List ℕ) → Record → Type 0
-SpellsStart parts f = IsRecord f × (field parts 2 ≡ fen_text f)
-
-abbrev pub SpellsMoves : List (List ℕ) → List Moved → Type 0
-SpellsMoves words moves = All IsMove moves × (map spelling moves ≡ words)
 
 -- each reason with what the reply says, in the order in which they are looked for; a move is named
 -- by its number, from 1
