@@ -24,7 +24,9 @@ use Rattle.pb_accepted.specs.Ledger.{LedgerState}
 use Rattle.pb_poly.proofs.ReadRows.{found_no_table}
 use Rattle.pb_poly.specs.TableReading.{ReadsTable}
 use Rattle.pb_collecting.specs.Ends.{EndStates}
-use Rattle.pb_collecting.specs.Headline.{HasHeadline, Headline}
+use Rattle.pb_io.specs.Lines.{lines}
+use Rattle.pb_collecting.specs.Answered.{IsAnswered, SayAnswers}
+use Rattle.pb_collecting.specs.Headline.{Headline}
 use Rattle.pb_collecting.specs.Reasons.{unread_verdict}
 use Rattle.pb_collecting.specs.Runs as runs
 use Rattle.pb_collecting.specs.Runs.{BreaksOff, Collected, CollectRun}
@@ -46,12 +48,15 @@ put_all (Some x) (Some y) put all none is h =
 
 module _ (rules : CountingRules) (e : EndStates) (file bytes put : List ℕ) (told_table : e.table.old.to_come ≡ Some file) (told_lines : e.lines.old.to_come ≡ Some bytes)
     (empty : e.replies.old.bytes ≡ Some []) (all : e.replies.new.bytes ≡ Some put) where
-  pub bytes_headline : (entries : List Entry) (book : List ℕ) → HasHeadline rules e entries book → Headline rules file bytes put entries book
-  bytes_headline entries book h =
+  abbrev Answered : List ℕ → List ℕ → List ℕ → List Entry → List ℕ → Type 0
+  Answered f b p entries book = (h : Headline rules f b p entries book) × SayAnswers (lines b) h.replies h.games
+
+  pub bytes_headline : (entries : List Entry) (book : List ℕ) → IsAnswered rules e entries book → Answered file bytes put entries book
+  bytes_headline entries book (h, says) =
       let f = all_of e.table.old.to_come h.0 file told_table h.3.told in
       let b = all_of e.lines.old.to_come h.1 bytes told_lines h.4.told in
       let p = put_all e.replies.old.bytes e.replies.new.bytes h.2 put empty all h.5 in
-      subst (λ x. Headline rules x bytes put entries book) f (subst (λ x. Headline rules h.0 x put entries book) b (subst (λ x. Headline rules h.0 h.1 x entries book) p h.6))
+      subst (λ x. Answered x bytes put entries book) f (subst (λ x. Answered h.0 x put entries book) b (subst (λ x. Answered h.0 h.1 x entries book) p (h.6, says)))
 
 -- bytes that are a table file are never refused
 no_table : (file randoms : List ℕ) (e : TableFault) → IsTableFile randoms file → AsTable file (Err e) → ⊥

@@ -19,7 +19,8 @@ use Rattle.pb_accepted.proofs.BookLaws.{one_book}
 use Rattle.pb_accepted.proofs.Replyings.{replies_are, replies_number, run_to}
 use Rattle.pb_ledger.specs.declared.totals.Totals.{Totals}
 use Rattle.pb_collecting.specs.Ends.{EndStates}
-use Rattle.pb_collecting.specs.Headline.{Effect, HasHeadline}
+use Rattle.pb_collecting.specs.Answered.{IsAnswered}
+use Rattle.pb_collecting.specs.Headline.{Effect}
 use Rattle.pb_collecting.specs.Runs as runs
 use Rattle.pb_collecting.specs.Runs.{Collected, CollectRun, Takes, TakesTable}
 
@@ -42,13 +43,13 @@ effect L R games run T entries bounds book = record {
 
 module _ (rules : CountingRules) (fills : ℕ) (e : EndStates) where
   has_headline : (ledger left : LedgerState) (totals : Totals) (entries : List Entry) → All IsEntry entries → TakesTable rules fills e.table ledger → Takes fills e ledger left totals
-      → IsBook (counted left.basis left.accepted) left.basis.rules.least entries → HasHeadline rules e entries (book_bytes entries)
+      → IsBook (counted left.basis left.accepted) left.basis.rules.least entries → IsAnswered rules e entries (book_bytes entries)
   has_headline ledger left totals entries bounds first takes book =
       let table = found_table fills e.table.old e.table.new first.randoms first.read in
       let took = (subst (λ (l : LedgerState). Takes fills e l left totals) first.is takes).0 in
       let collects = took.done.0 in
       let bytes = took.came in
-      let T : Basis = record { words = first.randoms; rules = rules } in (
+      let T : Basis = record { words = first.randoms; rules = rules } in ((
         table.came,
         bytes,
         replies (lines bytes) collects.answers,
@@ -65,10 +66,10 @@ module _ (rules : CountingRules) (fills : ℕ) (e : EndStates) where
               (subst (λ (X : Basis). IsBook (counted X left.accepted) X.rules.least entries) collects.leads.basis book);
           replied = replies_are (lines bytes) collects.answers;
         },
-      )
+      ), record { answers = collects.answers; said = refl; run = collects.leads.run })
 
-  pub headline : (made : Collected) → CollectRun rules fills e (Ok made) → HasHeadline rules e made.entries (book_bytes made.entries)
+  pub headline : (made : Collected) → CollectRun rules fills e (Ok made) → IsAnswered rules e made.entries (book_bytes made.entries)
   headline made (runs.began ledger (Ok x) first (left, takes, book, ordered, bounds) same) =
-      let is : x ≡ made = cc in subst (λ (m : Collected). HasHeadline rules e m.entries (book_bytes m.entries)) is (has_headline ledger left x.totals x.entries bounds first takes book)
+      let is : x ≡ made = cc in subst (λ (m : Collected). IsAnswered rules e m.entries (book_bytes m.entries)) is (has_headline ledger left x.totals x.entries bounds first takes book)
   headline made (runs.began ledger (Err fault) first goes same) = absurd (cc)
   headline made (runs.unread why answer lacks puts same) = absurd (cc)

@@ -1,3 +1,4 @@
+pub mod Answered
 pub mod CheckLaws
 pub mod CheckRun
 pub mod CheckShown

@@ -6,6 +6,8 @@ ghost use Rattle.std.specs.Prelude.{length};
 ghost use Rattle.pb_poly.specs.Book.{book_bytes};
 ghost use Rattle.pb_poly.specs.Table.{IsTableFile};
 ghost use Rattle.pb_io.specs.declared.fault.Fault.TheVariants.{Endless, Memory};
+ghost use Rattle.pb_io.specs.Lines.{lines};
+ghost use Rattle.pb_collecting.specs.Answered.{SayAnswers};
 ghost use Rattle.pb_collecting.specs.Headline.{Headline};
 
 use crate::collect::run_collect;
@@ -29,7 +31,8 @@ pub fn collect_bytes(
     submissions: &[u8],
 ) -> Result<Option<(Vec<u8>, Book)>, Fault>
     ensures headline { IfOk result (λ answer. IfSome answer (λ made.
-        Headline rules table.now submissions.now made.0.items made.1 (book_bytes made.1))) }
+        (h : Headline rules table.now submissions.now made.0.items made.1 (book_bytes made.1))
+        × SayAnswers (lines submissions.now) h.replies h.games)) }
     // Without a book, the bytes are no table file, whatever the numbers.
     ensures refused { IfOk result (λ answer. IfNone answer
         ((randoms : List ℕ) → ¬ IsTableFile randoms table.now)) }

@@ -3,7 +3,7 @@
 ghost use Rattle.std.specs.Prelude.{IfOk, IfSome};
 ghost use Rattle.pb_poly.specs.Book.{book_bytes};
 ghost use Rattle.pb_collecting.specs.Ends.{between};
-ghost use Rattle.pb_collecting.specs.Headline.{HasHeadline};
+ghost use Rattle.pb_collecting.specs.Answered.{IsAnswered};
 ghost use Rattle.pb_collecting.specs.Run.{LeavesLedger};
 ghost use Rattle.pb_collecting.specs.Runs.{Answers, CollectRun};
 
@@ -46,7 +46,7 @@ pub fn run_collect<Table: Source, In: Source, Out: Sink>(
     })) (λ made. made.entries) result }
     // All that is promised of the bytes that the sources handed out and the sink took: which lines
     // are accepted, that each game counts once, and that the book has one text.
-    ensures headline { IfOk result (λ answer. IfSome answer (λ book. HasHeadline rules (record {
+    ensures headline { IfOk result (λ answer. IfSome answer (λ book. IsAnswered rules (record {
       table = between Table.state table_source.old table_source.new;
       lines = between In.state source.old source.new;
       replies = between Out.state sink.old sink.new;

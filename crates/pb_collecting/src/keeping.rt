@@ -2,7 +2,7 @@
 
 ghost use Rattle.std.specs.Prelude.{⊤};
 ghost use Rattle.pb_collecting.specs.Ends.{between, states};
-ghost use Rattle.pb_collecting.specs.Headline.{HasHeadline};
+ghost use Rattle.pb_collecting.specs.Answered.{IsAnswered};
 ghost use Rattle.pb_collecting.specs.Into.{Into};
 ghost use Rattle.pb_collecting.specs.Run.{MayBeOf};
 ghost use Rattle.pb_collecting.specs.Runs.{CollectRun};
@@ -53,7 +53,7 @@ pub fn collect_into<Table: Source, In: Source, Out: Sink, Watch: Watcher, BookSt
     // it is so; or the line that refuses the table was put; or this was done before the fault, and
     // this is left at the store.
     ensures { let e = states Table.state In.state Out.state ends.old ends.new in
-        Into (CollectRun rules fills e) (HasHeadline rules e)
+        Into (CollectRun rules fills e) (IsAnswered rules e)
         (between BookStore.state book.old book.new) result }
 {
     match take(

@@ -11,7 +11,7 @@ ghost use Rattle.pb_commands.specs.Judged.{PutsOrEnds};
 ghost use Rattle.pb_commands.specs.ProbeShown.{ProbesSources};
 ghost use Rattle.pb_commands.specs.Refused.{taken};
 ghost use Rattle.pb_cli.specs.Runs.{BlamesEither, ChecksOrEnds, CollectRun, ContinueRun};
-ghost use Rattle.pb_cli.specs.Runs.{ContinuesInto, ExportRun, Exported, HasHeadline};
+ghost use Rattle.pb_cli.specs.Runs.{ContinuesInto, ExportRun, Exported, IsAnswered};
 ghost use Rattle.pb_cli.specs.Runs.{HasHeadlineOfBoth, HasHeadlineOfJournal, Into, JournalRun};
 ghost use Rattle.pb_cli.specs.Runs.{PicksAll, PicksUntil, between, journal_states, states};
 ghost use Rattle.pb_files.specs.Disk.{Disk};
@@ -51,7 +51,7 @@ pub(crate) fn collect<'f, 'a, Table: Source, In: Source, Out: Sink, Watch: Watch
 ) -> Result<Made, NoBook>
     requires { book.old.label.path.now ≡ order.now.book.now }
     ensures ends { let e = states Table.state In.state Out.state ends.old ends.new in
-        Into (CollectRun order.now.rules most_fills e) (HasHeadline order.now.rules e)
+        Into (CollectRun order.now.rules most_fills e) (IsAnswered order.now.rules e)
         (between (⟦<KeptFile<'f, 'a, F> as Store>⟧.state) book.old book.new) result }
     // What the book's file was handed is what its name leads to.
     ensures book { LeadsToHanded (option_map F.InPlace.state book.new.in_place)
