@@ -685,6 +685,8 @@ def main() -> None:
         return
     if not chess_programs.STOCKFISH:
         sys.exit("not tried, Stockfish is wanted: definitions")
+    if not os.access(chess_programs.PROGRAM, os.X_OK):
+        sys.exit(f"not tried, no program stands at {chess_programs.PROGRAM}: definitions")
     os.environ.setdefault("ASAN_OPTIONS", "detect_leaks=0")
     count, failed = tell_followed(specs)
     with tempfile.TemporaryDirectory() as place:

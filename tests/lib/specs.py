@@ -9,10 +9,11 @@ import pathlib
 import re
 from collections.abc import Iterable
 
-USE = re.compile(r"(?:pub )?use Rattle\.(\w+)\.specs\.(?:\w+\.)*(\w+)\.\{([^}]*)\}")
+USE = re.compile(r"use Rattle\.(\w+)\.specs\.(?:\w+\.)*(\w+)\.\{([^}]*)\}")
+MODULE = re.compile(r"use Rattle\.(\w+)\.specs\.(?:\w+\.)*(\w+)(?: as (\w+))?$", re.M)
 HEAD = re.compile(r"(?:(?:abbrev|unfoldable|inline|pub|record|data) )*([^\s(:{]+)")
-# A name that is no field of a value.
-NAME = re.compile(r"(?<![\w.'-])[A-Za-z_][\w'-]*")
+# A name, and one that is named with its module or is a field of a value.
+NAME = re.compile(r"(?<![\w.'-])[A-Za-z_][\w'-]*(?:\.[A-Za-z_][\w'-]*)?")
 # Text without the white space between its parts.
 PART = re.compile(r"[\w'-]+|[^\w\s]")
 
@@ -35,11 +36,13 @@ class Specs:
                 name, _, local = (part.strip() for part in item.partition(" as "))
                 if name:
                     self.uses[place][local or name] = f"{crate}.{module}.{name}"
+        for crate, module, local in MODULE.findall(source):
+            self.uses[place][local or module] = f"{crate}.{module}"
         name = ""
         for line in source.splitlines():
             if not line.strip() or re.match(r"(pub )?(use|mod) ", line):
                 continue
-            if not line[0].isspace():
+            if not line[0].isspace() and line[0] not in "})":
                 head = HEAD.match(line)
                 assert head, line
                 name = f"{place}.{head[1]}"
@@ -48,8 +51,11 @@ class Specs:
     def cited(self, name: str) -> set[str]:
         """The definitions that this one's text names."""
         place = name.rpartition(".")[0]
-        words = set(NAME.findall(self.texts[name]))
-        named = {self.uses[place].get(word, f"{place}.{word}") for word in words}
+        named = set()
+        for word in set(NAME.findall(self.texts[name])):
+            first, point, second = word.partition(".")
+            meant = self.uses[place].get(first, f"{place}.{first}")
+            named |= {meant, meant + point + second}
         return {other for other in named if other in self.texts} - {name}
 
     def behind(self, names: Iterable[str]) -> set[str]:
