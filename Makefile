@@ -27,8 +27,8 @@ EXAMPLES := crates/worked_examples/out/worked_examples
 
 .PHONY: build unproved install dist demo theorem check dev test test-bodies test-hostile test-files \
     test-order test-locks test-messages test-memory test-growths test-io test-noise test-replies \
-    test-completions test-examples test-dist test-journal test-crashes test-wrong-programs bench \
-    clean
+    test-completions test-examples test-dist test-journal test-crashes test-definitions \
+    test-wrong-programs bench clean
 
 build: build/pbook
 
@@ -182,6 +182,13 @@ test-journal: build
 # whole, as on file systems with a journal.
 test-crashes: $(PROGRAM)
 	@PROGRAM='$(PROGRAM)' python3 -B tests/crashes.py --whole-renames \
+	    $(if $(SEED),--seed $(SEED))
+
+# Runs the definitions of chess, FEN, keys and codes in Python, and compares what they say of setups
+# with what Stockfish and the program say. It fails where a definition has changed that it follows.
+# TIMES=number tries so many times as much, SEED=number other setups.
+test-definitions: $(PROGRAM)
+	@PROGRAM='$(PROGRAM)' python3 -B tests/definitions.py $(if $(TIMES),--times $(TIMES)) \
 	    $(if $(SEED),--seed $(SEED))
 
 # Compares counts of sequences of moves with published ones, and legal moves, FENs and keys with
