@@ -4,7 +4,7 @@ ghost use Rattle.std.specs.Option.{option_copied, option_map};
 ghost use Rattle.std.specs.Prelude.{◌≡◌, [], ◌∷◌, Some, IfOk, IfSome, OnErr, OnOk, false, length};
 ghost use Rattle.std.specs.Prelude.{nat_lt};
 ghost use Rattle.pb_folder.specs.File.{locked};
-ghost use Rattle.pb_folder.specs.Parts.{is_journal, is_ledger};
+ghost use Rattle.pb_folder.specs.Parts.{is_journal};
 ghost use Rattle.pb_folder.specs.Shelf.{Settles};
 ghost use Rattle.mem_files.specs.MemFolder.{shelf_of};
 
@@ -68,8 +68,7 @@ pub struct MemFolder {
     /// How many puts and flushes of each end pass.
     pub good: u32,
     alloc: Global,
-    is_ledger: bool,
-    is_journal: bool,
+    part: Part,
     scene: Scene,
     shelf: MemShelf,
     // How many drafts of this run stand there.
@@ -98,18 +97,14 @@ impl MemFolder {
         ensures none { IfOk result (λ folder. ⟦<MemFolder as Folder>⟧.drafts folder ≡ 0) }
         ensures untried { IfOk result (λ folder. ⟦<MemFolder as Folder>⟧.unsettled folder
             ≡ false) }
-        ensures ledger { IfOk result (λ folder. ⟦<MemFolder as Folder>⟧.ledger folder
-            ≡ is_ledger part) }
-        ensures journal { IfOk result (λ folder. ⟦<MemFolder as Folder>⟧.appends folder
-            ≡ is_journal part) }
+        ensures part { IfOk result (λ folder. ⟦<MemFolder as Folder>⟧.part folder ≡ part) }
     {
         Ok(MemFolder {
             status: status_of(scene),
             calls: Cell::new(u32::MAX),
             good: u32::MAX,
             alloc,
-            is_ledger: matches!(part, Part::Ledger),
-            is_journal: matches!(part, Part::Journal),
+            part,
             scene,
             shelf: MemShelf::new(alloc, first)?,
             drafts: 0,
@@ -146,6 +141,13 @@ impl MemFolder {
         ensures { IfSome (⟦<MemFolder as Folder>⟧.shelf self.now) (λ shelf. shelf.torn ≡ result) }
     {
         self.shelf.is_torn()
+    }
+
+    /// Whether what is opened is added to at its end.
+    fn is_journal(&self) -> bool
+        ensures { result ≡ is_journal self.now.part }
+    {
+        matches!(self.part, Part::Journal)
     }
 
     /// Lets a call succeed, or fails it.
@@ -261,12 +263,10 @@ impl Folder for MemFolder {
 
     ghost unsettled = { λ m. m.has_failed };
 
-    ghost ledger = { λ m. m.is_ledger };
-
-    ghost appends = { λ m. m.is_journal };
+    ghost part = { λ m. m.part };
 
     fn is_ledger(&self) -> bool {
-        self.is_ledger
+        matches!(self.part, Part::Ledger)
     }
 
     fn follow(&mut self) -> io::Result<()> {
@@ -294,7 +294,7 @@ impl Folder for MemFolder {
             return Err(io::Error::from(ErrorKind::NotFound));
         }
         let to_come = self.to_come.get();
-        Ok(MemFile::opened(self.alloc, entry, self.is_journal, to_come))
+        Ok(MemFile::opened(self.alloc, entry, self.is_journal(), to_come))
     }
 
     fn make(&mut self, number: u32, _is_private: bool) -> io::Result<MemFile> {

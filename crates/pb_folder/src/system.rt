@@ -2,7 +2,7 @@
 
 ghost use Rattle.std.specs.Prelude.{◌≡◌, IfOk, None, false};
 ghost use Rattle.pb_folder.specs.File.{opened};
-ghost use Rattle.pb_folder.specs.Parts.{is_journal, is_ledger};
+ghost use Rattle.pb_folder.specs.Parts.{is_journal};
 ghost use Rattle.pb_folder.specs.declared.folder.Entry.TheVariants.{Draft};
 
 use crate::file_end::{DRAFT, FileEnd, IN_PLACE};
@@ -35,8 +35,7 @@ pub struct System<'a> {
     messages: Messages<'a>,
     path: &'a str,
     place: Place<'a>,
-    is_ledger: bool,
-    is_journal: bool,
+    part: Part,
     // What is opened is read too.
     is_read: bool,
     drafts: u64,
@@ -47,15 +46,13 @@ pub struct System<'a> {
 impl<'a> System<'a> {
     /// The name of a file of this part.
     pub fn new(messages: Messages<'a>, path: &'a str, part: Part) -> System<'a>
-        ensures ledger { ⟦<System<'a> as Folder>⟧.ledger result ≡ is_ledger part }
-        ensures journal { ⟦<System<'a> as Folder>⟧.appends result ≡ is_journal part }
+        ensures { ⟦<System<'a> as Folder>⟧.part result ≡ part }
     {
         System {
             messages,
             path,
             place: Place::of_name(path),
-            is_ledger: matches!(part, Part::Ledger),
-            is_journal: matches!(part, Part::Journal),
+            part,
             is_read: matches!(part, Part::Journal),
             drafts: 0,
             is_free: false,
@@ -65,13 +62,18 @@ impl<'a> System<'a> {
 
     /// The same name, whose file is read too.
     pub fn read(mut self) -> System<'a>
-        ensures ledger { ⟦<System<'a> as Folder>⟧.ledger result
-            ≡ ⟦<System<'a> as Folder>⟧.ledger self.entry }
-        ensures journal { ⟦<System<'a> as Folder>⟧.appends result
-            ≡ ⟦<System<'a> as Folder>⟧.appends self.entry }
+        ensures { ⟦<System<'a> as Folder>⟧.part result
+            ≡ ⟦<System<'a> as Folder>⟧.part self.entry }
     {
         self.is_read = true;
         self
+    }
+
+    /// Whether what is opened is added to at its end.
+    fn is_journal(&self) -> bool
+        ensures { result ≡ is_journal self.now.part }
+    {
+        matches!(self.part, Part::Journal)
     }
 
     /// The path of the draft of this number.
@@ -152,12 +154,10 @@ impl<'a> Folder for System<'a> {
 
     ghost unsettled = { λ s. s.is_unsettled };
 
-    ghost ledger = { λ s. s.is_ledger };
-
-    ghost appends = { λ s. s.is_journal };
+    ghost part = { λ s. s.part };
 
     fn is_ledger(&self) -> bool {
-        self.is_ledger
+        matches!(self.part, Part::Ledger)
     }
 
     // Replies are written where a link such as `/dev/stdout` leads.
@@ -190,9 +190,9 @@ impl<'a> Folder for System<'a> {
         options
             .read(self.is_read)
             .write(true)
-            .append(self.is_journal);
+            .append(self.is_journal());
         let file = options.open(self.messages.rt, self.path)?;
-        Ok(SystemFile::opened(file, self.is_journal))
+        Ok(SystemFile::opened(file, self.is_journal()))
     }
 
     // Over a network a shared lock is for files alone that are open to be read.
