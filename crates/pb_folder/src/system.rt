@@ -7,6 +7,7 @@ ghost use Rattle.pb_folder.specs.declared.folder.Entry.TheVariants.{Draft};
 
 use crate::file_end::{DRAFT, FileEnd, IN_PLACE};
 use crate::folder::{Entry, Folder, Lock, Seen};
+use crate::notes::FileNotes;
 use crate::place::Place;
 use crate::status::Status;
 use crate::system_file::SystemFile;
@@ -114,7 +115,8 @@ impl<'a> System<'a> {
             return Err(io::Error::from(ErrorKind::InvalidInput));
         }
         let file = OpenOptions::new().write(true).open(rt, path.as_path())?;
-        Ok(SystemFile::draft(file, number, path, false))
+        let notes = FileNotes::draft(number, false);
+        Ok(SystemFile::new(file, Some(path), notes))
     }
 
     /// Whether the path leads to the file of this stream, and not to a device or a pipe.
@@ -192,7 +194,8 @@ impl<'a> Folder for System<'a> {
             .write(true)
             .append(self.is_journal());
         let file = options.open(self.messages.rt, self.path)?;
-        Ok(SystemFile::opened(file, self.is_journal()))
+        let notes = FileNotes::opened(Entry::Target, self.is_journal());
+        Ok(SystemFile::new(file, None, notes))
     }
 
     // Over a network a shared lock is for files alone that are open to be read.
@@ -206,7 +209,8 @@ impl<'a> Folder for System<'a> {
         options.read(true).write(true).create_new(true).mode(mode);
         let file = options.open(self.messages.rt, path.as_path())?;
         self.drafts = drafts;
-        Ok(SystemFile::draft(file, number, path, true))
+        let notes = FileNotes::draft(number, true);
+        Ok(SystemFile::new(file, Some(path), notes))
     }
 
     fn lock(&self, f: &mut SystemFile) -> Lock {
@@ -243,7 +247,7 @@ impl<'a> Folder for System<'a> {
 
     fn create(&mut self) -> io::Result<SystemFile> {
         let file = File::create(self.messages.rt, self.path)?;
-        Ok(SystemFile::emptied(file))
+        Ok(SystemFile::new(file, None, FileNotes::emptied()))
     }
 
     fn in_place(&self, f: SystemFile, room: Vec<u8>) -> FileEnd<'a, IN_PLACE> {
@@ -277,7 +281,7 @@ impl<'a> Folder for System<'a> {
         if let Some(path) = draft.path() {
             let _ = fs::remove_file(self.messages.rt, path);
         }
-        if draft.is_made() {
+        if draft.notes.is_made() {
             self.drafts = self.drafts.saturating_sub(1);
         }
     }
