@@ -23,7 +23,7 @@ both : (a b : Bool) → (a && b) ≡ true → (a ≡ true) × (b ≡ true)
 both true b e = (refl, e)
 both false b e = absurd (false≢true e)
 
-all_from_at : (test : ℕ → Place → Bool) (i : ℕ) (xs : List Place) (k : ℕ) (piece : Piece) → all_from test i xs ≡ true → at xs k ≡ Some piece → test (i + k) (Some piece) ≡ true
+pub all_from_at : (test : ℕ → Place → Bool) (i : ℕ) (xs : List Place) (k : ℕ) (piece : Piece) → all_from test i xs ≡ true → at xs k ≡ Some piece → test (i + k) (Some piece) ≡ true
 all_from_at test i [] k piece e holds = absurd cc
 all_from_at test i (y ∷ ys) zero piece e holds =
     let here : i + 0 ≡ i = omega arith in
