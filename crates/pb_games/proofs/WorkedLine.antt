@@ -7,6 +7,7 @@ use Rattle.std.proofs.lemmas.List.Elements.{All-nil, All-cons}
 use Rattle.pb_board.specs.declared.piece.Colour.TheVariants as side
 use Rattle.pb_board.specs.Initial.{initial, initial_board}
 use Rattle.pb_board.proofs.InitialText.{initial_bounds}
+use Rattle.pb_board.proofs.Starts.{is_it, king_test}
 use Rattle.pb_board.specs.declared.piece.Kind.TheVariants.{Queen}
 use Rattle.pb_moves.specs.Attacks.{InCheck, IsPlayable}
 use Rattle.pb_moves.specs.Successor.{after}
@@ -28,8 +29,8 @@ id = record {
 }
 
 playable : IsPlayable initial
-unfolding initial_board is_harmless may
-playable = unchecked side.Black 60 initial_board refl
+unfolding initial_board is_harmless may king_test is_it
+playable = unchecked side.Black 60 initial_board (refl, refl, refl)
 
 pub lawful : IsLawful worked_line worked_submission
 lawful = record { text = text; id = id; start = initial_bounds; playable = playable; few = omega arith; legal = fools_mate_legal }

@@ -1,6 +1,6 @@
 -- Tests of all squares of a board, which compute, for what is said of every square: a clear way, and
 -- a king whom no enemy piece attacks.
-use Rattle.std.proofs.Common.{◌≡◌, ◌≢◌, ℕ, ◌+◌, ◌*◌, Bool, true, false, ◌&&◌, ◌||◌, eqb, if◌then◌else◌, Some, None, max, refl, sym, ap, subst, ◌∙◌, inl, inr, arith, zero-add}
+use Rattle.std.proofs.Common.{◌≡◌, ◌≢◌, ℕ, ◌+◌, ◌*◌, Bool, true, false, ◌&&◌, ◌||◌, eqb, Some, None, max, refl, sym, ap, subst, ◌∙◌, inl, inr, arith, zero-add}
 use Rattle.std.proofs.Math.Bool.{not}
 use Rattle.std.proofs.lemmas.Bool.{false≢true}
 use Rattle.std.proofs.lemmas.Bool.Decides.{nat_tests}
@@ -9,19 +9,16 @@ use Rattle.pb_board.specs.declared.piece.Colour.TheVariants.{White, Black}
 use Rattle.pb_board.specs.declared.piece.Kind.{Kind}
 use Rattle.pb_board.specs.declared.piece.Kind.TheVariants.{Pawn, Knight, Bishop, Rook, Queen, King}
 use Rattle.pb_board.specs.declared.piece.Piece.{Piece}
-use Rattle.pb_board.specs.Piece.{colour_number, kind_number, opponent, piece_of}
+use Rattle.pb_board.specs.Piece.{colour_number, king_of, opponent, piece_of}
 use Rattle.pb_board.specs.Board.{Board, Place, Holds, IsEmpty, at}
-use Rattle.pb_board.proofs.Starts.{all_from, all_from_at}
-use Rattle.pb_moves.specs.Attacks.{Attacks, Clear, InCheck, IsBetween, Pattern, files_apart, ranks_apart}
+use Rattle.pb_board.proofs.Starts.{all_from, all_from_at, king_test, tested_king}
+use Rattle.pb_moves.specs.Attacks.{Clear, InCheck, IsAttacked, IsBetween, Pattern, files_apart, ranks_apart}
 
 yes : (m n : ℕ) → m ≡ n → eqb m n ≡ true
 yes m n e = grind (arith, nat_tests)
 
 no : (m n : ℕ) → m ≢ n → eqb m n ≡ false
 no m n e = grind (arith, nat_tests)
-
-same : (m n : ℕ) → eqb m n ≡ true → m ≡ n
-same m n e = grind (arith, nat_tests)
 
 -- what holds of a place by its index, from a test of the whole board
 told : (test : ℕ → Place → Bool) (board : Board) (q : ℕ) (p : Piece) → all_from test 0 board ≡ true → Holds board q p → test q (Some p) ≡ true
@@ -51,7 +48,7 @@ empty_by a b board q (Some p) all between e = absurd (false≢true (sym (shut a 
 pub clear : (a b : ℕ) (board : Board) → all_from (is_open a b) 0 board ≡ true → Clear board a b
 clear a b board all q on between = empty_by a b board q (at board q) all between refl
 
--- ---- kings whom nothing attacks
+-- ---- squares that nothing attacks
 
 -- a piece of this kind may attack by so many files and ranks, or by none
 unfoldable pub may : Kind → ℕ → ℕ → Bool
@@ -76,28 +73,27 @@ may_by Queen files ranks (inl h, some) = ap (λ x. x || eqb (files * ranks) 0) (
 may_by Queen files ranks (inr h, some) = or_right _ _ (yes _ _ h)
 may_by King files ranks h = yes _ _ h
 
--- the place has no king of this side on another square than this one, and no enemy piece that may
--- attack that square
+-- the place has no piece of this side that may attack the square
 unfoldable pub is_harmless : Colour → ℕ → ℕ → Place → Bool
-is_harmless side king q None = true
-is_harmless side king q (Some p) =
-    if eqb (colour_number p.colour) (colour_number side) then not (eqb (kind_number p.kind) 5) || eqb q king
-    else not (may p.kind (files_apart q king) (ranks_apart q king))
+is_harmless side square q None = true
+is_harmless side square q (Some p) = not (eqb (colour_number p.colour) (colour_number side)) || not (may p.kind (files_apart q square) (ranks_apart q square))
 
-king_is : (side : Colour) (king q : ℕ) → is_harmless side king q (Some (piece_of side King)) ≡ true → q ≡ king
+spared : (side : Colour) (square q : ℕ) (kind : Kind) → is_harmless side square q (Some (piece_of side kind)) ≡ true → not (may kind (files_apart q square) (ranks_apart q square)) ≡ true
 unfolding is_harmless
-king_is White king q e = same q king e
-king_is Black king q e = same q king e
+spared White square q k e = e
+spared Black square q k e = e
 
-spared : (side : Colour) (king q : ℕ) (kind : Kind) → is_harmless side king q (Some (piece_of (opponent side) kind)) ≡ true → not (may kind (files_apart q king) (ranks_apart q king)) ≡ true
-unfolding is_harmless
-spared White king q k e = e
-spared Black king q k e = e
-
-pub unchecked : (side : Colour) (king : ℕ) (board : Board) → all_from (is_harmless side king) 0 board ≡ true → ¬ InCheck board side
-unchecked side king board all (k, stands, (a, kind, holds, attacks)) =
-    let at_king : k ≡ king = king_is side king k (told (is_harmless side king) board k (piece_of side King) all stands) in
-    let here : Attacks (opponent side) kind board a king = subst (λ n. Attacks (opponent side) kind board a n) at_king attacks in
-    let none = spared side king a kind (told (is_harmless side king) board a (piece_of (opponent side) kind) all holds) in
-    let some = may_by kind (files_apart a king) (ranks_apart a king) here.0 in
+pub unattacked : (side : Colour) (square : ℕ) (board : Board) → all_from (is_harmless side square) 0 board ≡ true → ¬ IsAttacked board side square
+unattacked side square board all (a, kind, holds, attacks) =
+    let none = spared side square a kind (told (is_harmless side square) board a (piece_of side kind) all holds) in
+    let some = may_by kind (files_apart a square) (ranks_apart a square) attacks.0 in
     false≢true (sym (ap not some) ∙ none)
+
+-- the king stands there alone, and no enemy piece may attack the square
+abbrev pub IsSafe : Colour → ℕ → Board → Type 0
+IsSafe side king board = Holds board king (king_of side) × (all_from (king_test side king) 0 board ≡ true) × (all_from (is_harmless (opponent side) king) 0 board ≡ true)
+
+pub unchecked : (side : Colour) (king : ℕ) (board : Board) → IsSafe side king board → ¬ InCheck board side
+unchecked side king board safe (k, stands, attacked) =
+    let at_king = (tested_king board side king safe.0 safe.1 k).0 stands in
+    unattacked (opponent side) king board safe.2 (subst (IsAttacked board (opponent side)) at_king attacked)

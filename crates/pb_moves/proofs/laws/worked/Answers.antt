@@ -2,7 +2,7 @@ use Rattle.std.proofs.Common.{refl}
 use Rattle.std.specs.Fmt.{digits}
 use Rattle.pb_board.specs.Initial.{initial_board}
 use Rattle.pb_moves.specs.Successor.{after}
-use Rattle.pb_moves.proofs.WorkedMoves.{e2e4_legal, fools_mate_legal}
+use Rattle.pb_moves.proofs.WorkedMoves.{castled, e2e4_legal, fools_mate_legal, promoted}
 use Rattle.pb_moves.proofs.laws.worked.Goals as goal
 
 pub returns-clause-text : goal.returns-clause-text
@@ -17,3 +17,9 @@ returns-clause-words c = refl
 
 pub returns-clause-mate : goal.returns-clause-mate
 returns-clause-mate c = fools_mate_legal
+
+pub returns-clause-castling : goal.returns-clause-castling
+returns-clause-castling c = castled
+
+pub returns-clause-pawns : goal.returns-clause-pawns
+returns-clause-pawns c = promoted
