@@ -19,3 +19,4 @@ pub mod Replyings
 pub mod Runs
 pub mod SomeBooks
 pub mod Steps
+pub mod WorkedBook

@@ -70,7 +70,7 @@ one_true : (b : Bool) → 1 ≤ cond b 1 0 → b ≡ true
 one_true true some = refl
 one_true false some = absurd (omega (arith, some))
 
-ply_of : (G : List PlyPoints) (k c : ℕ) → 1 ≤ times G k c → (p : PlyPoints) × Contains G p × (p.key ≡ k) × (p.code ≡ c)
+pub ply_of : (G : List PlyPoints) (k c : ℕ) → 1 ≤ times G k c → (p : PlyPoints) × Contains G p × (p.key ≡ k) × (p.code ≡ c)
 ply_of G k c some =
     let p = some_of_sum (one k c) G some in
     let is = is_pair_same p.0.key p.0.code k c (one_true (is_pair p.0.key p.0.code k c) p.2) in

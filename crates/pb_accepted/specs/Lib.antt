@@ -20,3 +20,4 @@ pub use Rattle.pb_points.specs.ListTally
 pub use Rattle.pb_points.specs.Rows
 pub use Rattle.pb_points.specs.Tally
 pub use Rattle.pb_points.specs.Weight
+pub mod Worked

@@ -1,20 +1,26 @@
 //! Laws of ledgers, and of equality (`==`) between rules and between answers. Each is the contract
 //! of a function that does nothing, over the definitions alone.
 
-ghost use Rattle.std.specs.Prelude.{◌≡◌, ◌↔◌, ℕ, Contains, List};
+ghost use Rattle.std.specs.Prelude.{◌≡◌, ◌↔◌, ℕ, Contains, List, [], ◌∷◌, codes};
 ghost use Rattle.std.specs.Bool.{Decides};
 ghost use Rattle.pb_accepted.specs.declared.ledger.Accepted.{Accepted};
 ghost use Rattle.pb_accepted.specs.declared.ledger.TheConstants.{MAX_CAP};
 ghost use Rattle.pb_accepted.specs.declared.rules.TheConstants.{MAX_LEAST};
+ghost use Rattle.pb_poly.specs.Book.{BookBytes};
+ghost use Rattle.pb_poly.specs.Table.{IsTable};
 ghost use Rattle.pb_games.specs.Submissions.{IsLawful, Submission};
+ghost use Rattle.pb_games.specs.Worked.{worked_line, worked_submission};
 ghost use Rattle.pb_accepted.specs.Accepting.{OneGame};
+ghost use Rattle.pb_accepted.specs.Counting.{IsBook, counted};
 ghost use Rattle.pb_accepted.specs.Holding.{most_games};
 ghost use Rattle.pb_accepted.specs.Laws.{BookByMembers, CountsByMembers, HasOneEffect};
 ghost use Rattle.pb_accepted.specs.Laws.{HeldIsAnswered, NamesAreShort, OneBook, OneRun, OneStep};
 ghost use Rattle.pb_accepted.specs.Laws.{RefusalsChangeNothing, RepliesAreLines, RepliesNumber};
 ghost use Rattle.pb_accepted.specs.Laws.{RunsAreReplied, RunsJoin, RunsNumber, SameBooks};
 ghost use Rattle.pb_accepted.specs.Laws.{SameMembers, TakenHasNoRepeats, TakenIsOne};
+ghost use Rattle.pb_accepted.specs.Replying.{Replies};
 ghost use Rattle.pb_accepted.specs.Rules.{CountingRules};
+ghost use Rattle.pb_accepted.specs.Worked.{worked_basis, worked_book, worked_bytes};
 
 use crate::ledger::Accepted;
 use crate::rules::Rules;
@@ -92,4 +98,14 @@ pub fn premises()
         → Contains L c → IsLawful b s → IsLawful c t → s.0 ≡ t.0 → s ≡ t) → OneGame L }
     ensures members { (S U : List Submission)
         → ((s : Submission) → Contains S s ↔ Contains U s) → SameMembers S U }
+{}
+
+/// The line that submits Fool's mate gets the number 1 where nothing is held yet, and the book of
+/// that game has the two moves of Black, who won, in the order of their keys.
+pub fn worked()
+    ensures reply { Replies most_games [] (worked_line ∷ []) (codes "ok g1 1" ∷ [])
+        (worked_submission ∷ []) }
+    ensures table { IsTable worked_basis.words }
+    ensures book { IsBook (counted worked_basis (worked_submission ∷ [])) 1 worked_book }
+    ensures bytes { BookBytes worked_book worked_bytes }
 {}

@@ -23,7 +23,7 @@ both : (a b : Bool) → (a && b) ≡ true → (a ≡ true) × (b ≡ true)
 both true b e = (refl, e)
 both false b e = absurd (false≢true e)
 
-all_from_at : (test : ℕ → Place → Bool) (i : ℕ) (xs : List Place) (k : ℕ) (piece : Piece) → all_from test i xs ≡ true → at xs k ≡ Some piece → test (i + k) (Some piece) ≡ true
+pub all_from_at : (test : ℕ → Place → Bool) (i : ℕ) (xs : List Place) (k : ℕ) (piece : Piece) → all_from test i xs ≡ true → at xs k ≡ Some piece → test (i + k) (Some piece) ≡ true
 all_from_at test i [] k piece e holds = absurd cc
 all_from_at test i (y ∷ ys) zero piece e holds =
     let here : i + 0 ≡ i = omega arith in
@@ -33,11 +33,11 @@ all_from_at test i (y ∷ ys) (suc k) piece e holds =
     rw here (all_from_at test (suc i) ys k piece (both (test i y) (all_from test (suc i) ys) e).1 holds)
 
 -- the place holds this piece, told by its letter
-is_it : Piece → Place → Bool
+unfoldable pub is_it : Piece → Place → Bool
 is_it piece None = false
 is_it piece (Some other) = eqb (piece_letter other) (piece_letter piece)
 
-king_test : Colour → ℕ → ℕ → Place → Bool
+unfoldable pub king_test : Colour → ℕ → ℕ → Place → Bool
 king_test side k i place = not (is_it (king_of side) place) || eqb i k
 
 edge_test : Colour → ℕ → Place → Bool
@@ -59,7 +59,7 @@ edge_at side q e =
     let h : (leb 8 q && ltb q 56) ≡ true = rw itself at e in
     grind (arith, nat_tests, both)
 
-tested_king : (board : Board) (side : Colour) (k : ℕ) → Holds board k (king_of side) → all_from (king_test side k) 0 board ≡ true → IsOnlyKing board side k
+pub tested_king : (board : Board) (side : Colour) (k : ℕ) → Holds board k (king_of side) → all_from (king_test side k) 0 board ≡ true → IsOnlyKing board side k
 tested_king board side k here all = only_king board side k here (λ q h.
     let passes = all_from_at (king_test side k) 0 board q (king_of side) all h in
     king_at side k q (subst (λ n. king_test side k n (Some (king_of side)) ≡ true) (zero-add q) passes))

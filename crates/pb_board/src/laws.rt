@@ -1,10 +1,11 @@
 //! Laws of FEN records and their texts, and of equality (`==`) and order of the values of the
 //! public types.
 
-ghost use Rattle.std.specs.Prelude.{◌≡◌, ℕ, List};
+ghost use Rattle.std.specs.Prelude.{◌≡◌, ℕ, List, codes};
 ghost use Rattle.std.specs.Bool.{Decides};
 ghost use Rattle.std.specs.Ordering.{nat_cmp, ordering_then};
-ghost use Rattle.pb_board.specs.Position.{Position, Record, IsSetup, IsRecord};
+ghost use Rattle.pb_board.specs.Position.{Position, Record, IsSetup, IsRecord, record_of};
+ghost use Rattle.pb_board.specs.Initial.{initial};
 ghost use Rattle.pb_board.specs.Piece.{colour_number, kind_number};
 ghost use Rattle.pb_board.specs.Fields.{fields, space};
 ghost use Rattle.pb_board.specs.Refusal.{IsDueFen, IsFirstOf, fen_errors};
@@ -94,4 +95,11 @@ pub fn equal_castlings()
 pub fn equal_refusals()
     ensures setups { (a b : SetupError) → Decides (⟦<SetupError as PartialEq>⟧.eq a b) (a ≡ b) }
     ensures records { (a b : FenError) → Decides (⟦<FenError as PartialEq>⟧.eq a b) (a ≡ b) }
+{}
+
+/// The initial array before the first move is a record, and has the text that players know.
+pub fn worked()
+    ensures is_record { IsRecord (record_of initial 0 1) }
+    ensures text { fen_text (record_of initial 0 1)
+        ≡ codes "rnbqkbnr/pppppppp/8/8/8/8/PPPPPPPP/RNBQKBNR w KQkq - 0 1" }
 {}

@@ -10,4 +10,4 @@ pub mod Judging
 pub mod Refused
 pub mod OneRefused
 pub mod Again
-pub mod InitialText
+pub mod WorkedLine

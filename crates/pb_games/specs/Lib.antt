@@ -9,3 +9,4 @@ pub mod Laws
 pub mod Reading
 pub mod Repeat
 pub mod Starts
+pub mod Worked

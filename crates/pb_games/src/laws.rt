@@ -4,6 +4,8 @@
 
 ghost use Rattle.std.specs.Prelude.{◌≡◌, ℕ, List};
 ghost use Rattle.std.specs.Bool.{Decides};
+ghost use Rattle.pb_board.specs.declared.piece.Colour.TheVariants.{White};
+ghost use Rattle.pb_moves.specs.Attacks.{InCheck};
 ghost use Rattle.pb_games.specs.declared.judge.TheConstants.{MAX_PLIES};
 ghost use Rattle.pb_games.specs.declared.header.TheConstants.{MAX_BYTES};
 ghost use Rattle.pb_games.specs.declared.id.TheConstants.{MAX_LEN};
@@ -11,6 +13,8 @@ ghost use Rattle.pb_games.specs.declared.outcome.Outcome.{Outcome};
 ghost use Rattle.pb_games.specs.declared.refusal.Refusal.{Refusal};
 ghost use Rattle.pb_games.specs.Laws.{OneRefusal, OneSubmission, PartsHaveNoTab, RefusedByItself};
 ghost use Rattle.pb_games.specs.Laws.{RefusedIsUnlawful, TextIsOneLine, TextIsShort};
+ghost use Rattle.pb_games.specs.Submissions.{IsLawful, last_setup};
+ghost use Rattle.pb_games.specs.Worked.{worked_line, worked_submission};
 
 use crate::id::Id;
 use crate::outcome::Outcome;
@@ -61,4 +65,11 @@ pub fn equal_values()
     ensures refusals { (a b : Refusal) → Decides (⟦<Refusal as PartialEq>⟧.eq a b) (a ≡ b) }
     ensures hashes { (a b : List ℕ) → ⟦<Id as Hash>⟧.hash_input a ≡ ⟦<Id as Hash>⟧.hash_input b
         → a ≡ b }
+{}
+
+/// A line that submits Fool's mate, won by Black, under the id g1 submits just that, and White is
+/// in check at its end.
+pub fn worked()
+    ensures lawful { IsLawful worked_line worked_submission }
+    ensures check { InCheck (last_setup worked_submission.1).board White }
 {}

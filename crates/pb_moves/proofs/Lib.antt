@@ -25,3 +25,5 @@ pub mod Castlings
 pub mod Equal
 pub mod Spellings
 pub mod Effects
+pub mod Tested
+pub mod WorkedMoves

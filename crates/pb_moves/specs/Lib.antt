@@ -15,3 +15,4 @@ pub mod MoveKind
 pub mod Effect
 pub mod Unpinned
 pub mod Candidate
+pub mod Worked

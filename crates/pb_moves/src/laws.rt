@@ -1,12 +1,18 @@
 //! Laws of moves, for the crates above, and of equality (`==`) between moves. Each of these
 //! functions is proved to keep them.
 
-ghost use Rattle.std.specs.Prelude.{◌≡◌, ◌↔◌, ℕ, List};
+ghost use Rattle.std.specs.Prelude.{◌≡◌, ◌↔◌, ℕ, List, [], ◌∷◌, codes, map};
 ghost use Rattle.std.specs.Bool.{Decides};
-ghost use Rattle.pb_board.specs.Position.{IsSetup, Position};
+ghost use Rattle.pb_board.specs.Initial.{initial};
+ghost use Rattle.pb_board.specs.Position.{IsSetup, Position, Record, record_of};
+ghost use Rattle.pb_board.specs.Text.{fen_text};
+ghost use Rattle.pb_moves.specs.Clocks.{record_after};
 ghost use Rattle.pb_moves.specs.Legal.{Legal};
 ghost use Rattle.pb_moves.specs.Moved.{Moved, IsMove};
+ghost use Rattle.pb_moves.specs.Played.{AreLegal, Plays};
+ghost use Rattle.pb_moves.specs.Spelling.{spelling};
 ghost use Rattle.pb_moves.specs.Successor.{IsAfter, after};
+ghost use Rattle.pb_moves.specs.Worked.{e2e4, fools_mate, pawn_run, two_knights};
 
 use crate::moves::Move;
 use crate::text::MoveText;
@@ -27,4 +33,19 @@ pub fn equal_moves()
     ensures moves { (a b : Moved) → IsMove a → IsMove b
         → Decides (⟦<Move as PartialEq>⟧.eq a b) (a ≡ b) }
     ensures texts { (t u : List ℕ) → Decides (⟦<MoveText as PartialEq>⟧.eq t u) (t ≡ u) }
+{}
+
+/// In the initial array e2e4 is legal, and leads to the record that players know, and the moves of
+/// Fool's mate are legal. Castling, taking en passant and promotion lead to these records.
+pub fn worked()
+    ensures legal { Legal initial e2e4 }
+    ensures text { fen_text (record_after (record_of initial 0 1) e2e4)
+        ≡ codes "rnbqkbnr/pppppppp/8/8/4P3/8/PPPP1PPP/RNBQKBNR b KQkq e3 0 1" }
+    ensures words { map spelling fools_mate
+        ≡ codes "f2f3" ∷ codes "e7e5" ∷ codes "g2g4" ∷ codes "d8h4" ∷ [] }
+    ensures mate { AreLegal initial fools_mate }
+    ensures castling { (g : Record) × Plays (record_of initial 0 1) two_knights g × (fen_text g
+        ≡ codes "r1bqkb1r/pppp1ppp/2n2n2/4p3/2B1P3/5N2/PPPP1PPP/RNBQ1RK1 b kq - 5 4") }
+    ensures pawns { (g : Record) × Plays (record_of initial 0 1) pawn_run g × (fen_text g
+        ≡ codes "rQbqkbnr/1p2pppp/8/8/p7/8/PPPP1PPP/RNBQKBNR b KQkq - 0 5") }
 {}

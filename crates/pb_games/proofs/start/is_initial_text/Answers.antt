@@ -1,6 +1,6 @@
 use Rattle.std.proofs.Common.{rules, ◌≡◌, ◌↔◌, IsTrue, sym, ◌∙◌}
 use Rattle.std.specs.Prelude.{codes}
-use Rattle.pb_games.proofs.InitialText.{initial_text}
+use Rattle.pb_board.proofs.InitialText.{initial_text}
 use Rattle.pb_games.proofs.start.is_initial_text.Goals as goal
 
 pub returns : goal.returns
