@@ -17,7 +17,7 @@ onto_suc k n acc last e = ap (λ (b : Bool). cond b (digit_glyph false (n % 10) 
 
 -- where there is room, a number has more digits than a power of ten that it reaches
 long : (k j n : ℕ) (acc : List ℕ) → j ≤ k → 10 ^ j ≤ n → j + length acc ≤ length (digits_onto k 10 false n acc)
-long k zero n acc room many = grows k n acc
+long k zero n acc room many = omega (arith, grows k n acc)
   where
     grows : (k n : ℕ) (acc : List ℕ) → length acc ≤ length (digits_onto k 10 false n acc)
     grows zero n acc = omega arith
@@ -28,21 +28,18 @@ long k zero n acc room many = grows k n acc
         by true e rest = omega (arith, ap length (onto_suc k n acc true e))
         by false e rest = omega (arith, ap length (onto_suc k n acc false e), rest)
 long zero (suc j) n acc room many = absurd (omega (arith, room))
-long (suc k) (suc j) n acc room many = by (eqb (n / 10) 0) refl
+long (suc k) (suc j) n acc room many =
+    let ten : 10 * 10 ^ j ≤ n = omega (arith, many, pow-succ' 10 j) in
+    by (eqb (n / 10) 0) refl (one_or_more j) ten (long k j (n / 10) (digit_glyph false (n % 10) ∷ acc) (omega (arith, room)) (omega (arith, ten)))
   where
-    ten : 10 * 10 ^ j ≤ n
-    ten = omega (arith, many, pow-succ' 10 j)
-
-    some : 1 ≤ 10 ^ j
-    some = one_or_more j
-      where
-        one_or_more : (j : ℕ) → 1 ≤ 10 ^ j
-        one_or_more zero = omega arith
-        one_or_more (suc j) = omega (arith, one_or_more j, pow-succ' 10 j)
-
-    by : (last : Bool) → eqb (n / 10) 0 ≡ last → suc j + length acc ≤ length (digits_onto (suc k) 10 false n acc)
-    by true e = absurd (omega (arith, eqb-true (n / 10) 0 e, some, ten))
-    by false e = omega (arith, ap length (onto_suc k n acc false e), long k j (n / 10) (digit_glyph false (n % 10) ∷ acc) (omega (arith, room)) (omega (arith, ten)))
+  one_or_more : (j : ℕ) → 1 ≤ 10 ^ j
+  one_or_more zero = omega arith
+  one_or_more (suc j) = omega (arith, one_or_more j, pow-succ' 10 j)
+  by : (last : Bool) → eqb (n / 10) 0 ≡ last → 1 ≤ 10 ^ j → 10 * 10 ^ j ≤ n
+      → j + suc (length acc) ≤ length (digits_onto k 10 false (n / 10) (digit_glyph false (n % 10) ∷ acc))
+      → suc j + length acc ≤ length (digits_onto (suc k) 10 false n acc)
+  by true e some ten rest = absurd (omega (arith, eqb-true (n / 10) 0 e, some, ten))
+  by false e some ten rest = omega (arith, ap length (onto_suc k n acc false e), rest)
 
 pub same_number : (m n : ℕ) → m ≤ 1000000 → decimal m ≡ decimal n → m ≡ n
 same_number m n few e =

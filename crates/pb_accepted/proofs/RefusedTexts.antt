@@ -88,7 +88,7 @@ refused_to line refusal.Start h =
         (λ w d. no_shape line e h (omega arith) d.1),
         inr (
           (λ w d. no_id line e h (omega arith) d.1),
-          inr ((λ w d. no_result line e h (omega arith) d.1), inr ((λ w d. no_fen line e h (omega arith) d.1), inl (refl, h.due))),
+          inr ((λ w d. no_result line e h (omega arith) d.1), inr ((λ w d. no_fen line e h (omega arith) d.1), inl (refl, h.due.0, h.due.1, h.due.2))),
         ),
       ),
     )

@@ -108,14 +108,14 @@ module _ (L : List (List ℕ)) (R : List Answer) (games : List Submission) (run 
       let back = told_back L R i a.0 (ok s n) a.1 at in
       let number = ok_back a.0 s n back.0 a.2 back.2 in
       let here : slice_get R i ≡ Some (Ok number.0) = back.1 ∙ ap (λ (r : Answer). Some r) number.1 in
-      let held = (numbers.are number.0 s).1 (i, a, here) in
+      let held = (numbers.are number.0 s).1 (i, (a, here)) in
       subst (λ (k : ℕ). slice_get R i ≡ Some (Ok k)) (same_number number.0 n (small number.0 s held) number.2) here
 
   pub replies_number : AreNumbered ok L (reply_texts L R) games
   replies_number = record {
     are = λ n s. (
-      (λ at. let g = (numbers.are n s).0 at in (g.0, g.1.0, ok_to g.0 n s g.1.0 g.1.1)),
-      λ h. (numbers.are n s).1 (h.0, h.1.0, ok_from h.0 n s h.1.0 h.1.1),
+      (λ at. let g = (numbers.are n s).0 at in (g.0, (g.1.0, ok_to g.0 n s g.1.0 g.1.1))),
+      λ h. (numbers.are n s).1 (h.0, (h.1.0, ok_from h.0 n s h.1.0 h.1.1)),
     );
     ids = numbers.ids;
     repeats = λ i j n s lt was here. ok_to j n s here (numbers.repeats i j n s lt (was.0, ok_from i n s was.0 was.1) here);
