@@ -32,14 +32,15 @@ long (suc k) (suc j) n acc room many =
     let ten : 10 * 10 ^ j ≤ n = omega (arith, many, pow-succ' 10 j) in
     by (eqb (n / 10) 0) refl (one_or_more j) ten (long k j (n / 10) (digit_glyph false (n % 10) ∷ acc) (omega (arith, room)) (omega (arith, ten)))
   where
-  one_or_more : (j : ℕ) → 1 ≤ 10 ^ j
-  one_or_more zero = omega arith
-  one_or_more (suc j) = omega (arith, one_or_more j, pow-succ' 10 j)
-  by : (last : Bool) → eqb (n / 10) 0 ≡ last → 1 ≤ 10 ^ j → 10 * 10 ^ j ≤ n
-      → j + suc (length acc) ≤ length (digits_onto k 10 false (n / 10) (digit_glyph false (n % 10) ∷ acc))
-      → suc j + length acc ≤ length (digits_onto (suc k) 10 false n acc)
-  by true e some ten rest = absurd (omega (arith, eqb-true (n / 10) 0 e, some, ten))
-  by false e some ten rest = omega (arith, ap length (onto_suc k n acc false e), rest)
+    one_or_more : (j : ℕ) → 1 ≤ 10 ^ j
+    one_or_more zero = omega arith
+    one_or_more (suc j) = omega (arith, one_or_more j, pow-succ' 10 j)
+
+    by : (last : Bool) → eqb (n / 10) 0 ≡ last → 1 ≤ 10 ^ j → 10 * 10 ^ j ≤ n
+        → j + suc (length acc) ≤ length (digits_onto k 10 false (n / 10) (digit_glyph false (n % 10) ∷ acc))
+        → suc j + length acc ≤ length (digits_onto (suc k) 10 false n acc)
+    by true e some ten rest = absurd (omega (arith, eqb-true (n / 10) 0 e, some, ten))
+    by false e some ten rest = omega (arith, ap length (onto_suc k n acc false e), rest)
 
 pub same_number : (m n : ℕ) → m ≤ 1000000 → decimal m ≡ decimal n → m ≡ n
 same_number m n few e =

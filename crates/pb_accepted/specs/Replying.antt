@@ -54,7 +54,8 @@ pub data Reply (cap : ℕ) (A : List Submission) (line r : List ℕ)
 abbrev pub Replies : ℕ → List Submission → List (List ℕ) → List (List ℕ) → List Submission
     → Type 0
 Replies cap A [] [] B = B ≡ A
-Replies cap A (line ∷ L) (r ∷ R) B = (M : List Submission) × Reply cap A line r M × Replies cap M L R B
+Replies cap A (line ∷ L) (r ∷ R) B =
+    (M : List Submission) × Reply cap A line r M × Replies cap M L R B
 Replies cap A L R B = ⊥
 
 -- ---- numbers, by answers that say `say s n` where game s was accepted under the number n

@@ -48,8 +48,8 @@ pub fn runs()
     ensures join { RunsJoin }
 {}
 
-/// What lines are answered is what they are replied to, each reply is a line, and the replies number
-/// what is held.
+/// What lines are answered is what they are replied to, each reply is a line, and the replies
+/// number what is held.
 pub fn replies()
     ensures run { RunsAreReplied }
     ensures lines { RepliesAreLines }

@@ -49,24 +49,27 @@ module _ (rules : CountingRules) (fills : ℕ) (e : EndStates) where
       let took = (subst (λ (l : LedgerState). Takes fills e l left totals) first.is takes).0 in
       let collects = took.done.0 in
       let bytes = took.came in
-      let T : Basis = record { words = first.randoms; rules = rules } in ((
-        table.came,
-        bytes,
-        replies (lines bytes) collects.answers,
-        handed_out _ _ _ _ _ table.reads,
-        handed_out _ _ _ _ _ took.reads,
-        collects.put,
-        record {
-          counting = first.counting;
-          randoms = first.randoms;
-          table = table.is;
-          replies = reply_texts (lines bytes) collects.answers;
-          games = left.accepted;
-          effect = effect (lines bytes) collects.answers left.accepted collects.leads.run T entries bounds
-              (subst (λ (X : Basis). IsBook (counted X left.accepted) X.rules.least entries) collects.leads.basis book);
-          replied = replies_are (lines bytes) collects.answers;
-        },
-      ), record { answers = collects.answers; said = refl; run = collects.leads.run })
+      let T : Basis = record { words = first.randoms; rules = rules } in (
+        (
+          table.came,
+          bytes,
+          replies (lines bytes) collects.answers,
+          handed_out _ _ _ _ _ table.reads,
+          handed_out _ _ _ _ _ took.reads,
+          collects.put,
+          record {
+            counting = first.counting;
+            randoms = first.randoms;
+            table = table.is;
+            replies = reply_texts (lines bytes) collects.answers;
+            games = left.accepted;
+            effect = effect (lines bytes) collects.answers left.accepted collects.leads.run T entries bounds
+                (subst (λ (X : Basis). IsBook (counted X left.accepted) X.rules.least entries) collects.leads.basis book);
+            replied = replies_are (lines bytes) collects.answers;
+          },
+        ),
+        record { answers = collects.answers; said = refl; run = collects.leads.run },
+      )
 
   pub headline : (made : Collected) → CollectRun rules fills e (Ok made) → IsAnswered rules e made.entries (book_bytes made.entries)
   headline made (runs.began ledger (Ok x) first (left, takes, book, ordered, bounds) same) =

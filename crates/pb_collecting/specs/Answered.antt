@@ -1,5 +1,5 @@
--- The theorem of `pbook collect` with the answers that its replies say, of which the laws of ledgers
--- speak.
+-- The theorem of `pbook collect` with the answers that its replies say: the laws of ledgers speak of
+-- answers.
 use Rattle.std.specs.Prelude.{◌≡◌, ℕ, List, []}
 use Rattle.pb_io.specs.Lines.{lines}
 use Rattle.pb_poly.specs.declared.entry.Entry.{Entry}

@@ -1,5 +1,5 @@
--- The setup after a move as a function of the two, and square by square as a relation. Neither means
--- anything where the move isn't legal.
+-- The setup after a move as a function of the two, and square by square as a relation. Neither
+-- means anything where the move isn't legal.
 use Rattle.std.specs.Prelude.{◌≡◌, ◌≢◌, ℕ, ◌+◌, ◌-◌, ◌*◌, ◌/◌, Bool, not, ◌&&◌, ◌||◌, ◌==◌, nat_lt}
 use Rattle.std.specs.Prelude.{List, [], ◌∷◌, length, All, fold, slice_set, Option, Some, None}
 use Rattle.std.specs.Prelude.{is_none, unwrap_or, if◌then◌else◌}

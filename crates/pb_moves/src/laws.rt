@@ -24,7 +24,8 @@ pub fn after_is_setup()
 
 /// A setup is the one after a legal move exactly where it is so square by square.
 pub fn after_is()
-    ensures { (s t : Position) (m : Moved) → IsSetup s → Legal s m → IsAfter s m t ↔ (t ≡ after s m) }
+    ensures { (s t : Position) (m : Moved) → IsSetup s → Legal s m
+        → IsAfter s m t ↔ (t ≡ after s m) }
 {}
 
 /// Moves are equal (`==`) exactly where squares and promotion are the same, and their texts where
