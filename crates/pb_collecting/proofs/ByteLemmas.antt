@@ -46,17 +46,18 @@ put_all (Some x) (Some y) put all none is h =
     let f : x ++ put ≡ all = sym h ∙ same_Some y all is in
     subst (λ z. z ++ put ≡ all) e f
 
-module _ (rules : CountingRules) (e : EndStates) (file bytes put : List ℕ) (told_table : e.table.old.to_come ≡ Some file) (told_lines : e.lines.old.to_come ≡ Some bytes)
-    (empty : e.replies.old.bytes ≡ Some []) (all : e.replies.new.bytes ≡ Some put) where
-  abbrev Answered : List ℕ → List ℕ → List ℕ → List Entry → List ℕ → Type 0
-  Answered f b p entries book = (h : Headline rules f b p entries book) × SayAnswers (lines b) h.replies h.games
+abbrev Answered : CountingRules → List ℕ → List ℕ → List ℕ → List Entry → List ℕ → Type 0
+Answered rules f b p entries book = (h : Headline rules f b p entries book) × SayAnswers (lines b) h.replies h.games
 
-  pub bytes_headline : (entries : List Entry) (book : List ℕ) → IsAnswered rules e entries book → Answered file bytes put entries book
-  bytes_headline entries book (h, says) =
-      let f = all_of e.table.old.to_come h.0 file told_table h.3.told in
-      let b = all_of e.lines.old.to_come h.1 bytes told_lines h.4.told in
-      let p = put_all e.replies.old.bytes e.replies.new.bytes h.2 put empty all h.5 in
-      subst (λ x. Answered x bytes put entries book) f (subst (λ x. Answered h.0 x put entries book) b (subst (λ x. Answered h.0 h.1 x entries book) p (h.6, says)))
+pub bytes_headline : (rules : CountingRules) (e : EndStates) (entries : List Entry) (book : List ℕ) → IsAnswered rules e entries book
+    → (file bytes put : List ℕ) → e.table.old.to_come ≡ Some file → e.lines.old.to_come ≡ Some bytes → e.replies.old.bytes ≡ Some [] → e.replies.new.bytes ≡ Some put
+    → Answered rules file bytes put entries book
+bytes_headline rules e entries book (h, says) file bytes put told_table told_lines empty all =
+    let f = all_of e.table.old.to_come h.0 file told_table h.3.told in
+    let b = all_of e.lines.old.to_come h.1 bytes told_lines h.4.told in
+    let p = put_all e.replies.old.bytes e.replies.new.bytes h.2 put empty all h.5 in
+    let A = Answered rules in
+    subst (λ x. A x bytes put entries book) f (subst (λ x. A h.0 x put entries book) b (subst (λ x. A h.0 h.1 x entries book) p (h.6, says)))
 
 -- bytes that are a table file are never refused
 no_table : (file randoms : List ℕ) (e : TableFault) → IsTableFile randoms file → AsTable file (Err e) → ⊥
