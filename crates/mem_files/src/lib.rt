@@ -8,8 +8,10 @@ mod mem_folder;
 mod mem_journal;
 mod mem_shelf;
 mod mem_store;
+mod scene;
 
 pub use mem_file::{MemDraft, MemFile};
-pub use mem_folder::{MemFolder, Scene};
+pub use mem_folder::MemFolder;
 pub use mem_journal::MemJournal;
 pub use mem_store::MemStore;
+pub use scene::Scene;

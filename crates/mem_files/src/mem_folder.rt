@@ -4,59 +4,22 @@ ghost use Rattle.std.specs.Option.{option_copied, option_map};
 ghost use Rattle.std.specs.Prelude.{◌≡◌, [], ◌∷◌, Some, IfOk, IfSome, OnErr, OnOk, false, length};
 ghost use Rattle.std.specs.Prelude.{nat_lt};
 ghost use Rattle.pb_folder.specs.File.{locked};
-ghost use Rattle.pb_folder.specs.Parts.{is_journal, is_ledger};
+ghost use Rattle.pb_folder.specs.Parts.{is_journal};
 ghost use Rattle.pb_folder.specs.Shelf.{Settles};
 ghost use Rattle.mem_files.specs.MemFolder.{shelf_of};
 
 use crate::mem_file::{MemDraft, MemFile};
 use crate::mem_shelf::MemShelf;
-use pb_folder::{Entry, Folder, Hold, Lock, Seen, Status};
+use crate::scene::Scene;
+use pb_folder::{Entry, FileNotes, Folder, Hold, Lock, Seen, Status};
 use pb_io::FuseSink;
 use pb_messages::{Left, Part};
 use std::alloc::{AllocError, Global};
 use std::cell::Cell;
 use std::io::{self, ErrorKind};
 
-/// The mode of a file in memory.
-const MODE: u32 = 0o100_644;
-
 /// The mode of a draft until it is set.
 const DRAFT_MODE: u32 = 0o100_600;
-
-/// What stands under a name and beside it, what other runs do there, and what the system refuses.
-#[derive(Clone, Copy, Debug)]
-pub enum Scene {
-    /// A file that a draft can replace, or none, and no draft.
-    Free,
-    /// A draft of the first number, which a killed run left.
-    LeftOver,
-    /// A draft of the first number, of a run that writes it.
-    Drafted,
-    /// Another run takes this run's first draft for one that is left over.
-    Snatched,
-    /// Another run holds the file.
-    Held,
-    /// No file can be locked.
-    Unlockable,
-    /// So many files take the name, each after this run has locked the one before.
-    Replaced(u32),
-    /// The name is a link, which leads elsewhere once it is followed.
-    Elsewhere,
-    /// A device has the name.
-    Device,
-    /// The file has a second name.
-    SecondName,
-    /// A new file has another owner.
-    Owner,
-    /// A new file is on another mount.
-    Mount,
-    /// The folder takes no new file.
-    Closed,
-    /// The system gives no draft the name, though a crash may leave it there.
-    Refused,
-    /// It fails to give it, though a crash may leave it there.
-    Unsure,
-}
 
 /// A name in memory. So many of its calls that may fail succeed, and then each fails.
 #[derive(Drop)]
@@ -68,8 +31,7 @@ pub struct MemFolder {
     /// How many puts and flushes of each end pass.
     pub good: u32,
     alloc: Global,
-    is_ledger: bool,
-    is_journal: bool,
+    part: Part,
     scene: Scene,
     shelf: MemShelf,
     // How many drafts of this run stand there.
@@ -98,28 +60,21 @@ impl MemFolder {
         ensures none { IfOk result (λ folder. ⟦<MemFolder as Folder>⟧.drafts folder ≡ 0) }
         ensures untried { IfOk result (λ folder. ⟦<MemFolder as Folder>⟧.unsettled folder
             ≡ false) }
-        ensures ledger { IfOk result (λ folder. ⟦<MemFolder as Folder>⟧.ledger folder
-            ≡ is_ledger part) }
-        ensures journal { IfOk result (λ folder. ⟦<MemFolder as Folder>⟧.appends folder
-            ≡ is_journal part) }
+        ensures part { IfOk result (λ folder. ⟦<MemFolder as Folder>⟧.part folder ≡ part) }
     {
         Ok(MemFolder {
-            status: status_of(scene),
+            status: scene.status(),
             calls: Cell::new(u32::MAX),
             good: u32::MAX,
             alloc,
-            is_ledger: matches!(part, Part::Ledger),
-            is_journal: matches!(part, Part::Journal),
+            part,
             scene,
             shelf: MemShelf::new(alloc, first)?,
             drafts: 0,
             is_free: false,
             has_failed: false,
-            is_drafted: Cell::new(matches!(scene, Scene::LeftOver | Scene::Drafted)),
-            to_come: Cell::new(match scene {
-                Scene::Replaced(times) => times,
-                _ => 0,
-            }),
+            is_drafted: Cell::new(scene.has_draft()),
+            to_come: Cell::new(scene.to_come()),
         })
     }
 
@@ -148,6 +103,13 @@ impl MemFolder {
         self.shelf.is_torn()
     }
 
+    /// Whether what is opened is added to at its end.
+    fn is_journal(&self) -> bool
+        ensures { result ≡ is_journal self.now.part }
+    {
+        matches!(self.part, Part::Journal)
+    }
+
     /// Lets a call succeed, or fails it.
     fn let_pass(&self) -> io::Result<()> {
         let calls = self.calls.get();
@@ -172,75 +134,38 @@ impl MemFolder {
         Ok(())
     }
 
-    /// Why no draft gets the name.
-    fn naming_fault(&self) -> Option<ErrorKind> {
-        match self.scene {
-            Scene::Refused => Some(ErrorKind::ResourceBusy),
-            Scene::Unsure => Some(ErrorKind::Other),
-            _ => None,
-        }
-    }
-
-    /// Whether another run keeps this one from locking the file.
-    fn is_locked(&self, f: &MemFile) -> bool {
-        match (self.scene, f.draft_number()) {
-            (Scene::Held, None) | (Scene::Drafted, Some(0)) => true,
-            (Scene::Snatched, Some(0)) => f.is_made(),
-            _ => false,
-        }
-    }
-
     /// Locks the file, as far as the scene lets it be locked.
     fn lock_by(&self, f: &mut MemFile, hold: Hold) -> Lock
         ensures { f.new ≡ locked hold result f.old }
     {
         let lock = if matches!(self.scene, Scene::Unlockable) {
             Lock::Unsupported
-        } else if self.is_locked(f) {
+        } else if self.scene.has_locked(&f.notes) {
             Lock::InUse
         } else {
             self.to_come.set(self.to_come.get().saturating_sub(1));
             Lock::Held
         };
-        f.note_lock(hold, lock);
+        f.notes.note_lock(hold, lock);
         lock
     }
 
     /// What is told of the file.
     fn status_of(&self, f: &MemFile) -> Status {
         let mut status = self.status;
-        if !f.is_made() {
+        if !f.notes.is_made() {
             return status;
         }
         status.inode = status.inode.wrapping_add(1);
         status.names = 1;
         status.len = f.as_bytes().len() as u64;
-        status.mode = f.mode().unwrap_or(DRAFT_MODE);
+        status.mode = f.notes.status().map_or(DRAFT_MODE, |told| told.mode);
         match self.scene {
             Scene::Owner => status.user = status.user.wrapping_add(1),
             Scene::Mount => status.device = status.device.wrapping_add(1),
             _ => {}
         }
         status
-    }
-}
-
-/// What is told of a file at first.
-fn status_of(scene: Scene) -> Status {
-    Status {
-        device: 1,
-        inode: 1,
-        names: if matches!(scene, Scene::SecondName) {
-            2
-        } else {
-            1
-        },
-        user: 1,
-        group: 1,
-        mode: MODE,
-        is_file: !matches!(scene, Scene::Device),
-        len: 0,
-        modified: (0, 0),
     }
 }
 
@@ -261,12 +186,10 @@ impl Folder for MemFolder {
 
     ghost unsettled = { λ m. m.has_failed };
 
-    ghost ledger = { λ m. m.is_ledger };
-
-    ghost appends = { λ m. m.is_journal };
+    ghost part = { λ m. m.part };
 
     fn is_ledger(&self) -> bool {
-        self.is_ledger
+        matches!(self.part, Part::Ledger)
     }
 
     fn follow(&mut self) -> io::Result<()> {
@@ -294,7 +217,8 @@ impl Folder for MemFolder {
             return Err(io::Error::from(ErrorKind::NotFound));
         }
         let to_come = self.to_come.get();
-        Ok(MemFile::opened(self.alloc, entry, self.is_journal, to_come))
+        let notes = FileNotes::opened(entry, self.is_journal());
+        Ok(MemFile::new(self.alloc, notes, to_come))
     }
 
     fn make(&mut self, number: u32, _is_private: bool) -> io::Result<MemFile> {
@@ -309,7 +233,7 @@ impl Folder for MemFolder {
             return Err(io::Error::from(ErrorKind::AlreadyExists));
         }
         self.drafts = drafts;
-        Ok(MemFile::draft(self.alloc, number))
+        Ok(MemFile::new(self.alloc, FileNotes::draft(number, true), 0))
     }
 
     fn lock(&self, f: &mut MemFile) -> Lock {
@@ -321,22 +245,22 @@ impl Folder for MemFolder {
     }
 
     fn is_named(&self, f: &mut MemFile) -> bool {
-        let is_named = f.draft_number().is_some()
+        let is_named = f.notes.draft_number().is_some()
             || (!matches!(self.scene, Scene::Elsewhere) && f.to_come() == self.to_come.get());
-        f.note_named(is_named);
+        f.notes.note_named(is_named);
         is_named
     }
 
     fn tell(&self, f: &mut MemFile) -> io::Result<Status> {
         self.let_pass()?;
         let status = self.status_of(f);
-        f.note_status(status);
+        f.notes.note_status(status);
         Ok(status)
     }
 
     fn set_mode(&self, f: &mut MemFile, mode: u32) -> io::Result<()> {
         self.let_pass()?;
-        f.set_mode(mode);
+        f.notes.note_mode(mode);
         Ok(())
     }
 
@@ -351,14 +275,14 @@ impl Folder for MemFolder {
     fn empty(&mut self, f: &mut MemFile) -> io::Result<()> {
         self.let_pass()?;
         self.shelf.empty()?;
-        f.begin_in_place();
+        f.notes.note_emptied();
         Ok(())
     }
 
     fn create(&mut self) -> io::Result<MemFile> {
         self.let_pass()?;
         self.shelf.empty()?;
-        Ok(MemFile::emptied(self.alloc))
+        Ok(MemFile::new(self.alloc, FileNotes::emptied(), 0))
     }
 
     fn in_place(&self, _f: MemFile, _room: Vec<u8>) -> FuseSink {
@@ -372,12 +296,12 @@ impl Folder for MemFolder {
         _held: Option<&MemFile>,
     ) -> io::Result<()> {
         self.let_pass()?;
-        if let Some(kind) = self.naming_fault() {
+        if let Some(kind) = self.scene.naming_fault() {
             self.shelf.may_leave(draft.as_bytes())?;
             return Err(io::Error::from(kind));
         }
         self.shelf.name(draft.as_bytes())?;
-        draft.take_name();
+        draft.notes.note_renamed();
         self.drafts = self.drafts.saturating_sub(1);
         self.has_failed = false;
         Ok(())
@@ -390,10 +314,10 @@ impl Folder for MemFolder {
     }
 
     fn remove(&mut self, draft: MemFile) {
-        if self.let_pass().is_ok() && draft.draft_number() == Some(0) {
+        if self.let_pass().is_ok() && draft.notes.draft_number() == Some(0) {
             self.is_drafted.set(false);
         }
-        if draft.is_made() {
+        if draft.notes.is_made() {
             self.drafts = self.drafts.saturating_sub(1);
         }
     }

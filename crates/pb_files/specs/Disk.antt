@@ -15,7 +15,7 @@ pub record Disk : Type 0 where
 
 -- What a run knows of its file: the disk, where the file tells of it, and the fault that a write or
 -- a sync has met, if one has.
-pub record FileState : Type 0 where
+pub record JournalState : Type 0 where
   pub told : Option Disk
   pub fault : Option Fault
 
@@ -36,7 +36,7 @@ abbrev pub StaysSound : Disk → Disk → Type 0
 StaysSound old new = IsSound old → IsSound new
 
 -- where lines are to be synced, and the file works, a sync of it writes all that isn't on the disk
-abbrev pub SyncsAll : Bool → FileState → Type 0
+abbrev pub SyncsAll : Bool → JournalState → Type 0
 SyncsAll sync file = sync ≡ true → file.fault ≡ None → ForSome file.told IsSound
 
 -- A crash leaves what is on the disk, and behind it anything at all.

@@ -4,7 +4,7 @@ use Rattle.std.specs.Option.{unwrap_or}
 use Rattle.pb_io.specs.Source.{SourceState}
 use Rattle.pb_io.specs.declared.fault.Fault.{Fault}
 use Rattle.pb_io.specs.declared.fault.Fault.TheVariants.{Read}
-use Rattle.pb_files.specs.Disk.{Disk, FileState}
+use Rattle.pb_files.specs.Disk.{Disk, JournalState}
 
 -- A source that works has all that is found still to come.
 pub record ReadsAll (told : Option Disk) (source : SourceState) : Type 0 where
@@ -13,5 +13,5 @@ pub record ReadsAll (told : Option Disk) (source : SourceState) : Type 0 where
 
 -- what a file has met that gave no reader: a file that can't be synced has met the fault of a
 -- write, and one that still works couldn't be read
-abbrev pub fault_met : FileState → Fault
+abbrev pub fault_met : JournalState → Fault
 fault_met file = unwrap_or file.fault Read

@@ -3,7 +3,7 @@ use Rattle.std.specs.Prelude.{◌≡◌, ◌==◌, Bool, false, true, if◌then�
 use Rattle.std.specs.Prelude.{Option, None, Some, IfSome, Result, OnErr, OnOk, is_err, is_some}
 use Rattle.std.specs.Option.{ForSome}
 use Rattle.pb_io.specs.Sink.{SinkState}
-use Rattle.pb_files.specs.Disk.{Adds, Disk, FileState, Grows, IsOnDisk, OutlivesCrash, SyncsAll}
+use Rattle.pb_files.specs.Disk.{Adds, Disk, JournalState, Grows, IsOnDisk, OutlivesCrash, SyncsAll}
 use Rattle.pb_files.specs.Disk.{on_disk}
 use Rattle.pb_folder.specs.Steps.{Steps}
 
@@ -76,7 +76,7 @@ pub record WritesFront (old new : Option Disk) (waits rest : List ℕ) : Type 0 
 
 -- What waits is written, and with sync all that is found is on the disk, or the file has met a
 -- fault, and the rest waits on.
-pub record HandsOn {E : Type 0} (sync : Bool) (old new : FileState) (waits rest : List ℕ)
+pub record HandsOn {E : Type 0} (sync : Bool) (old new : JournalState) (waits rest : List ℕ)
     (answer : Result (Unit {0}) E) : Type 0 where
   pub writes : WritesFront old.told new.told waits rest
   pub none : OnOk answer (rest ≡ [])

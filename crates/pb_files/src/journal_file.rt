@@ -5,7 +5,7 @@ ghost use Rattle.std.specs.Prelude.{◌≡◌, ◌≤◌, ◌<◌, ◌++◌, ℕ
 ghost use Rattle.std.specs.Prelude.{Bool, take, true};
 ghost use Rattle.std.specs.Result.{result_err};
 ghost use Rattle.pb_io.specs.declared.fault.Fault.TheVariants as faults;
-ghost use Rattle.pb_files.specs.Disk.{Adds, FileState, IsSound, StaysSound, Syncs};
+ghost use Rattle.pb_files.specs.Disk.{Adds, JournalState, IsSound, StaysSound, Syncs};
 ghost use Rattle.pb_files.specs.JournalFile.{ReadsAll};
 ghost use Rattle.pb_folder.specs.Steps.{Steps};
 
@@ -17,7 +17,7 @@ pub trait JournalFile {
     type Reader: Source;
 
     /// What is known of the file.
-    ghost state: { Self → FileState };
+    ghost state: { Self → JournalState };
 
     /// The bytes that the file has taken from this run, in order.
     ghost handed: { Self → List ℕ };

@@ -1,6 +1,6 @@
 //! The end of a journal's file, as a sink.
 
-ghost use Rattle.std.specs.Prelude.{◌≡◌, ◌≤◌, ◌++◌, IfOk, IfSome, None, OnErr, OnOk, [], drop};
+ghost use Rattle.std.specs.Prelude.{◌≡◌, ◌≤◌, ◌++◌, IfOk, IfSome, None, OnErr, OnOk, []};
 ghost use Rattle.std.specs.Prelude.{false, is_err, length, take, true};
 ghost use Rattle.std.specs.Option.{ForSome, is_some};
 ghost use Rattle.pb_io.specs.Sink.{Flush, Put};
@@ -9,7 +9,7 @@ ghost use Rattle.pb_files.specs.JournalSink.{FlushAtEnd, HandsOn, PutAtEnd, sink
 ghost use Rattle.pb_folder.specs.Steps.{Steps};
 
 use crate::journal_file::JournalFile;
-use pb_folder::BUFFER_LEN;
+use pb_folder::{BUFFER_LEN, remove_front};
 use pb_io::{Failed, History, Sink};
 use std::alloc::{AllocError, Global};
 use std::marker::Model;
@@ -237,14 +237,4 @@ fn write_all<J: JournalFile>(file: &mut J, bytes: &[u8]) -> usize
         }
     }
     count
-}
-
-/// Removes this many bytes at the front.
-fn remove_front(bytes: &mut Vec<u8>, count: usize)
-    requires { count ≤ length bytes.old.items }
-    ensures { bytes.new.items ≡ drop count bytes.old.items }
-{
-    let rest = bytes.len() - count;
-    bytes.rotate_left(count);
-    bytes.truncate(rest);
 }

@@ -1,7 +1,7 @@
 -- What a run knows of a file that it has open, by what the system has answered, and what the run may
 -- do with it.
-use Rattle.std.specs.Prelude.{◌≡◌, ◌⊎◌, ◌≤◌, ◌+◌, ◌-◌, if◌then◌else◌, Bool, false, true, List, []}
-use Rattle.std.specs.Prelude.{ℕ, Option, None, Some}
+use Rattle.std.specs.Prelude.{◌≡◌, ◌≢◌, ◌⊎◌, ◌≤◌, ◌<◌, ◌+◌, ◌-◌, if◌then◌else◌, Bool, false, true}
+use Rattle.std.specs.Prelude.{List, [], ℕ, Option, None, Some}
 use Rattle.std.specs.Option.{option_map}
 use Rattle.pb_folder.specs.declared.folder.Entry.{Entry}
 use Rattle.pb_folder.specs.declared.folder.Entry.TheVariants.{Target, Draft}
@@ -11,6 +11,8 @@ use Rattle.pb_folder.specs.declared.folder.Lock.{Lock}
 use Rattle.pb_folder.specs.declared.folder.Lock.TheVariants.{Held, InUse, Unsupported}
 use Rattle.pb_folder.specs.declared.folder.Seen.{Seen}
 use Rattle.pb_folder.specs.declared.status.Status.{Status}
+use Rattle.pb_messages.specs.declared.message.Unreplaceable.{Unreplaceable}
+use Rattle.pb_messages.specs.declared.message.Unreplaceable.TheVariants.{Mount, Owner, SecondName}
 
 pub record FileState : Type 0 where
   -- the entry by which it was opened or made, or that it was given
@@ -169,9 +171,21 @@ pub record TakesAfter (old new : Status) : Type 0 where
   pub group : new.group ≡ old.group
   pub mode : new.mode ≡ old.mode
 
+-- Why a new file can't take an old one's place, whatever its mode: so it is where the answer is a
+-- second name, a mount, or an owner or a group. The other answers are never those of two statuses.
+abbrev pub Bars : Unreplaceable → Status → Status → Type 0
+Bars SecondName old new = 1 < old.names
+Bars Mount old new = new.device ≢ old.device
+Bars Owner old new = (new.user ≢ old.user) ⊎ (new.group ≢ old.group)
+Bars why old new = ⊥
+
 -- the new file takes after one of this status
 abbrev pub Fits : Status → FileState → Type 0
 Fits old s = (new : Status) × (s.status ≡ Some new) × TakesAfter old new
+
+-- it can't, for this reason
+abbrev pub FitsNot : Unreplaceable → Status → FileState → Type 0
+FitsNot why old s = (new : Status) × (s.status ≡ Some new) × Bars why old new
 
 -- The draft can take the place of this file: the name leads to it, and no other run holds it; a
 -- ledger is held by this run under another handle.
@@ -195,14 +209,18 @@ pub record IsOld (ledger : Bool) (status : Status) (s : FileState) : Type 0 wher
   pub told : s.status ≡ Some status
   pub untouched : IsUntouched s
 
--- two statuses are of one file
+-- both tell of one ordinary file
+abbrev pub IsOfOne : Status → Status → Type 0
+IsOfOne one other =
+    (one.is_file ≡ true) × (one.device ≡ other.device) × (one.inode ≡ other.inode)
+
+-- what was told of the two is of one file
 pub record IsOneFile (one other : FileState) : Type 0 where
   pub status : Status
   pub other_status : Status
   pub told : one.status ≡ Some status
   pub other_told : other.status ≡ Some other_status
-  pub device : status.device ≡ other_status.device
-  pub inode : status.inode ≡ other_status.inode
+  pub same : IsOfOne status other_status
 
 -- A ledger is replaced by a run that holds it alone, and only that file is.
 abbrev pub IsOfHolder : Option FileState → Option FileState → Type 0

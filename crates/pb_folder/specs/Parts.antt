@@ -18,3 +18,11 @@ is_journal Table = false
 is_journal Ledger = false
 is_journal Book = false
 is_journal Games = false
+
+-- whether it is made anew, as a saved ledger and a book are
+abbrev pub is_made_anew : Part → Bool
+is_made_anew Ledger = true
+is_made_anew Book = true
+is_made_anew Table = false
+is_made_anew Journal = false
+is_made_anew Games = false

@@ -8,7 +8,7 @@ use Rattle.pb_folder.specs.declared.folder.Hold.TheVariants.{Nothing, Shared, Al
 
 -- the file that the name leads to, the run that has the lock of each file, and the number of the
 -- next new file
-pub record Names : Type 0 where
+pub record NameState : Type 0 where
   pub leads : Option ℕ
   pub locked : ℕ → Option ℕ
   pub next : ℕ
@@ -30,7 +30,7 @@ run_of (Unnames run) = run
 run_of (Ends run) = run
 
 -- the run has the lock of the file that the name leads to
-pub record HoldsDraft (run : ℕ) (names : Names) : Type 0 where
+pub record HoldsDraft (run : ℕ) (names : NameState) : Type 0 where
   pub file : ℕ
   pub leads : names.leads ≡ Some file
   pub locked : names.locked file ≡ Some run
@@ -58,7 +58,7 @@ abbrev pub unname_held : ℕ → (ℕ → Option ℕ) → Option ℕ → Option 
 unname_held run locked None = None
 unname_held run locked (Some file) = unname run file (locked file)
 
-abbrev pub after_step : Names → Step → Names
+abbrev pub after_step : NameState → Step → NameState
 after_step names (Makes run) =
     record { leads = make names.next names.leads; locked = names.locked; next = names.next + 1 }
 after_step names (Locks run file) = record {
@@ -75,7 +75,7 @@ after_step names (Unnames run) = record {
 after_step names (Ends run) =
     record { leads = names.leads; locked = λ k. unlock run (names.locked k); next = names.next }
 
-abbrev pub after : Names → List Step → Names
+abbrev pub after : NameState → List Step → NameState
 after names [] = names
 after names (step ∷ steps) = after (after_step names step) steps
 
@@ -87,7 +87,7 @@ OfOthers run (step ∷ steps) = (run == run_of step ≡ false) × OfOthers run s
 -- ---- what a run knows
 
 -- what the system does with a name, whoever removes it or gives its file another
-abbrev pub unnamed : Names → Names
+abbrev pub unnamed : NameState → NameState
 unnamed names = record { leads = None; locked = names.locked; next = names.next }
 
 -- The run has a lock of the file, so there are locks. A draft is shared by its maker alone, and by
@@ -103,6 +103,6 @@ IsLocked s = is_locked s.hold ≡ true
 
 -- what a run knows of a file that it has locked is so: it has the lock, and the name leads to the
 -- file if that was seen since
-pub record Claims (run file : ℕ) (s : FileState) (names : Names) : Type 0 where
+pub record Claims (run file : ℕ) (s : FileState) (names : NameState) : Type 0 where
   pub locked : IsLocked s → names.locked file ≡ Some run
   pub named : IsLocked s → s.named ≡ true → names.leads ≡ Some file

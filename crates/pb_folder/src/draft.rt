@@ -1,8 +1,8 @@
 //! Drafts, which stand beside the file that they are to replace.
 
 ghost use Rattle.std.specs.Prelude.{◌≡◌, ◌-◌, IfOk, IfSome, IsNone, OnErr, false, true};
-ghost use Rattle.pb_folder.specs.File.{Fits, IsNewDraft, IsOwnDraft, is_alone, is_held};
-ghost use Rattle.pb_folder.specs.File.{new_draft, with_draft};
+ghost use Rattle.pb_folder.specs.File.{Fits, FitsNot, IsNewDraft, IsOwnDraft, is_alone};
+ghost use Rattle.pb_folder.specs.File.{is_held, new_draft, with_draft};
 
 use crate::folder::{Entry, Folder, Lock};
 use crate::status::{Status, why_not};
@@ -18,7 +18,7 @@ pub fn remove_left_over<F: Folder>(folder: &mut F, number: u32)
     ensures drafts { F.drafts folder.new ≡ F.drafts folder.old }
     ensures free { F.free folder.new ≡ F.free folder.old }
     ensures same { F.shelf folder.new ≡ F.shelf folder.old }
-    ensures ledger { F.ledger folder.new ≡ F.ledger folder.old }
+    ensures part { F.part folder.new ≡ F.part folder.old }
 {
     let Ok(mut file) = folder.open(Entry::Draft(number)) else {
         return;
@@ -49,7 +49,7 @@ pub fn make_draft<F: Folder>(
     ensures none { OnErr result (F.drafts folder.new ≡ F.drafts folder.old) }
     ensures free { F.free folder.new ≡ F.free folder.old }
     ensures same { F.shelf folder.new ≡ F.shelf folder.old }
-    ensures ledger { F.ledger folder.new ≡ F.ledger folder.old }
+    ensures part { F.part folder.new ≡ F.part folder.old }
 {
     for number in 0..NAMES {
         remove_left_over(folder, number);
@@ -79,7 +79,7 @@ pub fn make_first_draft<F: Folder>(folder: &mut F) -> io::Result<Option<F::File>
     ensures none { OnErr result (F.drafts folder.new ≡ F.drafts folder.old) }
     ensures free { F.free folder.new ≡ F.free folder.old }
     ensures same { F.shelf folder.new ≡ F.shelf folder.old }
-    ensures ledger { F.ledger folder.new ≡ F.ledger folder.old }
+    ensures part { F.part folder.new ≡ F.part folder.old }
 {
     match folder.make(0, false) {
         Ok(file) => Ok(hold_draft(folder, file, 0, false)),
@@ -102,7 +102,7 @@ fn hold_draft<F: Folder>(
     ensures left { IsNone result → F.drafts folder.new ≡ F.drafts folder.old - 1 }
     ensures free { F.free folder.new ≡ F.free folder.old }
     ensures same { F.shelf folder.new ≡ F.shelf folder.old }
-    ensures ledger { F.ledger folder.new ≡ F.ledger folder.old }
+    ensures part { F.part folder.new ≡ F.part folder.old }
 {
     if lock_draft(folder, &mut file, is_ledger) && folder.is_named(&mut file) {
         return Some(file);
@@ -143,6 +143,7 @@ pub fn take_after<F: Folder>(
 ) -> io::Result<Option<Unreplaceable>>
     requires { IsOwnDraft (F.file draft.old) }
     ensures fits { IfOk result (λ why. IsNone why → Fits old.now (F.file draft.new)) }
+    ensures bars { IfOk result (λ why. IfSome why (λ w. FitsNot w old.now (F.file draft.new))) }
     ensures same { F.file draft.new ≡ record (F.file draft.old) {
       status = (F.file draft.new).status;
     } }

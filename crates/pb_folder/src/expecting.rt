@@ -1,8 +1,9 @@
 //! Whether a file can be made anew, as far as that is known before it is: so a user knows it before
 //! all games are taken.
 
-ghost use Rattle.std.specs.Prelude.{◌≡◌, true};
+ghost use Rattle.std.specs.Prelude.{◌≡◌};
 ghost use Rattle.pb_folder.specs.File.{IsHolder};
+ghost use Rattle.pb_messages.specs.declared.part.Part.TheVariants.{Ledger};
 
 use crate::draft::{make_first_draft, remove_left_over};
 use crate::folder::{Entry, Folder, Seen};
@@ -24,10 +25,11 @@ pub fn expect_ledger<F: Folder>(
     label: &Label<'_>,
     ledger: &LedgerFile<'_, F::File>,
 ) -> Result<(), StoreError>
-    requires ledger { F.ledger folder.old ≡ true }
+    requires ledger { F.part folder.old ≡ Ledger }
     requires holder { IsHolder (F.file ledger.now.file) ledger.now.status }
     ensures drafts { F.drafts folder.new ≡ F.drafts folder.old }
-    ensures ledger { F.ledger folder.new ≡ F.ledger folder.old }
+    ensures part { F.part folder.new ≡ F.part folder.old }
+    ensures same { F.shelf folder.new ≡ F.shelf folder.old }
 {
     let old = match look_at(folder, label, Some(ledger)) {
         Ok(old) => old,
@@ -52,7 +54,8 @@ pub fn expect_ledger<F: Folder>(
 /// `Open` where the book can't be written, which is told; `Memory` where there is none for a draft.
 pub fn expect_book<F: Folder>(folder: &mut F, label: &Label<'_>) -> Result<(), StoreError>
     ensures drafts { F.drafts folder.new ≡ F.drafts folder.old }
-    ensures ledger { F.ledger folder.new ≡ F.ledger folder.old }
+    ensures part { F.part folder.new ≡ F.part folder.old }
+    ensures same { F.shelf folder.new ≡ F.shelf folder.old }
 {
     let left = match folder.look() {
         Seen::Nothing => return warn_of_folder(folder, label),
@@ -70,7 +73,8 @@ pub fn expect_book<F: Folder>(folder: &mut F, label: &Label<'_>) -> Result<(), S
 /// Warns where no file can be made of a name that is free.
 fn warn_of_folder<F: Folder>(folder: &mut F, label: &Label<'_>) -> Result<(), StoreError>
     ensures drafts { F.drafts folder.new ≡ F.drafts folder.old }
-    ensures ledger { F.ledger folder.new ≡ F.ledger folder.old }
+    ensures part { F.part folder.new ≡ F.part folder.old }
+    ensures same { F.shelf folder.new ≡ F.shelf folder.old }
 {
     remove_left_over(folder, 0);
     match make_first_draft(folder) {

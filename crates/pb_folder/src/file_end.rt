@@ -183,7 +183,7 @@ fn write_all(file: &mut SystemFile, bytes: &[u8]) -> (usize, io::Result<()>)
 }
 
 /// Removes this many bytes at the front.
-fn remove_front(bytes: &mut Vec<u8>, count: usize)
+pub fn remove_front(bytes: &mut Vec<u8>, count: usize)
     requires { count ≤ length bytes.old.items }
     ensures { bytes.new.items ≡ drop count bytes.old.items }
 {

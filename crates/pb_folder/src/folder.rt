@@ -7,10 +7,13 @@ ghost use Rattle.pb_io.specs.Sink.{HandedOn};
 ghost use Rattle.pb_folder.specs.File.{CanReplace, FileState, IsNewDraft, IsOfHolder, IsOfOther};
 ghost use Rattle.pb_folder.specs.File.{IsOwnDraft, MayEmpty, MayRemove, MayShare, emptied};
 ghost use Rattle.pb_folder.specs.File.{is_nothing, locked, new_draft, opened, with_mode, without};
+ghost use Rattle.pb_folder.specs.Parts.{is_journal, is_ledger, is_made_anew};
 ghost use Rattle.pb_folder.specs.Shelf.{Begins, Empties, Names, NamesNot, Settles, SettlesNot, Shelf};
 ghost use Rattle.pb_folder.specs.Steps.{Steps};
 ghost use Rattle.pb_folder.specs.declared.folder.Entry.TheVariants.{Draft, Target};
 ghost use Rattle.pb_folder.specs.declared.folder.Hold.TheVariants.{Alone, Shared};
+ghost use Rattle.pb_messages.specs.declared.part.Part.{Part};
+ghost use Rattle.pb_messages.specs.declared.part.Part.TheVariants.{Book};
 
 use crate::status::Status;
 use pb_io::Sink;
@@ -95,34 +98,31 @@ pub trait Folder {
     /// succeed then though the name isn't there.
     ghost unsettled: { Self → Bool };
 
-    /// Whether the name is that of a ledger, which a run replaces that holds it alone.
-    ghost ledger: { Self → Bool };
-
-    /// Whether what is opened is added to at its end.
-    ghost appends: { Self → Bool };
+    /// What the file of the name is to the run: a ledger is replaced by a run that holds it alone,
+    /// a journal is added to at its end, and a book alone is written in place.
+    ghost part: { Self → Part };
 
     /// Whether the name is that of a ledger.
     fn is_ledger(&self) -> bool
-        ensures { result ≡ ledger self.now };
+        ensures { result ≡ is_ledger (part self.now) };
 
     /// Has the file stand where the links of its name lead, and its drafts beside it.
     fn follow(&mut self) -> io::Result<()>
         ensures same { shelf self.new ≡ shelf self.old }
         ensures drafts { drafts self.new ≡ drafts self.old }
         ensures free { free self.new ≡ free self.old }
-        ensures ledger { ledger self.new ≡ ledger self.old }
-        ensures appends { appends self.new ≡ appends self.old };
+        ensures part { part self.new ≡ part self.old };
 
     /// Looks at what has the name.
     fn look(&mut self) -> Seen
         ensures free { free self.new ≡ is_nothing result }
         ensures same { shelf self.new ≡ shelf self.old }
         ensures drafts { drafts self.new ≡ drafts self.old }
-        ensures ledger { ledger self.new ≡ ledger self.old };
+        ensures part { part self.new ≡ part self.old };
 
     /// Opens the file that the entry leads to, to be written.
     fn open(&self, entry: Entry) -> io::Result<Self::File>
-        ensures { IfOk result (λ f. file f ≡ opened entry (appends self.now)) };
+        ensures { IfOk result (λ f. file f ≡ opened entry (is_journal (part self.now))) };
 
     /// Makes the draft of this number, which is empty, where nothing has its name. Its user alone
     /// may read it, or whoever may read new files.
@@ -132,7 +132,7 @@ pub trait Folder {
         ensures none { OnErr result (drafts self.new ≡ drafts self.old) }
         ensures free { free self.new ≡ free self.old }
         ensures same { shelf self.new ≡ shelf self.old }
-        ensures ledger { ledger self.new ≡ ledger self.old };
+        ensures part { part self.new ≡ part self.old };
 
     /// Locks the file, so that no other run has a lock of it.
     fn lock(&self, f: &mut Self::File) -> Lock
@@ -162,7 +162,7 @@ pub trait Folder {
     /// Makes an end into a draft that has taken nothing yet, with this room for what waits. A
     /// failure leaves so much, which is told then.
     fn draft(&self, f: Self::File, room: Vec<u8>, left: Left) -> Self::Draft
-        requires new { IsNewDraft (ledger self.now) (file f) }
+        requires new { IsNewDraft (is_ledger (part self.now)) (file f) }
         requires room { room.items ≡ [] }
         ensures { Begins (Self.Draft.state result) };
 
@@ -176,22 +176,22 @@ pub trait Folder {
     /// Empties the file of a book, which no draft can replace, to be written in place. A device
     /// stays as it is.
     fn empty(&mut self, f: &mut Self::File) -> io::Result<()>
-        requires book { ledger self.old ≡ false }
+        requires book { part self.old ≡ Book }
         requires may { MayEmpty (file f.old) }
         ensures in_place { OnOk result (file f.new ≡ record (file f.old) { in_place = true }) }
         ensures emptied { OnOk result (Steps Empties (shelf self.old) (shelf self.new)) }
         ensures same { OnErr result (shelf self.new ≡ shelf self.old) }
         ensures drafts { drafts self.new ≡ drafts self.old }
-        ensures ledger { ledger self.new ≡ ledger self.old };
+        ensures part { part self.new ≡ part self.old };
 
     /// Makes a file of the name, or empties the one that has it, to be written in place.
     fn create(&mut self) -> io::Result<Self::File>
-        requires { ledger self.old ≡ false }
+        requires { part self.old ≡ Book }
         ensures in_place { IfOk result (λ f. file f ≡ emptied) }
         ensures emptied { OnOk result (Steps Empties (shelf self.old) (shelf self.new)) }
         ensures same { OnErr result (shelf self.new ≡ shelf self.old) }
         ensures drafts { drafts self.new ≡ drafts self.old }
-        ensures ledger { ledger self.new ≡ ledger self.old };
+        ensures part { part self.new ≡ part self.old };
 
     /// Makes an end into a file that is written in place and has taken nothing yet.
     fn in_place(&self, f: Self::File, room: Vec<u8>) -> Self::InPlace
@@ -211,10 +211,12 @@ pub trait Folder {
     ) -> io::Result<()>
         requires own { IsOwnDraft (file draft.old) }
         requires on_disk { (file draft.old).synced ≡ true }
-        requires fits { IfSome old (λ o. CanReplace (ledger self.old) (file o.now)
+        requires anew { is_made_anew (part self.old) ≡ true }
+        requires fits { IfSome old (λ o. CanReplace (is_ledger (part self.old)) (file o.now)
             (file draft.old)) }
         requires free { is_some old ≡ false → free self.old ≡ true }
-        requires held { ledger self.old ≡ true → IsOfHolder (option_map (λ h. file h.now) held)
+        requires held { is_ledger (part self.old) ≡ true
+            → IsOfHolder (option_map (λ h. file h.now) held)
             (option_map (λ o. file o.now) old) }
         ensures name { OnOk result (file draft.new ≡ record (file draft.old) { entry = Target }) }
         ensures same { OnErr result (file draft.new ≡ file draft.old) }
@@ -225,7 +227,7 @@ pub trait Folder {
         ensures drafts { OnOk result (drafts self.new ≡ drafts self.old - 1) }
         ensures stays { OnErr result (drafts self.new ≡ drafts self.old) }
         ensures untried { OnOk result (unsettled self.new ≡ false) }
-        ensures ledger { ledger self.new ≡ ledger self.old };
+        ensures part { part self.new ≡ part self.old };
 
     /// Puts the folder's names on the disk.
     fn sync_names(&mut self) -> io::Result<()>
@@ -234,7 +236,7 @@ pub trait Folder {
         ensures noted { unsettled self.new ≡ (unsettled self.old || is_err result) }
         ensures not_settled { OnErr result (Steps SettlesNot (shelf self.old) (shelf self.new)) }
         ensures drafts { drafts self.new ≡ drafts self.old }
-        ensures ledger { ledger self.new ≡ ledger self.old };
+        ensures part { part self.new ≡ part self.old };
 
     /// Takes the name from a draft, and lets the draft go.
     fn remove(&mut self, draft: Self::File)
@@ -242,7 +244,7 @@ pub trait Folder {
         ensures drafts { drafts self.new ≡ without (file draft) (drafts self.old) }
         ensures free { free self.new ≡ free self.old }
         ensures same { shelf self.new ≡ shelf self.old }
-        ensures ledger { ledger self.new ≡ ledger self.old };
+        ensures part { part self.new ≡ part self.old };
 
     /// Lets a draft of this run go, which another run has, or has removed.
     fn leave(&mut self, draft: Self::File)
@@ -250,5 +252,5 @@ pub trait Folder {
         ensures drafts { drafts self.new ≡ drafts self.old - 1 }
         ensures free { free self.new ≡ free self.old }
         ensures same { shelf self.new ≡ shelf self.old }
-        ensures ledger { ledger self.new ≡ ledger self.old };
+        ensures part { part self.new ≡ part self.old };
 }

@@ -2,6 +2,7 @@
 
 ghost use Rattle.std.specs.Prelude.{◌≡◌, IfOk, Some};
 ghost use Rattle.pb_folder.specs.File.{IsHeldAlone, IsJustOpened, IsUntouched};
+ghost use Rattle.pb_folder.specs.Parts.{is_journal};
 
 use crate::folder::{Entry, Folder, Lock};
 use crate::label::Label;
@@ -32,8 +33,12 @@ pub struct Held<X> {
 pub fn hold<F: Folder>(folder: &mut F, label: &Label<'_>) -> Result<Held<F::File>, StoreError>
     ensures held { IfOk result (λ held. IsHeldAlone (F.file held.file)) }
     ensures told { IfOk result (λ held. (F.file held.file).status ≡ Some held.status) }
-    ensures appends { IfOk result (λ held. (F.file held.file).appends ≡ F.appends folder.old) }
+    ensures appends { IfOk result (λ held. (F.file held.file).appends
+        ≡ is_journal (F.part folder.old)) }
     ensures untouched { IfOk result (λ held. IsUntouched (F.file held.file)) }
+    ensures drafts { F.drafts folder.new ≡ F.drafts folder.old }
+    ensures part { F.part folder.new ≡ F.part folder.old }
+    ensures same { F.shelf folder.new ≡ F.shelf folder.old }
 {
     for tried in 0..TRIES {
         let mut file = open_ordinary(folder, label)?;
@@ -71,7 +76,7 @@ fn told_of<F: Folder>(
 
 /// Opens the file that the name leads to, unless it is a device, which keeps nothing.
 fn open_ordinary<F: Folder>(folder: &F, label: &Label<'_>) -> Result<F::File, StoreError>
-    ensures { IfOk result (λ file. IsJustOpened (F.appends folder.now) (F.file file)) }
+    ensures { IfOk result (λ file. IsJustOpened (is_journal (F.part folder.now)) (F.file file)) }
 {
     let mut file = match folder.open(Entry::Target) {
         Ok(file) => file,

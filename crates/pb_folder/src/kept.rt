@@ -5,6 +5,8 @@ ghost use Rattle.std.specs.Prelude.{◌≡◌, ℕ, List, IfOk, IfSome, None, On
 ghost use Rattle.pb_collecting.specs.Store.{KeepsText};
 ghost use Rattle.pb_folder.specs.File.{IsHolder, IsInPlace, IsPut, MayEmpty};
 ghost use Rattle.pb_folder.specs.Keeping.{KeepsAt, WritesInPlace, handed_at};
+ghost use Rattle.pb_folder.specs.Parts.{is_ledger, is_made_anew};
+ghost use Rattle.pb_messages.specs.declared.part.Part.TheVariants.{Book, Ledger};
 
 use crate::file_end::BUFFER_LEN;
 use crate::folder::Folder;
@@ -30,7 +32,8 @@ pub struct KeptFile<'f, 'a, F: Folder> {
     /// The file that a draft became. The lock on it lasts as long as it is kept.
     pub named: Option<F::File>,
     fault: Option<StoreError>,
-    ghost held: { F.ledger folder ≡ is_some ledger },
+    ghost held: { is_ledger (F.part folder) ≡ is_some ledger },
+    ghost anew: { is_made_anew (F.part folder) ≡ true },
     ghost put: { ForSome named (λ f. IsPut (F.file f).handed (F.file f)) },
     ghost holder: { ForSome ledger (λ l. IsHolder (F.file l.now.file) l.now.status) },
 }
@@ -38,7 +41,7 @@ pub struct KeptFile<'f, 'a, F: Folder> {
 impl<'f, 'a, F: Folder> KeptFile<'f, 'a, F> {
     /// The store of a book of this name, where nothing was kept yet.
     pub fn of_book(folder: F, label: Label<'a>) -> KeptFile<'f, 'a, F>
-        requires { F.ledger folder ≡ false }
+        requires { F.part folder ≡ Book }
         ensures state { ⟦<KeptFile<'f, 'a, F> as Store>⟧.state result
             ≡ record { handed = None; fault = None } }
         ensures folder { result.folder ≡ folder }
@@ -60,7 +63,7 @@ impl<'f, 'a, F: Folder> KeptFile<'f, 'a, F> {
         label: Label<'a>,
         ledger: &'f LedgerFile<'a, F::File>,
     ) -> KeptFile<'f, 'a, F>
-        requires ledger { F.ledger folder ≡ true }
+        requires ledger { F.part folder ≡ Ledger }
         requires holder { IsHolder (F.file ledger.now.file) ledger.now.status }
         ensures state { ⟦<KeptFile<'f, 'a, F> as Store>⟧.state result
             ≡ record { handed = None; fault = None } }
@@ -92,7 +95,7 @@ impl<'f, 'a, F: Folder> Store for KeptFile<'f, 'a, F> {
         // The name leads to a file of the text alone, and no crash can undo it or leaves a part,
         // unless a book is written in place.
         ensures at { (bytes : List ℕ) × (count : ℕ) × X.is_text text.now bytes count
-            × KeepsAt (F.ledger self.old.folder) result bytes
+            × KeepsAt (is_ledger (F.part self.old.folder)) result bytes
             (option_map F.InPlace.state self.old.in_place)
             (option_map F.InPlace.state self.new.in_place)
             (option_map F.file self.old.named) (option_map F.file self.new.named)
@@ -123,17 +126,18 @@ fn keep_at<F: Folder, X: Text>(
     text: &X,
 ) -> Result<u64, StoreError>
     requires text { (bytes : List ℕ) × (count : ℕ) × X.is_text text.now bytes count }
-    requires ledger { F.ledger folder.old ≡ is_some ledger }
+    requires ledger { is_ledger (F.part folder.old) ≡ is_some ledger }
+    requires anew { is_made_anew (F.part folder.old) ≡ true }
     requires put { ForSome named.old (λ f. IsPut (F.file f).handed (F.file f)) }
     requires holder { IfSome ledger (λ l. IsHolder (F.file l.now.file) l.now.status) }
     ensures kept { (bytes : List ℕ) × (count : ℕ) × X.is_text text.now bytes count
-        × KeepsAt (F.ledger folder.old) result bytes
+        × KeepsAt (is_ledger (F.part folder.old)) result bytes
         (option_map F.InPlace.state in_place.old) (option_map F.InPlace.state in_place.new)
         (option_map F.file named.old) (option_map F.file named.new)
         (F.shelf folder.old) (F.shelf folder.new) × IfOk result (λ n. n ≡ count) }
     ensures put { ForSome named.new (λ f. IsPut (F.file f).handed (F.file f)) }
     ensures drafts { F.drafts folder.new ≡ F.drafts folder.old }
-    ensures ledger { F.ledger folder.new ≡ F.ledger folder.old }
+    ensures part { F.part folder.new ≡ F.part folder.old }
 {
     let old = match look_at(folder, label, ledger) {
         Ok(old) => old,
@@ -168,14 +172,14 @@ fn keep_in_place<F: Folder, X: Text>(
     text: &X,
 ) -> Result<u64, StoreError>
     requires text { (bytes : List ℕ) × (count : ℕ) × X.is_text text.now bytes count }
-    requires book { F.ledger folder.old ≡ false }
+    requires book { F.part folder.old ≡ Book }
     requires may { IfSome file (λ f. MayEmpty (F.file f)) }
     ensures kept { (bytes : List ℕ) × (count : ℕ) × X.is_text text.now bytes count
         × WritesInPlace result bytes (option_map F.InPlace.state in_place.old)
         (option_map F.InPlace.state in_place.new) (F.shelf folder.old) (F.shelf folder.new)
         × IfOk result (λ n. n ≡ count) }
     ensures drafts { F.drafts folder.new ≡ F.drafts folder.old }
-    ensures ledger { F.ledger folder.new ≡ F.ledger folder.old }
+    ensures part { F.part folder.new ≡ F.part folder.old }
 {
     let Ok(room) = Vec::with_capacity(label.messages.rt.alloc(), BUFFER_LEN) else {
         return Err(StoreError::Memory);
@@ -196,12 +200,12 @@ fn open_in_place<F: Folder>(
     label: &Label<'_>,
     file: Option<F::File>,
 ) -> Result<F::File, StoreError>
-    requires book { F.ledger folder.old ≡ false }
+    requires book { F.part folder.old ≡ Book }
     requires may { IfSome file (λ f. MayEmpty (F.file f)) }
     ensures in_place { IfOk result (λ f. IsInPlace (F.file f)) }
     ensures same { OnErr result (F.shelf folder.new ≡ F.shelf folder.old) }
     ensures drafts { F.drafts folder.new ≡ F.drafts folder.old }
-    ensures ledger { F.ledger folder.new ≡ F.ledger folder.old }
+    ensures part { F.part folder.new ≡ F.part folder.old }
 {
     let Some(mut old) = file else {
         return match folder.create() {

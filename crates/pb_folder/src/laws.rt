@@ -3,7 +3,7 @@
 
 ghost use Rattle.std.specs.Prelude.{◌≡◌, ◌==◌, ◌++◌, ◌∷◌, [], List, None, Some, false, true, ℕ};
 ghost use Rattle.pb_folder.specs.File.{FileState, IsOwnDraft, MayRemove, locked};
-ghost use Rattle.pb_folder.specs.Runs.{HoldsDraft, Names, OfOthers, Step, after, run_of};
+ghost use Rattle.pb_folder.specs.Runs.{HoldsDraft, NameState, OfOthers, Step, after, run_of};
 ghost use Rattle.pb_folder.specs.Runs.{Claims, IsLocked, unnamed};
 ghost use Rattle.pb_folder.specs.Runs.Step.{Ends, Locks, Makes, Unnames};
 ghost use Rattle.pb_folder.specs.Shelf.{Content, NamesNot, OldOrNew, Shelf};
@@ -23,7 +23,7 @@ pub fn what_a_name_may_lead_to()
 /// Two runs never hold the draft of one name, in a model of their steps.
 #[tactic(auto, using(crate::proofs::RunLemmas::one_run))]
 pub fn one_run_holds_a_draft()
-    ensures { (run other : ℕ) (names : Names) → HoldsDraft run names → HoldsDraft other names
+    ensures { (run other : ℕ) (names : NameState) → HoldsDraft run names → HoldsDraft other names
         → run ≡ other }
 {}
 
@@ -32,15 +32,15 @@ pub fn one_run_holds_a_draft()
 pub fn what_steps_do()
     ensures others { (run : ℕ) (step : Step) (steps : List Step) → (run == run_of step ≡ false)
         → OfOthers run steps → OfOthers run (step ∷ steps) }
-    ensures unnamed { (run : ℕ) (names : Names) → HoldsDraft run names
+    ensures unnamed { (run : ℕ) (names : NameState) → HoldsDraft run names
         → (after names (Unnames run ∷ [])).leads ≡ None }
-    ensures ended { (run file : ℕ) (names : Names) → names.locked file ≡ Some run
+    ensures ended { (run file : ℕ) (names : NameState) → names.locked file ≡ Some run
         → (after names (Ends run ∷ [])).locked file ≡ None }
 {}
 
 /// A run that makes a draft of a free name, and locks it, holds it.
 pub fn a_locked_draft_is_held()
-    ensures { (run : ℕ) (names : Names) → names.leads ≡ None → names.locked names.next ≡ None
+    ensures { (run : ℕ) (names : NameState) → names.leads ≡ None → names.locked names.next ≡ None
         → HoldsDraft run (after names (Makes run ∷ Locks run names.next ∷ [])) }
 {}
 
@@ -48,7 +48,7 @@ pub fn a_locked_draft_is_held()
 /// that has seen that it does may write the draft.
 #[tactic(auto, using(crate::proofs::RunLemmas::still_held))]
 pub fn a_held_draft_stays_held()
-    ensures { (run : ℕ) (names : Names) (steps : List Step) → HoldsDraft run names
+    ensures { (run : ℕ) (names : NameState) (steps : List Step) → HoldsDraft run names
         → OfOthers run steps → HoldsDraft run (after names steps) }
 {}
 
@@ -56,15 +56,15 @@ pub fn a_held_draft_stays_held()
 /// other runs' steps leave it so, and so never make what a call requires a thing of the past.
 #[tactic(auto, using(crate::proofs::RunLemmas::claims_new, crate::proofs::RunLemmas::claims_on))]
 pub fn what_is_known_stays_known()
-    ensures locked { (run file : ℕ) (hold : Hold) (s : FileState) (names : Names)
+    ensures locked { (run file : ℕ) (hold : Hold) (s : FileState) (names : NameState)
         → names.locked file ≡ None
         → Claims run file (locked hold Held s) (after names (Locks run file ∷ [])) }
-    ensures unlocked { (run file : ℕ) (hold : Hold) (s : FileState) (names : Names)
+    ensures unlocked { (run file : ℕ) (hold : Hold) (s : FileState) (names : NameState)
         → Claims run file (locked hold InUse s) names
         × Claims run file (locked hold Unsupported s) names }
-    ensures named { (run file : ℕ) (s : FileState) (names : Names) → Claims run file s names
+    ensures named { (run file : ℕ) (s : FileState) (names : NameState) → Claims run file s names
         → names.leads ≡ Some file → Claims run file (record s { named = true }) names }
-    ensures stays { (run file : ℕ) (s : FileState) (names : Names) (steps : List Step)
+    ensures stays { (run file : ℕ) (s : FileState) (names : NameState) (steps : List Step)
         → Claims run file s names → OfOthers run steps → Claims run file s (after names steps) }
 {}
 
@@ -73,10 +73,10 @@ pub fn what_is_known_stays_known()
 /// it, is the step of the model that takes a name from a held draft alone.
 #[tactic(auto, using(crate::proofs::RunLemmas::holds_by, crate::proofs::RunLemmas::unnames))]
 pub fn only_a_held_draft_loses_its_name()
-    ensures remove { (run file : ℕ) (s : FileState) (names : Names) → Claims run file s names
+    ensures remove { (run file : ℕ) (s : FileState) (names : NameState) → Claims run file s names
         → IsLocked s → MayRemove s → HoldsDraft run names }
-    ensures rename { (run file : ℕ) (s : FileState) (names : Names) → Claims run file s names
+    ensures rename { (run file : ℕ) (s : FileState) (names : NameState) → Claims run file s names
         → IsLocked s → IsOwnDraft s → HoldsDraft run names }
-    ensures step { (run : ℕ) (names : Names) → HoldsDraft run names
+    ensures step { (run : ℕ) (names : NameState) → HoldsDraft run names
         → after names (Unnames run ∷ []) ≡ unnamed names }
 {}

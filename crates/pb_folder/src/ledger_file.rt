@@ -1,6 +1,6 @@
 //! The file of a saved ledger, which this run holds.
 
-ghost use Rattle.std.specs.Prelude.{IfOk};
+ghost use Rattle.std.specs.Prelude.{◌≡◌, IfOk};
 ghost use Rattle.pb_folder.specs.File.{IsHolder};
 
 use crate::folder::Folder;
@@ -40,7 +40,10 @@ pub fn hold_ledger<'a, F: Folder>(
     folder: &mut F,
     label: &Label<'a>,
 ) -> Result<LedgerFile<'a, F::File>, StoreError>
-    ensures { IfOk result (λ ledger. IsHolder (F.file ledger.file) ledger.status) }
+    ensures holder { IfOk result (λ ledger. IsHolder (F.file ledger.file) ledger.status) }
+    ensures drafts { F.drafts folder.new ≡ F.drafts folder.old }
+    ensures part { F.part folder.new ≡ F.part folder.old }
+    ensures same { F.shelf folder.new ≡ F.shelf folder.old }
 {
     let held = hold(folder, label)?;
     let guard = HeldFile::new(Named::new(label.messages, label.path), held.status, false);

@@ -4,6 +4,7 @@ ghost use Rattle.std.specs.Prelude.{◌≡◌, ◌≤◌, IfOk, IfSome, Err, IsN
 ghost use Rattle.std.specs.Option.{is_some, option_map};
 ghost use Rattle.pb_folder.specs.File.{IsHolder, IsOfHolder, IsOld, IsOneFile, IsPlain, IsUntouched};
 ghost use Rattle.pb_folder.specs.File.{MayEmpty, is_held};
+ghost use Rattle.pb_folder.specs.Parts.{is_ledger};
 ghost use Rattle.pb_folder.specs.Saving.{IfRefused, is_refused};
 ghost use Rattle.pb_folder.specs.declared.folder.Entry.TheVariants.{Target};
 
@@ -45,19 +46,19 @@ pub fn look_at<F: Folder>(
     label: &Label<'_>,
     ledger: Option<&LedgerFile<'_, F::File>>,
 ) -> Result<Option<Old<F::File>>, NotSaved<F::File>>
-    requires ledger { F.ledger folder.old ≡ is_some ledger }
+    requires ledger { is_ledger (F.part folder.old) ≡ is_some ledger }
     requires holder { IfSome ledger (λ l. IsHolder (F.file l.now.file) l.now.status) }
     ensures old { IfOk result (λ old. IfSome old (λ o.
-        IsOld (F.ledger folder.new) o.status (F.file o.file))) }
+        IsOld (is_ledger (F.part folder.new)) o.status (F.file o.file))) }
     ensures plain { IfOk result (λ old. IfSome old (λ o. IsPlain o.status)) }
     ensures free { IfOk result (λ old. is_some old ≡ false → F.free folder.new ≡ true) }
-    ensures held { IfOk result (λ old. F.ledger folder.new ≡ true
+    ensures held { IfOk result (λ old. is_ledger (F.part folder.new) ≡ true
         → IsOfHolder (option_map (λ l. F.file l.now.file) ledger.entry)
         (option_map (λ o. F.file o.file) old)) }
-    ensures refused { is_refused result ≡ true → F.ledger folder.new ≡ false }
+    ensures refused { is_refused result ≡ true → is_ledger (F.part folder.new) ≡ false }
     ensures refused_file { IfRefused result (λ f. MayEmpty (F.file f)) }
     ensures drafts { F.drafts folder.new ≡ F.drafts folder.old }
-    ensures ledger { F.ledger folder.new ≡ F.ledger folder.old }
+    ensures part { F.part folder.new ≡ F.part folder.old }
     ensures same { F.shelf folder.new ≡ F.shelf folder.old }
 {
     match folder.open(Entry::Target) {
@@ -73,14 +74,14 @@ fn look_at_none<F: Folder>(
     ledger: Option<&LedgerFile<'_, F::File>>,
     error: &io::Error,
 ) -> Result<Option<Old<F::File>>, NotSaved<F::File>>
-    requires { F.ledger folder.old ≡ is_some ledger }
+    requires { is_ledger (F.part folder.old) ≡ is_some ledger }
     ensures none { IfOk result (λ old. IsNone old) }
     ensures free { OnOk result (F.free folder.new ≡ true) }
-    ensures book { OnOk result (F.ledger folder.new ≡ false) }
-    ensures refused { is_refused result ≡ true → F.ledger folder.new ≡ false }
+    ensures book { OnOk result (is_ledger (F.part folder.new) ≡ false) }
+    ensures refused { is_refused result ≡ true → is_ledger (F.part folder.new) ≡ false }
     ensures refused_file { IfRefused result (λ f. MayEmpty (F.file f)) }
     ensures drafts { F.drafts folder.new ≡ F.drafts folder.old }
-    ensures ledger { F.ledger folder.new ≡ F.ledger folder.old }
+    ensures part { F.part folder.new ≡ F.part folder.old }
     ensures same { F.shelf folder.new ≡ F.shelf folder.old }
 {
     if let Some(ledger) = ledger {
@@ -103,21 +104,21 @@ fn look_at_file<F: Folder>(
     ledger: Option<&LedgerFile<'_, F::File>>,
     mut file: F::File,
 ) -> Result<Option<Old<F::File>>, NotSaved<F::File>>
-    requires ledger { F.ledger folder.old ≡ is_some ledger }
+    requires ledger { is_ledger (F.part folder.old) ≡ is_some ledger }
     requires holder { IfSome ledger (λ l. IsHolder (F.file l.now.file) l.now.status) }
     requires opened { (F.file file).entry ≡ Target }
     requires untouched { IsUntouched (F.file file) }
     ensures old { IfOk result (λ old. IfSome old (λ o.
-        IsOld (F.ledger folder.new) o.status (F.file o.file))) }
+        IsOld (is_ledger (F.part folder.new)) o.status (F.file o.file))) }
     ensures plain { IfOk result (λ old. IfSome old (λ o. IsPlain o.status)) }
     ensures some { IfOk result (λ old. is_some old ≡ true) }
-    ensures held { IfOk result (λ old. F.ledger folder.new ≡ true
+    ensures held { IfOk result (λ old. is_ledger (F.part folder.new) ≡ true
         → IsOfHolder (option_map (λ l. F.file l.now.file) ledger.entry)
         (option_map (λ o. F.file o.file) old)) }
-    ensures refused { is_refused result ≡ true → F.ledger folder.new ≡ false }
+    ensures refused { is_refused result ≡ true → is_ledger (F.part folder.new) ≡ false }
     ensures refused_file { IfRefused result (λ f. MayEmpty (F.file f)) }
     ensures drafts { F.drafts folder.new ≡ F.drafts folder.old }
-    ensures ledger { F.ledger folder.new ≡ F.ledger folder.old }
+    ensures part { F.part folder.new ≡ F.part folder.old }
     ensures same { F.shelf folder.new ≡ F.shelf folder.old }
 {
     let status = match folder.tell(&mut file) {
@@ -185,7 +186,7 @@ fn unreplaceable<F: Folder>(
       named = (F.file file.new).named;
     } }
     ensures drafts { F.drafts folder.new ≡ F.drafts folder.old }
-    ensures ledger { F.ledger folder.new ≡ F.ledger folder.old }
+    ensures part { F.part folder.new ≡ F.part folder.old }
     ensures same { F.shelf folder.new ≡ F.shelf folder.old }
 {
     match folder.follow() {
@@ -210,9 +211,10 @@ fn refuse<F: Folder>(
     file: F::File,
     why: Unreplaceable,
 ) -> NotSaved<F::File>
-    requires { F.ledger folder.now ≡ false → MayEmpty (F.file file) }
+    requires { is_ledger (F.part folder.now) ≡ false → MayEmpty (F.file file) }
     ensures refused_file { IfRefused {A = Unit {0}} (Err result) (λ f. MayEmpty (F.file f)) }
-    ensures refused { is_refused {A = Unit {0}} (Err result) ≡ true → F.ledger folder.now ≡ false }
+    ensures refused { is_refused {A = Unit {0}} (Err result) ≡ true
+        → is_ledger (F.part folder.now) ≡ false }
 {
     if folder.is_ledger() {
         label

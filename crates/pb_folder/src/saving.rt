@@ -4,6 +4,7 @@ ghost use Rattle.std.specs.Prelude.{◌≡◌, ◌+◌, ◌-◌, ℕ, List, Err,
 ghost use Rattle.std.specs.Prelude.{false, true};
 ghost use Rattle.std.specs.Option.{is_some, option_map};
 ghost use Rattle.pb_folder.specs.File.{Fits, IsNewDraft, IsOfHolder, IsOld, IsOwnDraft, IsPut};
+ghost use Rattle.pb_folder.specs.Parts.{is_ledger, is_made_anew};
 ghost use Rattle.pb_folder.specs.Shelf.{Names, NamesNot};
 ghost use Rattle.pb_folder.specs.Saving.{IsWritten, NamesBytes, is_put_refused};
 ghost use Rattle.pb_folder.specs.Steps.{Steps};
@@ -56,10 +57,11 @@ pub fn put_text<F: Folder, X: Text>(
     text: &X,
 ) -> Result<Put<F::File>, NotPut>
     requires text { (bytes : List ℕ) × (count : ℕ) × X.is_text text.now bytes count }
-    requires old { IfSome old (λ o. IsOld (F.ledger folder.old) o.now.status
+    requires old { IfSome old (λ o. IsOld (is_ledger (F.part folder.old)) o.now.status
         (F.file o.now.file)) }
+    requires anew { is_made_anew (F.part folder.old) ≡ true }
     requires free { is_some old ≡ false → F.free folder.old ≡ true }
-    requires held { F.ledger folder.old ≡ true
+    requires held { is_ledger (F.part folder.old) ≡ true
         → IsOfHolder (option_map (λ l. F.file l.now.file) ledger)
         (option_map (λ o. F.file o.now.file) old) }
     ensures put { (bytes : List ℕ) × (count : ℕ) × X.is_text text.now bytes count
@@ -67,9 +69,9 @@ pub fn put_text<F: Folder, X: Text>(
         × NamesBytes put.settled bytes (F.shelf folder.old) (F.shelf folder.new))
         × OnErr result (Steps (NamesNot (Some bytes)) (F.shelf folder.old)
         (F.shelf folder.new)) }
-    ensures refused { is_put_refused result ≡ true → F.ledger folder.new ≡ false }
+    ensures refused { is_put_refused result ≡ true → is_ledger (F.part folder.new) ≡ false }
     ensures drafts { F.drafts folder.new ≡ F.drafts folder.old }
-    ensures ledger { F.ledger folder.new ≡ F.ledger folder.old }
+    ensures part { F.part folder.new ≡ F.part folder.old }
 {
     let file = new_draft(folder, label, old)?;
     let (file, count) = write_draft(folder, label, old, file, text)?;
@@ -94,13 +96,13 @@ pub(crate) fn new_draft<F: Folder>(
     label: &Label<'_>,
     old: Option<&Old<F::File>>,
 ) -> Result<F::File, NotPut>
-    ensures new { IfOk result (λ draft. IsNewDraft (F.ledger folder.new) (F.file draft)) }
-    ensures refused { is_put_refused result ≡ true → F.ledger folder.new ≡ false }
+    ensures new { IfOk result (λ draft. IsNewDraft (is_ledger (F.part folder.new)) (F.file draft)) }
+    ensures refused { is_put_refused result ≡ true → is_ledger (F.part folder.new) ≡ false }
     ensures drafts { OnOk result (F.drafts folder.new ≡ F.drafts folder.old + 1) }
     ensures none { OnErr result (F.drafts folder.new ≡ F.drafts folder.old) }
     ensures free { F.free folder.new ≡ F.free folder.old }
     ensures same { F.shelf folder.new ≡ F.shelf folder.old }
-    ensures ledger { F.ledger folder.new ≡ F.ledger folder.old }
+    ensures part { F.part folder.new ≡ F.part folder.old }
 {
     let is_ledger = folder.is_ledger();
     match make_draft(folder, old.is_some(), is_ledger) {
@@ -120,14 +122,14 @@ fn fitted<F: Folder>(
     old: Option<&Old<F::File>>,
     mut draft: F::File,
 ) -> Result<F::File, NotPut>
-    requires { IsNewDraft (F.ledger folder.old) (F.file draft) }
-    ensures new { IfOk result (λ fit. IsNewDraft (F.ledger folder.new) (F.file fit)) }
-    ensures refused { is_put_refused result ≡ true → F.ledger folder.new ≡ false }
+    requires { IsNewDraft (is_ledger (F.part folder.old)) (F.file draft) }
+    ensures new { IfOk result (λ fit. IsNewDraft (is_ledger (F.part folder.new)) (F.file fit)) }
+    ensures refused { is_put_refused result ≡ true → is_ledger (F.part folder.new) ≡ false }
     ensures drafts { OnOk result (F.drafts folder.new ≡ F.drafts folder.old) }
     ensures none { OnErr result (F.drafts folder.new ≡ F.drafts folder.old - 1) }
     ensures free { F.free folder.new ≡ F.free folder.old }
     ensures same { F.shelf folder.new ≡ F.shelf folder.old }
-    ensures ledger { F.ledger folder.new ≡ F.ledger folder.old }
+    ensures part { F.part folder.new ≡ F.part folder.old }
 {
     if let Err(why) = fit_draft(folder, label, old, &mut draft) {
         folder.remove(draft);
@@ -143,7 +145,8 @@ fn no_draft<F: Folder>(
     old: Option<&Old<F::File>>,
     error: &io::Error,
 ) -> NotPut
-    ensures { is_put_refused {A = Unit {0}} (Err result) ≡ true → F.ledger folder.now ≡ false }
+    ensures { is_put_refused {A = Unit {0}} (Err result) ≡ true
+        → is_ledger (F.part folder.now) ≡ false }
 {
     let kind = error.kind();
     if kind == ErrorKind::InvalidInput {
@@ -172,7 +175,8 @@ fn is_of_folder(kind: ErrorKind) -> bool {
 /// Answers that no draft can take the file's place, which is told of a ledger: that isn't written in
 /// place.
 fn refuse<F: Folder>(folder: &F, label: &Label<'_>, why: Unreplaceable) -> NotPut
-    ensures { is_put_refused {A = Unit {0}} (Err result) ≡ true → F.ledger folder.now ≡ false }
+    ensures { is_put_refused {A = Unit {0}} (Err result) ≡ true
+        → is_ledger (F.part folder.now) ≡ false }
 {
     if !folder.is_ledger() {
         return NotPut::Refused;
@@ -199,16 +203,16 @@ fn write_draft<F: Folder, X: Text>(
     file: F::File,
     text: &X,
 ) -> Result<(F::File, u64), NotPut>
-    requires draft { IsNewDraft (F.ledger folder.old) (F.file file) }
+    requires draft { IsNewDraft (is_ledger (F.part folder.old)) (F.file file) }
     requires text { (bytes : List ℕ) × (count : ℕ) × X.is_text text.now bytes count }
     ensures written { (bytes : List ℕ) × (count : ℕ) × X.is_text text.now bytes count
         × IfOk result (λ written. IsWritten bytes (F.file written.0) × (written.1 ≡ count)) }
-    ensures refused { is_put_refused result ≡ true → F.ledger folder.new ≡ false }
+    ensures refused { is_put_refused result ≡ true → is_ledger (F.part folder.new) ≡ false }
     ensures drafts { OnOk result (F.drafts folder.new ≡ F.drafts folder.old) }
     ensures none { OnErr result (F.drafts folder.new ≡ F.drafts folder.old - 1) }
     ensures free { F.free folder.new ≡ F.free folder.old }
     ensures same { F.shelf folder.new ≡ F.shelf folder.old }
-    ensures ledger { F.ledger folder.new ≡ F.ledger folder.old }
+    ensures part { F.part folder.new ≡ F.part folder.old }
 {
     let Ok(room) = Vec::with_capacity(label.messages.rt.alloc(), BUFFER_LEN) else {
         folder.remove(file);
@@ -238,7 +242,7 @@ fn fit_draft<F: Folder>(
     ensures same { F.file draft.new ≡ record (F.file draft.old) {
       status = (F.file draft.new).status;
     } }
-    ensures refused { is_put_refused result ≡ true → F.ledger folder.now ≡ false }
+    ensures refused { is_put_refused result ≡ true → is_ledger (F.part folder.now) ≡ false }
 {
     let Some(file) = old else {
         return Ok(());
@@ -260,10 +264,11 @@ fn name_draft<F: Folder>(
 ) -> Result<F::File, NotPut>
     requires own { IsOwnDraft (F.file file) }
     requires on_disk { (F.file file).synced ≡ true }
-    requires old { IfSome old (λ o. IsOld (F.ledger folder.old) o.now.status
+    requires old { IfSome old (λ o. IsOld (is_ledger (F.part folder.old)) o.now.status
         (F.file o.now.file)) }
+    requires anew { is_made_anew (F.part folder.old) ≡ true }
     requires free { is_some old ≡ false → F.free folder.old ≡ true }
-    requires held { F.ledger folder.old ≡ true
+    requires held { is_ledger (F.part folder.old) ≡ true
         → IsOfHolder (option_map (λ l. F.file l.now.file) ledger)
         (option_map (λ o. F.file o.now.file) old) }
     ensures put { IfOk result (λ named. IsPut (F.file file).handed (F.file named)) }
@@ -272,9 +277,9 @@ fn name_draft<F: Folder>(
     ensures untried { OnOk result (F.unsettled folder.new ≡ false) }
     ensures not_named { OnErr result (Steps (NamesNot (Some (F.file file).handed))
         (F.shelf folder.old) (F.shelf folder.new)) }
-    ensures refused { is_put_refused result ≡ true → F.ledger folder.new ≡ false }
+    ensures refused { is_put_refused result ≡ true → is_ledger (F.part folder.new) ≡ false }
     ensures drafts { F.drafts folder.new ≡ F.drafts folder.old - 1 }
-    ensures ledger { F.ledger folder.new ≡ F.ledger folder.old }
+    ensures part { F.part folder.new ≡ F.part folder.old }
 {
     if let Err(why) = rename_draft(folder, label, old, ledger, &mut file) {
         folder.remove(file);
@@ -293,10 +298,11 @@ fn rename_draft<F: Folder>(
 ) -> Result<(), NotPut>
     requires own { IsOwnDraft (F.file draft.old) }
     requires on_disk { (F.file draft.old).synced ≡ true }
-    requires old { IfSome old (λ o. IsOld (F.ledger folder.old) o.now.status
+    requires old { IfSome old (λ o. IsOld (is_ledger (F.part folder.old)) o.now.status
         (F.file o.now.file)) }
+    requires anew { is_made_anew (F.part folder.old) ≡ true }
     requires free { is_some old ≡ false → F.free folder.old ≡ true }
-    requires held { F.ledger folder.old ≡ true
+    requires held { is_ledger (F.part folder.old) ≡ true
         → IsOfHolder (option_map (λ l. F.file l.now.file) ledger)
         (option_map (λ o. F.file o.now.file) old) }
     ensures put { OnOk result (IsPut (F.file draft.old).handed (F.file draft.new)) }
@@ -306,10 +312,10 @@ fn rename_draft<F: Folder>(
     ensures untried { OnOk result (F.unsettled folder.new ≡ false) }
     ensures not_named { OnErr result (Steps (NamesNot (Some (F.file draft.old).handed))
         (F.shelf folder.old) (F.shelf folder.new)) }
-    ensures refused { is_put_refused result ≡ true → F.ledger folder.new ≡ false }
+    ensures refused { is_put_refused result ≡ true → is_ledger (F.part folder.new) ≡ false }
     ensures drafts { OnOk result (F.drafts folder.new ≡ F.drafts folder.old - 1) }
     ensures stays { OnErr result (F.drafts folder.new ≡ F.drafts folder.old) }
-    ensures ledger { F.ledger folder.new ≡ F.ledger folder.old }
+    ensures part { F.part folder.new ≡ F.part folder.old }
 {
     fit_draft(folder, label, old, draft)?;
     if let Some(ledger) = ledger

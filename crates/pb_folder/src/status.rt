@@ -1,7 +1,7 @@
 //! What the system tells of a file, and which file can take another's place.
 
-ghost use Rattle.std.specs.Prelude.{◌≡◌, IsNone, true};
-ghost use Rattle.pb_folder.specs.File.{TakesAfter};
+ghost use Rattle.std.specs.Prelude.{◌↔◌, IfSome, IsNone, IsTrue};
+ghost use Rattle.pb_folder.specs.File.{Bars, IsOfOne, TakesAfter};
 
 use pb_messages::Unreplaceable;
 use std::fs::Metadata;
@@ -48,8 +48,7 @@ impl Status {
 
     /// Whether both tell of one file, and no device or pipe.
     pub fn is_of_one(&self, other: &Status) -> bool
-        ensures device { result ≡ true → self.now.device ≡ other.now.device }
-        ensures inode { result ≡ true → self.now.inode ≡ other.now.inode }
+        ensures { IsTrue result ↔ IsOfOne self.now other.now }
     {
         self.is_file && self.device == other.device && self.inode == other.inode
     }
@@ -57,7 +56,9 @@ impl Status {
 
 /// Tells why the new file can't take the old one's place, once it has its mode.
 pub fn why_not(old: &Status, new: &Status) -> Option<Unreplaceable>
-    ensures { IsNone result → TakesAfter old.now (record new.now { mode = old.now.mode }) }
+    ensures takes { IsNone result
+        → TakesAfter old.now (record new.now { mode = old.now.mode }) }
+    ensures bars { IfSome result (λ why. Bars why old.now new.now) }
 {
     if old.names > 1 {
         return Some(Unreplaceable::SecondName);

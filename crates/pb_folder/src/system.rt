@@ -2,11 +2,12 @@
 
 ghost use Rattle.std.specs.Prelude.{◌≡◌, IfOk, None, false};
 ghost use Rattle.pb_folder.specs.File.{opened};
-ghost use Rattle.pb_folder.specs.Parts.{is_journal, is_ledger};
+ghost use Rattle.pb_folder.specs.Parts.{is_journal};
 ghost use Rattle.pb_folder.specs.declared.folder.Entry.TheVariants.{Draft};
 
 use crate::file_end::{DRAFT, FileEnd, IN_PLACE};
 use crate::folder::{Entry, Folder, Lock, Seen};
+use crate::notes::FileNotes;
 use crate::place::Place;
 use crate::status::Status;
 use crate::system_file::SystemFile;
@@ -35,8 +36,7 @@ pub struct System<'a> {
     messages: Messages<'a>,
     path: &'a str,
     place: Place<'a>,
-    is_ledger: bool,
-    is_journal: bool,
+    part: Part,
     // What is opened is read too.
     is_read: bool,
     drafts: u64,
@@ -47,15 +47,13 @@ pub struct System<'a> {
 impl<'a> System<'a> {
     /// The name of a file of this part.
     pub fn new(messages: Messages<'a>, path: &'a str, part: Part) -> System<'a>
-        ensures ledger { ⟦<System<'a> as Folder>⟧.ledger result ≡ is_ledger part }
-        ensures journal { ⟦<System<'a> as Folder>⟧.appends result ≡ is_journal part }
+        ensures { ⟦<System<'a> as Folder>⟧.part result ≡ part }
     {
         System {
             messages,
             path,
             place: Place::of_name(path),
-            is_ledger: matches!(part, Part::Ledger),
-            is_journal: matches!(part, Part::Journal),
+            part,
             is_read: matches!(part, Part::Journal),
             drafts: 0,
             is_free: false,
@@ -65,13 +63,18 @@ impl<'a> System<'a> {
 
     /// The same name, whose file is read too.
     pub fn read(mut self) -> System<'a>
-        ensures ledger { ⟦<System<'a> as Folder>⟧.ledger result
-            ≡ ⟦<System<'a> as Folder>⟧.ledger self.entry }
-        ensures journal { ⟦<System<'a> as Folder>⟧.appends result
-            ≡ ⟦<System<'a> as Folder>⟧.appends self.entry }
+        ensures { ⟦<System<'a> as Folder>⟧.part result
+            ≡ ⟦<System<'a> as Folder>⟧.part self.entry }
     {
         self.is_read = true;
         self
+    }
+
+    /// Whether what is opened is added to at its end.
+    fn is_journal(&self) -> bool
+        ensures { result ≡ is_journal self.now.part }
+    {
+        matches!(self.part, Part::Journal)
     }
 
     /// The path of the draft of this number.
@@ -112,7 +115,8 @@ impl<'a> System<'a> {
             return Err(io::Error::from(ErrorKind::InvalidInput));
         }
         let file = OpenOptions::new().write(true).open(rt, path.as_path())?;
-        Ok(SystemFile::draft(file, number, path, false))
+        let notes = FileNotes::draft(number, false);
+        Ok(SystemFile::new(file, Some(path), notes))
     }
 
     /// Whether the path leads to the file of this stream, and not to a device or a pipe.
@@ -152,12 +156,10 @@ impl<'a> Folder for System<'a> {
 
     ghost unsettled = { λ s. s.is_unsettled };
 
-    ghost ledger = { λ s. s.is_ledger };
-
-    ghost appends = { λ s. s.is_journal };
+    ghost part = { λ s. s.part };
 
     fn is_ledger(&self) -> bool {
-        self.is_ledger
+        matches!(self.part, Part::Ledger)
     }
 
     // Replies are written where a link such as `/dev/stdout` leads.
@@ -190,9 +192,10 @@ impl<'a> Folder for System<'a> {
         options
             .read(self.is_read)
             .write(true)
-            .append(self.is_journal);
+            .append(self.is_journal());
         let file = options.open(self.messages.rt, self.path)?;
-        Ok(SystemFile::opened(file, self.is_journal))
+        let notes = FileNotes::opened(Entry::Target, self.is_journal());
+        Ok(SystemFile::new(file, None, notes))
     }
 
     // Over a network a shared lock is for files alone that are open to be read.
@@ -206,7 +209,8 @@ impl<'a> Folder for System<'a> {
         options.read(true).write(true).create_new(true).mode(mode);
         let file = options.open(self.messages.rt, path.as_path())?;
         self.drafts = drafts;
-        Ok(SystemFile::draft(file, number, path, true))
+        let notes = FileNotes::draft(number, true);
+        Ok(SystemFile::new(file, Some(path), notes))
     }
 
     fn lock(&self, f: &mut SystemFile) -> Lock {
@@ -243,7 +247,7 @@ impl<'a> Folder for System<'a> {
 
     fn create(&mut self) -> io::Result<SystemFile> {
         let file = File::create(self.messages.rt, self.path)?;
-        Ok(SystemFile::emptied(file))
+        Ok(SystemFile::new(file, None, FileNotes::emptied()))
     }
 
     fn in_place(&self, f: SystemFile, room: Vec<u8>) -> FileEnd<'a, IN_PLACE> {
@@ -277,7 +281,7 @@ impl<'a> Folder for System<'a> {
         if let Some(path) = draft.path() {
             let _ = fs::remove_file(self.messages.rt, path);
         }
-        if draft.is_made() {
+        if draft.notes.is_made() {
             self.drafts = self.drafts.saturating_sub(1);
         }
     }

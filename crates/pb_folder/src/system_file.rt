@@ -2,13 +2,14 @@
 
 ghost use Rattle.std.specs.Prelude.{◌≡◌, ◌≤◌, ◌<◌, ◌++◌, IfOk, OnErr, OnOk, Some, false, length};
 ghost use Rattle.std.specs.Prelude.{take, true};
-ghost use Rattle.pb_folder.specs.File.{IsOwnDraft, MayWrite, emptied, locked, opened, with_mode};
-ghost use Rattle.pb_folder.specs.declared.folder.Entry.TheVariants.{Draft, Target};
+ghost use Rattle.pb_folder.specs.File.{IsOwnDraft, MayWrite, locked, with_mode};
+ghost use Rattle.pb_folder.specs.declared.folder.Entry.TheVariants.{Target};
 ghost use Rattle.pb_folder.specs.declared.folder.Hold.TheVariants.{Alone, Shared};
 
 use crate::folder::{Entry, Hold, Lock};
+use crate::notes::FileNotes;
 use crate::status::Status;
-use pb_io::{Fault, History};
+use pb_io::Fault;
 use std::fs::{self, File, OpenOptions, Permissions, TryLockError};
 use std::io::{self, ErrorKind, Write};
 use std::marker::Model;
@@ -28,16 +29,8 @@ pub struct SystemFile {
     file: File,
     // That of a draft.
     path: Option<PathBuf>,
-    entry: Entry,
-    named: bool,
-    made: bool,
-    in_place: bool,
-    appends: bool,
-    hold: Hold,
-    status: Option<Status>,
-    history: History,
-    synced: bool,
-    lost: bool,
+    /// What was answered of it.
+    pub(crate) notes: FileNotes,
 }
 
 impl Model for SystemFile {
@@ -45,59 +38,15 @@ impl Model for SystemFile {
 
     ghost Value = { FileState };
 
-    ghost view = { λ f. record {
-      entry = f.entry;
-      named = f.named;
-      made = f.made;
-      in_place = f.in_place;
-      appends = f.appends;
-      hold = f.hold;
-      status = f.status;
-      handed = f.history.bytes;
-      synced = f.synced;
-      lost = f.lost;
-    } };
+    ghost view = { λ f. f.notes };
 }
 
 impl SystemFile {
-    /// Takes the file of the name, which was opened.
-    pub(crate) fn opened(file: File, appends: bool) -> SystemFile
-        ensures { result ≡ opened Target appends }
+    /// Takes a file of which this is noted, and the path of a draft.
+    pub(crate) fn new(file: File, path: Option<PathBuf>, notes: FileNotes) -> SystemFile
+        ensures { result ≡ notes }
     {
-        SystemFile {
-            file,
-            path: None,
-            entry: Entry::Target,
-            named: false,
-            made: false,
-            in_place: false,
-            appends,
-            hold: Hold::Nothing,
-            status: None,
-            history: History::new(),
-            synced: false,
-            lost: false,
-        }
-    }
-
-    /// Takes the draft of this number and path, which was opened, or made by this run.
-    pub(crate) fn draft(file: File, number: u32, path: PathBuf, made: bool) -> SystemFile
-        ensures { result ≡ record (opened (Draft number) false) { made = made } }
-    {
-        let mut draft = SystemFile::opened(file, false);
-        draft.path = Some(path);
-        draft.entry = Entry::Draft(number);
-        draft.made = made;
-        draft
-    }
-
-    /// Takes a file that is written in place from its first byte.
-    pub(crate) fn emptied(file: File) -> SystemFile
-        ensures { result ≡ emptied }
-    {
-        let mut emptied = SystemFile::opened(file, false);
-        emptied.in_place = true;
-        emptied
+        SystemFile { file, path, notes }
     }
 
     /// Opens a pipe or a device, to be read. It is no draft for this run and others, whatever its
@@ -109,7 +58,8 @@ impl SystemFile {
     pub(crate) fn open_stream(rt: &HostRuntime, path: &str) -> io::Result<SystemFile> {
         let file = File::open(rt, path)?;
         let _ = file.try_lock_shared();
-        Ok(SystemFile::opened(file, false))
+        let notes = FileNotes::opened(Entry::Target, false);
+        Ok(SystemFile::new(file, None, notes))
     }
 
     /// The path of a draft.
@@ -120,16 +70,9 @@ impl SystemFile {
         }
     }
 
-    /// Whether this run has made it.
-    pub(crate) fn is_made(&self) -> bool
-        ensures { result ≡ self.now.made }
-    {
-        self.made
-    }
-
     /// Whether what was told of it is that it is no ordinary file.
     pub(crate) fn is_device(&self) -> bool {
-        self.status.is_some_and(|status| !status.is_file)
+        self.notes.status().is_some_and(|status| !status.is_file)
     }
 
     /// Locks the file, so that no other run has a lock of it.
@@ -137,7 +80,7 @@ impl SystemFile {
         ensures { self.new ≡ locked Alone result self.old }
     {
         let lock = lock_by(self.file.try_lock());
-        self.note_lock(Hold::Alone, lock);
+        self.notes.note_lock(Hold::Alone, lock);
         lock
     }
 
@@ -146,20 +89,8 @@ impl SystemFile {
         ensures { self.new ≡ locked Shared result self.old }
     {
         let lock = lock_by(self.file.try_lock_shared());
-        self.note_lock(Hold::Shared, lock);
+        self.notes.note_lock(Hold::Shared, lock);
         lock
-    }
-
-    /// Notes what became of the wish to lock the file.
-    fn note_lock(&mut self, hold: Hold, lock: Lock)
-        ensures { self.new ≡ locked hold lock self.old }
-    {
-        self.named = false;
-        self.hold = match lock {
-            Lock::Held => hold,
-            Lock::InUse => Hold::Nothing,
-            Lock::Unsupported => Hold::Unlockable,
-        };
     }
 
     /// Tells whether the draft's own path or, of another file, this path leads to the file, and no
@@ -171,14 +102,15 @@ impl SystemFile {
             Some(draft) => fs::symlink_metadata(rt, draft.as_path()),
             None => fs::symlink_metadata(rt, path),
         };
-        self.named = match (self.file.metadata(), named) {
+        let is_named = match (self.file.metadata(), named) {
             (Ok(told), Ok(named)) => {
                 Status::of(&told).is_of_one(&Status::of(&named))
                     && (self.path.is_none() || told.nlink() == 1)
             }
             _ => false,
         };
-        self.named
+        self.notes.note_named(is_named);
+        is_named
     }
 
     /// Gives the draft the name of this path, in the place of what has it.
@@ -191,7 +123,7 @@ impl SystemFile {
             None => return Err(io::Error::from(ErrorKind::InvalidInput)),
         }
         self.path = None;
-        self.entry = Entry::Target;
+        self.notes.note_renamed();
         Ok(())
     }
 
@@ -203,7 +135,7 @@ impl SystemFile {
         if !self.is_device() {
             self.file.set_len(0)?;
         }
-        self.in_place = true;
+        self.notes.note_emptied();
         Ok(())
     }
 
@@ -214,7 +146,7 @@ impl SystemFile {
         ensures same { OnErr result (self.new ≡ self.old) }
     {
         let status = Status::of(&self.file.metadata()?);
-        self.status = Some(status);
+        self.notes.note_status(status);
         Ok(status)
     }
 
@@ -225,9 +157,7 @@ impl SystemFile {
         ensures same { OnErr result (self.new ≡ self.old) }
     {
         self.file.set_permissions(Permissions::from_mode(mode))?;
-        if let Some(status) = &mut self.status {
-            status.mode = mode;
-        }
+        self.notes.note_mode(mode);
         Ok(())
     }
 
@@ -245,14 +175,13 @@ impl SystemFile {
           lost = true;
         }) }
     {
-        self.synced = false;
         match write_once(&mut self.file, bytes) {
             Ok(count) => {
-                self.history.add(&bytes[..count]);
+                self.notes.note_written(&bytes[..count]);
                 Ok(count)
             }
             Err(error) => {
-                self.lost = true;
+                self.notes.note_lost();
                 Err(error)
             }
         }
@@ -270,8 +199,7 @@ impl SystemFile {
         } }
     {
         let synced = self.file.sync_all();
-        self.lost = self.lost || synced.is_err();
-        self.synced = !self.lost;
+        self.notes.note_sync(synced.is_ok());
         synced
     }
 
@@ -287,8 +215,7 @@ impl SystemFile {
         } }
     {
         let synced = self.file.sync_data();
-        self.lost = self.lost || synced.is_err();
-        self.synced = !self.lost;
+        self.notes.note_sync(synced.is_ok());
         synced
     }
 

@@ -3,8 +3,8 @@
 //! may that of the puts and flushes which each file takes. A `;` stands between the entries of a
 //! book.
 
-ghost use Rattle.std.specs.Prelude.{◌≡◌, IfOk, length, true};
-ghost use Rattle.pb_folder.specs.Parts.{is_ledger};
+ghost use Rattle.std.specs.Prelude.{◌≡◌, IfOk, length};
+ghost use Rattle.pb_messages.specs.declared.part.Part.TheVariants.{Ledger};
 ghost use Rattle.pb_poly.specs.Book.{book_bytes};
 
 use crate::collecting::is_book;
@@ -90,7 +90,7 @@ pub(crate) fn folder_of(
     scene: &str,
     first: &[u8],
 ) -> Result<MemFolder, Trouble>
-    ensures { IfOk result (λ folder. ⟦<MemFolder as Folder>⟧.ledger folder ≡ is_ledger part) }
+    ensures { IfOk result (λ folder. ⟦<MemFolder as Folder>⟧.part folder ≡ part) }
 {
     let first = match scene {
         "removed" => None,
@@ -128,7 +128,7 @@ fn place_of<'f, 'a>(
 /// The name of a ledger of these bytes. Its guard finds it as it was left, unless another program
 /// has `changed` it.
 fn ledger_folder(rt: &HostRuntime, scene: &str, bytes: &[u8]) -> Result<MemFolder, Trouble>
-    ensures { IfOk result (λ folder. ⟦<MemFolder as Folder>⟧.ledger folder ≡ true) }
+    ensures { IfOk result (λ folder. ⟦<MemFolder as Folder>⟧.part folder ≡ Ledger) }
 {
     let mut folder = folder_of(rt.alloc(), Part::Ledger, scene, bytes)?;
     if scene != "changed" {

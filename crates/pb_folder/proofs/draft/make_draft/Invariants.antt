@@ -7,5 +7,5 @@ invariant-loop-number g l = record {
   drafts : g.F.Folder.drafts l.folder ≡ g.F.Folder.drafts l.initial.folder;
   free : g.F.Folder.free l.folder ≡ g.F.Folder.free l.initial.folder;
   same : g.F.Folder.shelf l.folder ≡ g.F.Folder.shelf l.initial.folder;
-  ledger : g.F.Folder.ledger l.folder ≡ g.F.Folder.ledger l.initial.folder;
+  part : g.F.Folder.part l.folder ≡ g.F.Folder.part l.initial.folder;
 }

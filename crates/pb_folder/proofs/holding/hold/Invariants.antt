@@ -1,6 +1,10 @@
 use Rattle.std.proofs.Common.{◌≡◌}
 use Rattle.pb_folder.proofs.holding.hold.Given as goal
 
--- what is opened is added to at its end, or not, as from the start
+-- what is opened is let go again, and nothing else was done
 abbrev pub invariant-loop-tried : goal.invariant-loop-tried
-invariant-loop-tried g l = g.F.Folder.appends l.folder ≡ g.F.Folder.appends l.initial.folder
+invariant-loop-tried g l = record {
+  drafts : g.F.Folder.drafts l.folder ≡ g.F.Folder.drafts l.initial.folder;
+  same : g.F.Folder.shelf l.folder ≡ g.F.Folder.shelf l.initial.folder;
+  part : g.F.Folder.part l.folder ≡ g.F.Folder.part l.initial.folder;
+}
