@@ -84,10 +84,18 @@ def unfollowed(specs: Specs, followed: dict[str, str]) -> Iterator[str]:
 
 
 def write(specs: Specs) -> None:
-    names = sorted(specs.behind(SEEDS))
-    TABLE.write_text("".join(f"{name} {specs.checksum(name)}\n" for name in names),
-                     encoding="ascii")
-    print(f"{TABLE} has the checksums of {len(names)} definitions")
+    """Puts down the checksums as they are, and tells which are others than before."""
+    followed = table()
+    now = {name: specs.checksum(name) for name in sorted(specs.behind(SEEDS))}
+    for name in now:
+        if not hasattr(chess, name.rpartition(".")[2]):
+            sys.exit(f"{name} isn't run: say it in tests/lib/chess.py first")
+    for name in sorted({*now, *followed}):
+        if now.get(name) != followed.get(name):
+            how = "gone" if name not in now else "changed" if name in followed else "new"
+            print(f"{how}: {name}")
+    TABLE.write_text("".join(f"{name} {now[name]}\n" for name in now), encoding="ascii")
+    print(f"{TABLE} has the checksums of {len(now)} definitions")
 
 
 # ---- what the definitions say, as answers
@@ -127,12 +135,11 @@ def found(s: Position, moves: Iterable[Moved], codes: Optional[set[int]] = None)
 
 
 def judged(text: bytes) -> bytes:
-    """What `fen` answers to a text."""
+    """What `fen` answers to a text: the refusals that are due first, or the text."""
     parts = text.split(b" ")
-    for error in chess.fen_errors:
-        if chess.IsFirstOf(chess.fen_errors, lambda e: chess.IsDueFen(parts, e), error):
-            return b"refused fen " + chess.word_of(error)
-    return text
+    first = [chess.word_of(error) for error in chess.fen_errors if chess.IsFirstOf(
+        chess.fen_errors, lambda e: chess.IsDueFen(parts, e), error)]
+    return b"refused fen " + b" ".join(first) if first else text
 
 
 # What Stockfish takes
@@ -150,7 +157,7 @@ def rights_at_home(s: Position) -> Rights:
 def taken(s: Position) -> Optional[Position]:
     """The setup as Stockfish takes it, if it does: it looks for rooks of rights, passes over an en
     passant square that no double step made, and has room for 256 moves."""
-    if not chess.IsPlayable(s) or len(pseudo_legal(s)) > 250:
+    if not chess.IsSetup(s) or not chess.IsPlayable(s) or len(pseudo_legal(s)) > 250:
         return None
     return s._replace(rights=rights_at_home(s), ep=s.ep if chess_setups.is_stepped(s) else None)
 
@@ -285,8 +292,9 @@ class Games:
         self.texts = {line.partition(b" bkm ")[0] for line in self.exported}
 
     def complaint(self) -> str:
-        if self.replies != [b"ok g%d %d" % (n, n) for n in range(1, len(self.games) + 1)]:
-            return "pbook doesn't take all games"
+        for n, reply in enumerate(self.replies, 1):
+            if reply != b"ok g%d %d" % (n, n):
+                return f"pbook replies {reply!r} to {told(*self.games[n - 1])}"
         complaints = (game.complaint() for game in self.each())
         book, lines = self.due()
         if book != self.book:
@@ -338,7 +346,9 @@ class Text:
             return f"`check` answers {self.checked!r}, due is {due!r}"
         spelt = any(chess.IsRecord(f) and chess.fen_text(f) == self.text
                     for f in chess.records_for(self.text))
-        return "" if spelt == (due == self.text) else "no refusal is due, or one of a record's text"
+        if spelt != (due == self.text):
+            return f"it is{'' if spelt else ' not'} a record's text, but due is {due!r}"
+        return ""
 
     def __str__(self) -> str:
         return repr(self.text)
@@ -505,15 +515,12 @@ class Asked:
                      and abs(m.to - m.from_) == 2 and m.promo is None]
         return pseudo_legal(s) + castlings + self.chance.sample(others, 150)
 
-    def some_moves(self, s: Position, most: int) -> list[Moved]:
-        """Some legal moves of the setup, seldom ones rather than others."""
-        left = list(legal(s))
-        chosen: list[Moved] = []
-        while left and len(chosen) < most:
-            chosen.append(self.chance.choices(
-                left, [chess_setups.weight(s, m) for m in left])[0])
-            left.remove(chosen[-1])
-        return chosen
+    def one_move(self, s: Position) -> list[Moved]:
+        """A legal move of the setup, or none where there is none: a seldom one rather than
+        others."""
+        moves = legal(s)
+        return self.chance.choices(
+            moves, [chess_setups.weight(s, m) for m in moves]) if moves else []
 
     def asked_successors(self) -> list[Play]:
         """What Stockfish tells of each legal move of the setups that it takes; and a reply to it,
@@ -528,7 +535,7 @@ class Asked:
         for play, record, moves in zip(plays, chess_programs.records_by_stockfish(orders),
                                        chess_programs.moves_by_stockfish(orders)):
             play.stockfish = record.encode()
-            self.replies[play.record.setup, play.moves[0]] = min(moves, default="")
+            self.replies[play.record.setup, play.moves[0]] = self.chance.choice(sorted(moves) or [""])
         return plays
 
     def asked_games(self) -> Games:
@@ -555,7 +562,7 @@ class Asked:
         plays = [Play(start, moves) for start, moves in self.played]
         for f in chance.sample(self.records, self.so_many(250)):
             near = pseudo_legal(f.setup) or [chance.choice(MOVES)]
-            plays.append(Play(f, self.some_moves(f.setup, 1)))
+            plays.append(Play(f, self.one_move(f.setup)))
             plays.append(Play(f, [m for m in (chance.choice(near),) if m.from_ != m.to]))
         for play in plays:
             play.fen = chess_programs.pbook(
@@ -692,8 +699,8 @@ def main() -> None:
     with tempfile.TemporaryDirectory() as place:
         asked = Asked(given, place)
     told_by = [f for f in asked.setups if f.stockfish is not None]
-    tried = [f for f in asked.setups if f.all_codes is not None]
-    print(f"{len(told_by):,} setups beside Stockfish, {len(tried):,} of {len(asked.setups):,} with"
+    whole = [f for f in asked.setups if f.all_codes is not None]
+    print(f"{len(told_by):,} setups beside Stockfish, {len(whole):,} of {len(asked.setups):,} with"
           f" all {len(chess_programs.CODES):,} moves on the program", flush=True)
     for name, facts in asked.facts():
         count += len(facts)
