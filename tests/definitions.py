@@ -134,6 +134,15 @@ def found(s: Position, moves: Iterable[Moved], codes: Optional[set[int]] = None)
                      if codes is None or code in codes) or b"-"
 
 
+def unlike(answer: bytes, due: bytes) -> str:
+    """What one of two answers to a lookup has alone, if any: moves with their codes."""
+    these, those = ({b" ".join(pair) for pair in zip(words[::2], words[1::2])}
+                    for words in (answer.split(b" "), due.split(b" ")))
+    parts = [f"{who} {b', '.join(sorted(alone)).decode()} alone"
+             for who, alone in (("pbook finds", these - those), ("due is", those - these)) if alone]
+    return "; ".join(parts) or ("" if answer == due else f"pbook answers {answer!r}")
+
+
 def judged(text: bytes) -> bytes:
     """What `fen` answers to a text: the refusals that are due first, or the text."""
     parts = text.split(b" ")
@@ -196,13 +205,12 @@ class Setup:
         if self.taken is not None and self.stockfish is not None:
             said = {chess.spelling(m).decode() for m in legal(self.taken)}
             if said != self.stockfish:
-                return f"Stockfish doesn't agree on {sorted(said ^ self.stockfish)}"
+                return (f"Stockfish lists {sorted(self.stockfish - said)} alone,"
+                        f" due is {sorted(said - self.stockfish)} alone")
         if self.all_codes is not None and found(s, legal(s)) != self.all_codes:
-            return f"pbook finds {self.all_codes!r}, due is {found(s, legal(s))!r}"
+            return unlike(self.all_codes, found(s, legal(s)))
         due = found(s, legal(s), self.book.get(chess.key(self.randoms, s), set()))
-        if due != self.probed:
-            return f"pbook finds under its key {self.probed!r}, due is {due!r}"
-        return ""
+        return "" if due == self.probed else "under its key " + unlike(self.probed, due)
 
     def __str__(self) -> str:
         return chess.fen_text(self.record).decode()
@@ -217,8 +225,7 @@ class Codes:
 
     def complaint(self) -> str:
         s = self.record.setup
-        due = found(s, [m for m in CODED if chess.Legal(s, m)])
-        return "" if due == self.answer else f"pbook finds {self.answer!r}, due is {due!r}"
+        return unlike(self.answer, found(s, [m for m in CODED if chess.Legal(s, m)]))
 
     def __str__(self) -> str:
         return chess.fen_text(self.record).decode()
@@ -535,7 +542,8 @@ class Asked:
         for play, record, moves in zip(plays, chess_programs.records_by_stockfish(orders),
                                        chess_programs.moves_by_stockfish(orders)):
             play.stockfish = record.encode()
-            self.replies[play.record.setup, play.moves[0]] = self.chance.choice(sorted(moves) or [""])
+            reply = self.chance.choice(sorted(moves) or [""])
+            self.replies[play.record.setup, play.moves[0]] = reply
         return plays
 
     def asked_games(self) -> Games:
