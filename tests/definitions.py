@@ -158,7 +158,7 @@ def rights_at_home(s: Position) -> Rights:
     """The rights whose king and rook stand at home. Others let nothing castle."""
     homes = ((White, 4, 7), (White, 4, 0), (Black, 60, 63), (Black, 60, 56))
     return Rights(*(
-        right and s.board[king] == chess.king_of(side)
+        right and s.board[king] == chess.piece_of(side, chess.King)
         and s.board[rook] == chess.piece_of(side, chess.Rook)
         for right, (side, king, rook) in zip(s.rights, homes)))
 
@@ -518,7 +518,8 @@ class Asked:
         """What is legal but for check, each move of two files by the king, and others of its
         side."""
         others = list(own_moves(s))
-        castlings = [m for m in others if chess.Holds(s.board, m.from_, chess.king_of(s.turn))
+        king = chess.piece_of(s.turn, chess.King)
+        castlings = [m for m in others if chess.Holds(s.board, m.from_, king)
                      and abs(m.to - m.from_) == 2 and m.promo is None]
         return pseudo_legal(s) + castlings + self.chance.sample(others, 150)
 
