@@ -84,10 +84,18 @@ def unfollowed(specs: Specs, followed: dict[str, str]) -> Iterator[str]:
 
 
 def write(specs: Specs) -> None:
-    names = sorted(specs.behind(SEEDS))
-    TABLE.write_text("".join(f"{name} {specs.checksum(name)}\n" for name in names),
-                     encoding="ascii")
-    print(f"{TABLE} has the checksums of {len(names)} definitions")
+    """Puts down the checksums as they are, and tells which are others than before."""
+    followed = table()
+    now = {name: specs.checksum(name) for name in sorted(specs.behind(SEEDS))}
+    for name in now:
+        if not hasattr(chess, name.rpartition(".")[2]):
+            sys.exit(f"{name} isn't run: say it in tests/lib/chess.py first")
+    for name in sorted({*now, *followed}):
+        if now.get(name) != followed.get(name):
+            how = "gone" if name not in now else "changed" if name in followed else "new"
+            print(f"{how}: {name}")
+    TABLE.write_text("".join(f"{name} {now[name]}\n" for name in now), encoding="ascii")
+    print(f"{TABLE} has the checksums of {len(now)} definitions")
 
 
 # ---- what the definitions say, as answers
@@ -126,13 +134,21 @@ def found(s: Position, moves: Iterable[Moved], codes: Optional[set[int]] = None)
                      if codes is None or code in codes) or b"-"
 
 
+def unlike(answer: bytes, due: bytes) -> str:
+    """What one of two answers to a lookup has alone, if any: moves with their codes."""
+    these, those = ({b" ".join(pair) for pair in zip(words[::2], words[1::2])}
+                    for words in (answer.split(b" "), due.split(b" ")))
+    parts = [f"{who} {b', '.join(sorted(alone)).decode()} alone"
+             for who, alone in (("pbook finds", these - those), ("due is", those - these)) if alone]
+    return "; ".join(parts) or ("" if answer == due else f"pbook answers {answer!r}")
+
+
 def judged(text: bytes) -> bytes:
-    """What `fen` answers to a text."""
+    """What `fen` answers to a text: the refusals that are due first, or the text."""
     parts = text.split(b" ")
-    for error in chess.fen_errors:
-        if chess.IsFirstOf(chess.fen_errors, lambda e: chess.IsDueFen(parts, e), error):
-            return b"refused fen " + chess.word_of(error)
-    return text
+    first = [chess.word_of(error) for error in chess.fen_errors if chess.IsFirstOf(
+        chess.fen_errors, lambda e: chess.IsDueFen(parts, e), error)]
+    return b"refused fen " + b" ".join(first) if first else text
 
 
 # What Stockfish takes
@@ -142,7 +158,7 @@ def rights_at_home(s: Position) -> Rights:
     """The rights whose king and rook stand at home. Others let nothing castle."""
     homes = ((White, 4, 7), (White, 4, 0), (Black, 60, 63), (Black, 60, 56))
     return Rights(*(
-        right and s.board[king] == chess.king_of(side)
+        right and s.board[king] == chess.piece_of(side, chess.King)
         and s.board[rook] == chess.piece_of(side, chess.Rook)
         for right, (side, king, rook) in zip(s.rights, homes)))
 
@@ -150,7 +166,7 @@ def rights_at_home(s: Position) -> Rights:
 def taken(s: Position) -> Optional[Position]:
     """The setup as Stockfish takes it, if it does: it looks for rooks of rights, passes over an en
     passant square that no double step made, and has room for 256 moves."""
-    if not chess.IsPlayable(s) or len(pseudo_legal(s)) > 250:
+    if not chess.IsSetup(s) or not chess.IsPlayable(s) or len(pseudo_legal(s)) > 250:
         return None
     return s._replace(rights=rights_at_home(s), ep=s.ep if chess_setups.is_stepped(s) else None)
 
@@ -189,13 +205,12 @@ class Setup:
         if self.taken is not None and self.stockfish is not None:
             said = {chess.spelling(m).decode() for m in legal(self.taken)}
             if said != self.stockfish:
-                return f"Stockfish doesn't agree on {sorted(said ^ self.stockfish)}"
+                return (f"Stockfish lists {sorted(self.stockfish - said)} alone,"
+                        f" due is {sorted(said - self.stockfish)} alone")
         if self.all_codes is not None and found(s, legal(s)) != self.all_codes:
-            return f"pbook finds {self.all_codes!r}, due is {found(s, legal(s))!r}"
+            return unlike(self.all_codes, found(s, legal(s)))
         due = found(s, legal(s), self.book.get(chess.key(self.randoms, s), set()))
-        if due != self.probed:
-            return f"pbook finds under its key {self.probed!r}, due is {due!r}"
-        return ""
+        return "" if due == self.probed else "under its key " + unlike(self.probed, due)
 
     def __str__(self) -> str:
         return chess.fen_text(self.record).decode()
@@ -210,8 +225,7 @@ class Codes:
 
     def complaint(self) -> str:
         s = self.record.setup
-        due = found(s, [m for m in CODED if chess.Legal(s, m)])
-        return "" if due == self.answer else f"pbook finds {self.answer!r}, due is {due!r}"
+        return unlike(self.answer, found(s, [m for m in CODED if chess.Legal(s, m)]))
 
     def __str__(self) -> str:
         return chess.fen_text(self.record).decode()
@@ -285,8 +299,9 @@ class Games:
         self.texts = {line.partition(b" bkm ")[0] for line in self.exported}
 
     def complaint(self) -> str:
-        if self.replies != [b"ok g%d %d" % (n, n) for n in range(1, len(self.games) + 1)]:
-            return "pbook doesn't take all games"
+        for n, reply in enumerate(self.replies, 1):
+            if reply != b"ok g%d %d" % (n, n):
+                return f"pbook replies {reply!r} to {told(*self.games[n - 1])}"
         complaints = (game.complaint() for game in self.each())
         book, lines = self.due()
         if book != self.book:
@@ -338,7 +353,9 @@ class Text:
             return f"`check` answers {self.checked!r}, due is {due!r}"
         spelt = any(chess.IsRecord(f) and chess.fen_text(f) == self.text
                     for f in chess.records_for(self.text))
-        return "" if spelt == (due == self.text) else "no refusal is due, or one of a record's text"
+        if spelt != (due == self.text):
+            return f"it is{'' if spelt else ' not'} a record's text, but due is {due!r}"
+        return ""
 
     def __str__(self) -> str:
         return repr(self.text)
@@ -501,19 +518,17 @@ class Asked:
         """What is legal but for check, each move of two files by the king, and others of its
         side."""
         others = list(own_moves(s))
-        castlings = [m for m in others if chess.Holds(s.board, m.from_, chess.king_of(s.turn))
+        king = chess.piece_of(s.turn, chess.King)
+        castlings = [m for m in others if chess.Holds(s.board, m.from_, king)
                      and abs(m.to - m.from_) == 2 and m.promo is None]
         return pseudo_legal(s) + castlings + self.chance.sample(others, 150)
 
-    def some_moves(self, s: Position, most: int) -> list[Moved]:
-        """Some legal moves of the setup, seldom ones rather than others."""
-        left = list(legal(s))
-        chosen: list[Moved] = []
-        while left and len(chosen) < most:
-            chosen.append(self.chance.choices(
-                left, [chess_setups.weight(s, m) for m in left])[0])
-            left.remove(chosen[-1])
-        return chosen
+    def one_move(self, s: Position) -> list[Moved]:
+        """A legal move of the setup, or none where there is none: a seldom one rather than
+        others."""
+        moves = legal(s)
+        return self.chance.choices(
+            moves, [chess_setups.weight(s, m) for m in moves]) if moves else []
 
     def asked_successors(self) -> list[Play]:
         """What Stockfish tells of each legal move of the setups that it takes; and a reply to it,
@@ -528,7 +543,8 @@ class Asked:
         for play, record, moves in zip(plays, chess_programs.records_by_stockfish(orders),
                                        chess_programs.moves_by_stockfish(orders)):
             play.stockfish = record.encode()
-            self.replies[play.record.setup, play.moves[0]] = min(moves, default="")
+            reply = self.chance.choice(sorted(moves) or [""])
+            self.replies[play.record.setup, play.moves[0]] = reply
         return plays
 
     def asked_games(self) -> Games:
@@ -555,7 +571,7 @@ class Asked:
         plays = [Play(start, moves) for start, moves in self.played]
         for f in chance.sample(self.records, self.so_many(250)):
             near = pseudo_legal(f.setup) or [chance.choice(MOVES)]
-            plays.append(Play(f, self.some_moves(f.setup, 1)))
+            plays.append(Play(f, self.one_move(f.setup)))
             plays.append(Play(f, [m for m in (chance.choice(near),) if m.from_ != m.to]))
         for play in plays:
             play.fen = chess_programs.pbook(
@@ -692,8 +708,8 @@ def main() -> None:
     with tempfile.TemporaryDirectory() as place:
         asked = Asked(given, place)
     told_by = [f for f in asked.setups if f.stockfish is not None]
-    tried = [f for f in asked.setups if f.all_codes is not None]
-    print(f"{len(told_by):,} setups beside Stockfish, {len(tried):,} of {len(asked.setups):,} with"
+    whole = [f for f in asked.setups if f.all_codes is not None]
+    print(f"{len(told_by):,} setups beside Stockfish, {len(whole):,} of {len(asked.setups):,} with"
           f" all {len(chess_programs.CODES):,} moves on the program", flush=True)
     for name, facts in asked.facts():
         count += len(facts)

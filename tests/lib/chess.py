@@ -43,10 +43,6 @@ def piece_of(side: str, kind: str) -> Piece:
     return Piece(side, kind)
 
 
-def king_of(side: str) -> Piece:
-    return piece_of(side, King)
-
-
 def pawn_of(side: str) -> Piece:
     return piece_of(side, Pawn)
 
@@ -141,8 +137,16 @@ def EnPassantHolds(board: Board, turn: str, ep: Optional[int]) -> bool:
 
 
 def IsSetup(p: Position) -> bool:
-    return (len(p.board) == 64 and HasKings(p.board) and HasNoEdgePawn(p.board)
-            and EnPassantHolds(p.board, p.turn, p.ep))
+    return (len(p.board) == 64
+            and all(any(all(Holds(p.board, q, piece_of(side, King)) == (q == king)
+                            for q in SQUARES)
+                        for king in squares_of(p.board, piece_of(side, King)))
+                    for side in COLOURS)
+            and all(0 < rank(q) < 7 for side in COLOURS
+                    for q in squares_of(p.board, piece_of(side, Pawn)))
+            and (p.ep is None or (rank_for(p.turn, p.ep) == 5 and IsEmpty(p.board, p.ep)
+                                  and Holds(p.board, beyond(p.turn, p.ep),
+                                            piece_of(opponent(p.turn), Pawn)))))
 
 
 class Record(NamedTuple):
@@ -168,8 +172,6 @@ def of_rights(r: Rights, a: int, b: int, c: int, d: int) -> tuple[int, ...]:
 
 
 # ---- pb_board.Fields
-
-space = 32
 
 
 def field(parts: Sequence[bytes], i: int) -> bytes:
@@ -224,11 +226,11 @@ def setup_fields(p: Position) -> list[bytes]:
 
 
 def setup_text(p: Position) -> bytes:
-    return join_with_byte(space, setup_fields(p))
+    return join_with_byte(32, setup_fields(p))
 
 
 def fen_text(f: Record) -> bytes:
-    return join_with_byte(space, setup_fields(f.setup) + [decimal(f.half), decimal(f.full)])
+    return join_with_byte(32, setup_fields(f.setup) + [decimal(f.half), decimal(f.full)])
 
 
 # ---- pb_board.Refusal and pb_board.Words. An error is its name.
@@ -295,13 +297,9 @@ class Moved(NamedTuple):
     promo: Optional[str]
 
 
-def IsPromotion(kind: str) -> bool:
-    return kind not in (Pawn, King)
-
-
 def IsMove(m: Moved) -> bool:
     return (m.from_ < 64 and m.to < 64 and m.from_ != m.to
-            and (m.promo is None or IsPromotion(m.promo)))
+            and (m.promo is None or (m.promo != Pawn and m.promo != King)))
 
 
 def spelling(m: Moved) -> bytes:
@@ -527,7 +525,7 @@ def piece_offset(p: Piece, square: int) -> int:
 
 
 def piece_offsets(board: Board, square: int) -> tuple[int, ...]:
-    return tuple(piece_offset(p, q) for q, p in enumerate(board, square) if p is not None)
+    return tuple(64 * piece_number(p) + q for q, p in enumerate(board, square) if p is not None)
 
 
 def has_capturer(board: Board, turn: str, q: int) -> bool:
@@ -581,7 +579,7 @@ def IsKey(randoms: Sequence[int], s: Position, k: int) -> bool:
 
 
 def encoded_to(s: Position, m: Moved) -> int:
-    if is_piece(king_of(s.turn), at(s.board, m.from_)) and is_castling(s.turn, m):
+    if is_piece(piece_of(s.turn, King), at(s.board, m.from_)) and is_castling(s.turn, m):
         return rook_home(m)
     return m.to
 
