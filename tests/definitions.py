@@ -25,9 +25,11 @@ from __future__ import annotations
 
 import argparse
 import collections
+import hashlib
 import os
 import pathlib
 import random
+import re
 import sys
 import tempfile
 from collections.abc import Callable, Iterable, Iterator, Sequence
@@ -35,12 +37,12 @@ from dataclasses import dataclass, field
 from functools import cache
 from typing import Optional
 
+sys.path.append("scripts")
 from lib import chess, chess_programs, chess_setups, chess_wrong
 from lib.chess import Black, Knight, Moved, Position, Record, Rights, White
 from lib.chess_setups import MOVES
-from lib.specs import Specs
+from lib.specs import Definition, Specs
 
-CRATES = ("pb_board", "pb_moves", "pb_poly")
 TABLE = pathlib.Path("tests/data/definitions.txt")
 # What is run, with all that it rests on.
 SEEDS = ("pb_board.Position.IsRecord", "pb_board.Text.fen_text", "pb_board.Refusal.IsDueFen",
@@ -60,33 +62,50 @@ MOVES_FROM = [[m for m in MOVES if m.from_ == q] for q in chess.SQUARES]
 # ---- the definitions that are followed
 
 
+# Text without the white space between its parts.
+PART = re.compile(r"[\w'-]+|[^\w\s]")
+
+
 def table() -> dict[str, str]:
     """The checksum of each definition that was read."""
     lines = TABLE.read_text(encoding="ascii").splitlines() if TABLE.exists() else []
     return dict(line.split() for line in lines)
 
 
+def checksum(own: Definition) -> str:
+    """That of its text, comments and white space aside."""
+    text = re.sub(r"(^|\s)--.*", "", "\n".join(own.lines), flags=re.M)
+    return hashlib.sha256(" ".join(PART.findall(text)).encode()).hexdigest()[:12]
+
+
+def behind_seeds(specs: Specs) -> dict[str, Definition]:
+    """What is run and all that it rests on, by their names with crate and file."""
+    seeds = [specs.find(*seed.rsplit(".", 1)) for seed in SEEDS]
+    named = {f"{it.file}.{it.name}": it for it in specs.closure(seeds)}
+    return {name: named[name] for name in sorted(named)}
+
+
 def unfollowed(specs: Specs, followed: dict[str, str]) -> Iterator[str]:
     """What isn't followed, and what to do."""
+    behind = behind_seeds(specs)
     for seed in SEEDS:
-        if seed not in specs.texts:
+        if seed not in behind:
             yield f"{seed} is no definition any more: name what is run in its place in SEEDS"
-    behind = specs.behind(seed for seed in SEEDS if seed in specs.texts)
-    for name in sorted(behind):
+    for name, own in behind.items():
         if not hasattr(chess, name.rpartition(".")[2]):
             yield f"{name} isn't run: say it in tests/lib/chess.py, and run --write"
         elif name not in followed:
             yield f"{name} isn't in {TABLE}: read it, and run --write"
-        elif followed[name] != specs.checksum(name):
+        elif followed[name] != checksum(own):
             yield f"{name} has changed: have tests/lib/chess.py say it, and run --write"
-    for name in sorted(set(followed) - behind):
+    for name in sorted(set(followed) - set(behind)):
         yield f"{name} is behind nothing that is run: take it out of {TABLE} by --write"
 
 
 def write(specs: Specs) -> None:
     """Puts down the checksums as they are, and tells which are others than before."""
     followed = table()
-    now = {name: specs.checksum(name) for name in sorted(specs.behind(SEEDS))}
+    now = {name: checksum(own) for name, own in behind_seeds(specs).items()}
     for name in now:
         if not hasattr(chess, name.rpartition(".")[2]):
             sys.exit(f"{name} isn't run: say it in tests/lib/chess.py first")
@@ -671,19 +690,18 @@ def tell_followed(specs: Specs) -> tuple[int, int]:
     any text has to be seen, and a definition that is new."""
     followed = table()
     complaints = list(unfollowed(specs, followed))
-    names = sorted(specs.behind(SEEDS)) if not complaints else []
-    for name in names:
-        text = specs.texts[name]
-        specs.texts[name] = text + " now"
+    behind = behind_seeds(specs) if not complaints else {}
+    for name, own in behind.items():
+        own.lines.append("now")
         changed = list(unfollowed(specs, followed))
-        specs.texts[name] = text
+        own.lines.pop()
         new = list(unfollowed(specs, {n: followed[n] for n in followed if n != name}))
         if [complaint.split()[0] for complaint in changed + new] != [name, name]:
             complaints.append(f"{name}: a change of its text isn't seen, or that it is new")
     for complaint in complaints:
         print(f"    FAIL {complaint}")
-    print(f"definitions that are followed: {len(names)}", flush=True)
-    return max(len(names), 1), len(complaints)
+    print(f"definitions that are followed: {len(behind)}", flush=True)
+    return max(len(behind), 1), len(complaints)
 
 
 def main() -> None:
@@ -695,7 +713,7 @@ def main() -> None:
     words.add_argument("--crates", default="crates")
     words.add_argument("--write", action="store_true")
     given = words.parse_args()
-    specs = Specs(given.crates, CRATES)
+    specs = Specs(pathlib.Path(given.crates))
     if given.write:
         write(specs)
         return

@@ -53,10 +53,11 @@ def count_of(found):
 
 @dataclasses.dataclass(eq=False)
 class Definition:
-    """A definition: its file as CRATE.FILE, the comment over its part of the file, and its lines,
-    with the comments above them."""
+    """A definition: its file as CRATE.FILE, its name, the comment over its part of the file, and
+    its lines, with the comments above them."""
 
     file: str
+    name: str
     part: str
     lines: list
 
@@ -99,7 +100,8 @@ class Specs:
                         self.cases[file, case[1]] = own
                 elif not re.match(r"(pub )?(use|mod) ", line):
                     name = re.match(rf"{BEFORE}([^\s(:{{]+)", line)[1]
-                    own = self.definitions.setdefault((file, name), Definition(file, part, []))
+                    new = Definition(file, name, part, [])
+                    own = self.definitions.setdefault((file, name), new)
                     own.lines += [*notes, line]
                     notes, is_data = [], line.startswith(("data ", "pub data "))
             if notes:
