@@ -1,5 +1,5 @@
 #!/usr/bin/env python3
-"""Prints what the theorem of `pbook collect` rests on, in reading order.
+"""Prints what the theorem of `pbook collect` rests on, in reading order, and what its laws do.
 
 Usage: python3 -B scripts/theorem.py [--count] [--of CRATE.FILE.NAME]
        python3 -B scripts/theorem.py --contracts
@@ -8,9 +8,9 @@ It runs at the top of the repository. `make theorem` and `make test` call it.
 
 Each definition is printed as it stands in crates/*/specs, with its comments. Then come the types of
 the code that definitions name, and the words of the toolchain's library, where `rt` is to be had.
---of begins with another definition. --count prints the last line alone, which tells how much it is
-(scripts/lib/specs.py says what counts). --contracts tells that of what all public contracts rest
-on, file by file. --check compares docs/THEOREM.md with the count.
+--of begins with another definition, without the laws. --count prints the last lines alone, which
+tell how much it is (scripts/lib/specs.py says what counts). --contracts tells that of what all
+public contracts rest on, file by file. --check compares docs/THEOREM.md with the counts.
 """
 import argparse
 import json
@@ -25,6 +25,9 @@ from lib.specs import BEFORE, Specs, count_of, imports
 
 DOCUMENT = pathlib.Path("docs/THEOREM.md")
 HEADLINE = "pb_collecting.Headline.HasHeadline"
+# What carries the first and the last words of the theorem's sentence, and "in any order".
+LAWS = ("pb_accepted.Laws.HasOneEffect", "pb_accepted.Laws.SameBooks",
+        "pb_collecting.Laws.RefusalsLeaveTheGames", "pb_collecting.Answered.SayAnswers")
 # The files of specs in reading order. All others come after them, by their crates.
 ORDER = """
     pb_collecting.Headline
@@ -156,13 +159,15 @@ def print_words(specs, imported):
         print("", place, *(f"    {it}" for it in lines), sep="\n")
 
 
-def check(found):
-    """Says whether the document tells how much these definitions are, and whether the order names
-    no other file."""
-    lines = sum(len(it.tokens) for it in found)
-    due = f"the definitions: {len(found)}, on {lines} lines"
-    if due not in " ".join(DOCUMENT.read_text(encoding="utf-8").split()):
-        sys.exit(f"{DOCUMENT}: it has to say '{due}'")
+def check(found, more):
+    """Says whether the document tells how much these definitions are, alone and with those that
+    laws rest on besides, and whether the order names no other file."""
+    told = " ".join(DOCUMENT.read_text(encoding="utf-8").split())
+    due_of = {"the definitions": found, **({"with its laws": found + more} if more else {})}
+    for words, own in due_of.items():
+        due = f"{words}: {len(own)}, on {sum(len(it.tokens) for it in own)} lines"
+        if due not in told:
+            sys.exit(f"{DOCUMENT}: it has to say '{due}'")
     left = {*ORDER} - {it.file for it in found}
     if left:
         sys.exit(f"scripts/theorem.py: the order names {' '.join(sorted(left))} for nothing")
@@ -183,19 +188,28 @@ def main():
     found = specs.closure(seeds)
     if not found:
         sys.exit(f"scripts/theorem.py: no definition is named {given.of}")
+    has_laws = given.of == HEADLINE and not given.contracts
+    laws = [specs.find(*law.rsplit(".", 1)) for law in LAWS] if has_laws else []
+    more = [it for it in specs.closure(laws) if it not in found]
     if given.check:
-        return check(found)
+        check(found, more)
+        return
     files = by_files(found, file)
     if given.contracts:
         for path, own in files.items():
             print(f"{path}: {count_of(own).rpartition(',')[0]}")
     elif not given.count:
         print_definitions(specs, files)
-        imported = specs.imported([it for own in files.values() for it in own])
+        if more:
+            print("==== Laws, and what they rest on besides\n")
+            print_definitions(specs, by_files(more, LAWS[0].rpartition(".")[0]))
+        imported = specs.imported([it for own in files.values() for it in own] + more)
         print_types(specs, imported)
         print_words(specs, imported)
         print()
-    return print(count_of(found))
+    print(count_of(found))
+    if more:
+        print("with its laws:", count_of(found + more))
 
 
 if __name__ == "__main__":

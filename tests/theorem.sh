@@ -24,6 +24,7 @@ lower: thiserror
 upper: lower
 aside: pb_collecting
 pb_collecting:
+pb_accepted: pb_collecting
 program: upper
 library_uses: lower
 END
@@ -118,12 +119,27 @@ abbrev pub nothing : ℕ
 nothing = list.sum theorem.headline
 END
 
-# 7 tokens on 2 lines. The order names this file.
+# 7 tokens on 2 lines, and 5 on 2. The order names this file.
 put crates/pb_collecting/specs/Headline.antt << 'END'
 use Rattle.std.specs.Prelude.{ℕ, List, [], ◌∷◌}
 
 abbrev pub headline : List ℕ
 headline = 0 ∷ []
+
+abbrev pub HasHeadline : ℕ
+HasHeadline = headline
+END
+
+# The law that the script names first. 5 tokens on 2 lines, and 7 on 2.
+put crates/pb_accepted/specs/Laws.antt << 'END'
+use Rattle.std.specs.Prelude.{ℕ}
+use Rattle.pb_collecting.specs.Headline.{headline}
+
+abbrev pub least : ℕ
+least = 0
+
+abbrev pub HasOneEffect : ℕ
+HasOneEffect = headline + least
 END
 
 put crates/upper/src/shade.rt << 'END'
@@ -240,6 +256,24 @@ counts() {
         '2 definitions, 7 lines, 35 tokens, 1 files'
     holds test "$(theorem --count --of lower.Parts.unused)" = \
         '1 definitions, 2 lines, 7 tokens, 1 files'
+}
+
+# laws: the theorem comes with its laws, and what these rest on besides stands behind them
+laws() {
+    theorem --count > "$work/printed"
+    printf '%s\n' '2 definitions, 4 lines, 12 tokens, 1 files' \
+        'with its laws: 4 definitions, 8 lines, 24 tokens, 2 files' > "$work/due"
+    holds diff "$work/due" "$work/printed"
+    theorem | grep '^====\|^abbrev' | head -n 6 > "$work/printed"
+    cat > "$work/due" << 'END'
+==== crates/pb_collecting/specs/Headline.antt
+abbrev pub headline : List ℕ
+abbrev pub HasHeadline : ℕ
+==== Laws, and what they rest on besides
+==== crates/pb_accepted/specs/Laws.antt
+abbrev pub least : ℕ
+END
+    holds diff "$work/due" "$work/printed"
 }
 
 # contracts: public contracts and models are counted, and no body, invariant or other function
@@ -368,6 +402,8 @@ told() {
     echo 'It has the definitions: 7, on 20 lines.' | put docs/THEOREM.md
     holds ends 1 theorem --check --of upper.Top.Promise 2> "$work/errors"
     holds grep -q '^scripts/theorem.py: the order names .* for nothing$' "$work/errors"
+    echo 'It has the definitions: 2, on 4 lines; with its laws: 4, on 7 lines.' | put docs/THEOREM.md
+    holds refuses "docs/THEOREM.md: it has to say 'with its laws: 4, on 8 lines'" --check
 }
 
 # unknown: a name that nothing has is refused
@@ -378,6 +414,7 @@ unknown() {
 }
 
 check 'what a definition rests on is counted' counts
+check 'the theorem comes with its laws' laws
 check 'what public contracts rest on is counted' contracts
 if no_rt_there; then
     check 'it is printed as it stands' printed
