@@ -18,6 +18,7 @@ proved is not enough, since one that calls a wrong one isn't either. Nor is an a
 what the edit took away. A body whose goals wait for the proof of another wrong one is tried again
 without that one. A type, a constant, a derived comparison or a definition has a run of its own,
 and is refused at a goal of a law, or of a function of its module or of that which its name names.
+A definition is also refused where such a goal rests on a lemma of which it leaves no proof.
 
 What has passed is kept in ~/.cache/pbook, by a sum of the crate, its bodies, what it stands on,
 the toolchain and this script. --anew looks at nothing kept. RT_JOBS says how many runs go side by
@@ -46,8 +47,9 @@ NOTED = pathlib.Path("build/made-of.json")
 PARTS = ("src", "specs", "proofs")
 # The memory that a run may take, in bytes.
 ROOM = 4_500_000_000
-# What is said of an answer that names what an edit took away.
-GONE = re.compile(r"has no field|is not in scope|has no `|was not admitted")
+# What is said of a text that names what an edit took away, and of an answer that does.
+MISSING = r"has no field|is not in scope|has no `"
+GONE = re.compile(MISSING + "|was not admitted")
 
 
 def rt(word):
@@ -210,11 +212,22 @@ class Said:
         found = re.search(rf"^fn {re.escape(function.name)}: (.*)", self.text, re.M)
         return found and found[1]
 
-    def goal_of(self, function):
-        """A goal of this function that is told as unproved, or None."""
+    def answers_of(self, function):
+        """A pattern of where the answers to this function's goals stand, before what is said."""
         # (the folder of a function that calls itself has a plus in front of its name)
         folder = re.sub(r"(\w+)$", r"\\+?\1", "proofs/" + function.path.replace("::", "/"))
-        answers = rf"^(?:\./)?{folder}/(?:\S+/)?\w+\.antt:\d+:\d+: error: `([^`]+)`: (.*)"
+        return rf"^(?:\./)?{folder}/(?:\S+/)?\w+\.antt:\d+:\d+: error: "
+
+    def lemma_of(self, function):
+        """A lemma that isn't proved and on which an answer of this function rests, or None; none
+        where a text names what isn't there."""
+        rests = r"\d+ declarations? that depends? on `([^`]+)`, which was (?:rejected|not admitted)"
+        found = re.search(self.answers_of(function) + rests, self.text, re.M)
+        return found and not re.search(MISSING, self.text) and f"lemma {found[1]}"
+
+    def goal_of(self, function):
+        """A goal of this function that is told as unproved, or None."""
+        answers = self.answers_of(function) + r"`([^`]+)`: (.*)"
         for goal, why in re.findall(answers, self.text, re.M):
             if not GONE.search(why):
                 return goal
@@ -438,7 +451,7 @@ class Trial:
 
     def try_alone(self, body):
         """Tries a body on its own: a law breaks, or its function, or where it has none, a function
-        of the module that it turns or that its name begins with."""
+        of the module that it turns or that its name begins with. By a definition a lemma may."""
         files = [path for path, *_ in body.pairs if path.startswith("src/")]
         named = f"src/{body.name.partition('-')[0]}.rt"
         files += [named] if (self.crate.folder / named).is_file() else []
@@ -446,6 +459,8 @@ class Trial:
         places += body.functions or self.functions_of(files)
         said = self.run([body], sorted({it.path for it in places}))
         goals = [(goal, it.name) for it in places if (goal := said.goal_of(it))]
+        if all(path.startswith("specs/") for path, *_ in body.pairs):
+            goals += [(lemma, it.name) for it in places if (lemma := said.lemma_of(it))]
         if said.unread():
             self.fail(body.name, f"the prover can't read it: {said.unread()[:300]}")
         elif goals:
