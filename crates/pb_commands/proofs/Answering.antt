@@ -7,7 +7,7 @@ use Rattle.std.proofs.KnownBytes.{Appends-nil, Appends-trans, Appends-kept}
 use Rattle.pb_io.specs.Source.{SourceState}
 use Rattle.pb_io.specs.Fault.{fault_of_read}
 use Rattle.pb_io.specs.Sink.{AwaitsFlush, Flush, Put, SinkState}
-use Rattle.pb_io.specs.LineTask.{AtLine, ReadUntil, StopsAtLast, TakesAll, TakesStream, TakesUntil, chunk_len}
+use Rattle.pb_io.specs.LineTask.{AtEnd, AtLine, ReadUntil, StopsAtLast, TakesAll, TakesStream, TakesUntil, chunk_len}
 use Rattle.pb_io.specs.declared.fault.ReadFault.{ReadFault}
 use Rattle.pb_io.specs.declared.fault.ReadFault.TheVariants as read
 use Rattle.pb_io.specs.declared.source.Failed.{Failed}
@@ -20,7 +20,7 @@ use Rattle.pb_commands.specs.declared.lines.Answering.{Answering}
 use Rattle.pb_commands.specs.Answering.{AnswersLine, KeepsLent}
 use Rattle.pb_commands.specs.Judged.{HandedOnOnce, PutsFrontOfText, PutsText, Verdict}
 use Rattle.pb_commands.specs.LineAnswer.{PutsOrStops}
-use Rattle.pb_commands.specs.LinesRun.{AnswersStream, AnswersUntil, PutsButLast, PutsLines}
+use Rattle.pb_commands.specs.LinesRun.{AnswersOrEnds, PutsButLast, PutsLines}
 use Rattle.pb_commands.specs.LinesShown.{LinesShown}
 use Rattle.pb_commands.proofs.Judging.{until_as}
 
@@ -248,7 +248,7 @@ module _ {A K : Type 0} (shows : A → ℕ → List ℕ → Verdict → Type 0) 
           puts = subst (λ (x : SinkState). PutsLines (Shown s) sink x h.0) (sym stop.1) (lines_put h.2 h.0 run);
         }
 
-    pub all_of : s.all_taken ≡ true → TakesStream (AnswersLine shows state) fills old new s t → AnswersStream (Shown s) fills old new sink sink' t.all_taken
+    pub all_of : s.all_taken ≡ true → TakesStream (AnswersLine shows state) fills old new s t → AtEnd fills old new (λ ls. PutsText (LinesShown (Shown s) 1 ls) sink sink' t.all_taken)
     all_of fresh =
         AtEnd-weaker fills old new (λ ls. TakesAll (AnswersLine shows state) s ls t) (λ ls. PutsText (LinesShown (Shown s) 1 ls) sink sink' t.all_taken) (λ ls some h.
         let run = run_of s t ls (few ls some) h in
@@ -270,12 +270,12 @@ module _ {A K : Type 0} (shows : A → ℕ → List ℕ → Verdict → Type 0) 
     never : (e : Fault) → ((ls : List (List ℕ)) → length ls ≤ fills * chunk_len → Stopped e ls → ⊥) → AtLine fills old new (Stopped e) → ⊥
     never e impossible h = elim (AtLine-weaker fills old new (Stopped e) (λ ls. ⊥) impossible h) [ inl x ↦ x.done | inr x ↦ x.done ]
 
-    read_until : (fault : ReadFault) → ReadUntil (AnswersLine shows state) fills old new s t fault → AnswersUntil (Shown s) fills old new sink sink' (fault_of_read fault)
+    read_until : (fault : ReadFault) → ReadUntil (AnswersLine shows state) fills old new s t fault → AnswersOrEnds (Shown s) fills old new sink sink' (Err (fault_of_read fault))
     read_until read.Memory h = inl (h.0, ap (λ (x : Answering A K). state x.sink.now) h.1)
     read_until read.Read h = AtFault-weaker fills old new (λ ls. TakesAll (AnswersLine shows state) s ls t) (PutsLines (Shown s) sink sink') all_lines h
     read_until read.Endless h = AtNoEnd-weaker fills old new (λ ls. TakesAll (AnswersLine shows state) s ls t) (PutsLines (Shown s) sink sink') all_lines h
 
-    stopped_until : (e : Fault) → AtLine fills old new (Stopped e) → AnswersUntil (Shown s) fills old new sink sink' e
+    stopped_until : (e : Fault) → AtLine fills old new (Stopped e) → AnswersOrEnds (Shown s) fills old new sink sink' (Err e)
     stopped_until Write h =
         AtLine-weaker fills old new (Stopped Write) (λ ls. PutsFrontOfText (LinesShown (Shown s) 1 ls) sink sink') (λ ls some x. front_from_one ls (cut_of s t ls (few ls some) x)) h
     stopped_until Memory h = inr (AtLine-weaker fills old new (Stopped Memory) (PutsButLast (Shown s) sink sink') but_last h)
@@ -285,8 +285,8 @@ module _ {A K : Type 0} (shows : A → ℕ → List ℕ → Verdict → Type 0) 
     abbrev Until : Fault → Type 0
     Until = TakesUntil (λ fault e. e ≡ fault_of_read fault) (AnswersLine shows state) fills old new s t
 
-    pub until_of : (e : Fault) → Until e → AnswersUntil (Shown s) fills old new sink sink' e
-    until_of e (inl h) = subst (AnswersUntil (Shown s) fills old new sink sink') (sym h.1) (read_until h.0 h.2)
+    pub until_of : (e : Fault) → Until e → AnswersOrEnds (Shown s) fills old new sink sink' (Err e)
+    until_of e (inl h) = subst (λ (fault : Fault). AnswersOrEnds (Shown s) fills old new sink sink' (Err fault)) (sym h.1) (read_until h.0 h.2)
     until_of e (inr h) = stopped_until e h
 
     same_all : (ls : List (List ℕ)) → length ls ≤ fills * chunk_len → TakesAll (AnswersLine shows state) s ls t → KeepsLent shows s t
@@ -308,7 +308,8 @@ module _ {A K : Type 0} (shows : A → ℕ → List ℕ → Verdict → Type 0) 
 
 -- all lines were answered, and what was put couldn't be handed on
 pub unflushed : (shown : ℕ → List ℕ → Verdict → Type 0) (fills : ℕ) (old new : SourceState) (k l m : SinkState) (answer : Bool) (e : Failed)
-    → AnswersStream shown fills old new k l answer → AwaitsFlush k l → Flush {E = Failed} l m (Err e) → AnswersUntil shown fills old new k m Write
+    → AtEnd fills old new (λ ls. PutsText (LinesShown shown 1 ls) k l answer) → AwaitsFlush k l → Flush {E = Failed} l m (Err e)
+    → AnswersOrEnds shown fills old new k m (Err Write)
 unflushed shown fills old new k l m answer e h awaits flush =
     let text = h.done in inr (record {
       came = h.came;

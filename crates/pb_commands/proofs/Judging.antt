@@ -1,9 +1,8 @@
 -- What a command puts, from what its parts do and what its input comes to.
-use Rattle.std.proofs.Common.{◌≡◌, ◌∙◌, ℕ, Bool, List, Option, Some, None, Result, Ok, Err, ap, false, refl, subst, sym}
-use Rattle.std.specs.Prelude.{IfErr, IfOk, IfSome, MatchResult, OnOk}
-use Rattle.std.specs.Io.KnownBytes.{Appends}
+use Rattle.std.proofs.Common.{◌≡◌, ℕ, Bool, List, Result, Ok, Err, ap, inl, inr, subst, sym}
 use Rattle.pb_io.specs.Sink.{SinkState}
-use Rattle.pb_commands.specs.Judged.{HandedOnOnce, PutsOrEnds, PutsText, PutsUntil, Verdict}
+use Rattle.pb_commands.specs.Judged.{ByInput, PutsOrEnds, PutsText, PutsUntil, Verdict}
+use Rattle.pb_commands.specs.Laws.{OnlyTextsOf, TextsAreOf}
 use Rattle.pb_commands.specs.Refused.{GivesReason}
 use Rattle.pb_commands.specs.declared.refusal.Answer.{Answer}
 use Rattle.pb_commands.specs.declared.refusal.Answer.TheVariants as answer
@@ -52,20 +51,6 @@ module _ (judges : Verdict → Type 0) (sink sink' : SinkState) where
         subst (λ (x : Fault). PutsUntil judges sink sink' x) (sym fault.0)
         (record { answer = answer; out = out; judged = judged; count = front.0; put = front.1; fails = fault.1; flushes = h.flushes })
 
-  -- ---- what the clauses of a command say, from how it ends
-
-  pub puts_text : (result : Result Bool Fault) → Ends result → IfOk result (PutsText judges sink sink')
-  puts_text (Ok answer) h = h.0
-  puts_text (Err fault) h = tt
-
-  pub hands_on : (result : Result Bool Fault) → Ends result → OnOk result (HandedOnOnce sink sink')
-  hands_on (Ok answer) h = h.1
-  hands_on (Err fault) h = tt
-
-  pub puts_until : (result : Result Bool Fault) → Ends result → IfErr result (PutsUntil judges sink sink')
-  puts_until (Ok answer) h = tt
-  puts_until (Err fault) h = h
-
 -- what the input comes to is put
 pub shows : (judges : Verdict → Type 0) (verdict : Verdict) → judges verdict → (sink sink' : SinkState) (result : Result Bool Fault)
     → PutsOrEnds (λ v. v ≡ verdict) sink sink' result → PutsOrEnds judges sink sink' result
@@ -76,31 +61,19 @@ pub shows_as : (verdict other : Verdict) → verdict ≡ other → (sink sink' :
     → PutsOrEnds (λ v. v ≡ verdict) sink sink' result → PutsOrEnds (λ v. v ≡ other) sink sink' result
 shows_as verdict other same = shows (λ v. v ≡ other) verdict same
 
--- where the source tells its bytes, the text is one for them
-pub told_as : (judges : Verdict → Type 0) (others : List ℕ → Verdict → Type 0) (sink sink' : SinkState) (told : Option (List ℕ)) (result : Result Bool Fault)
-    → ((bytes : List ℕ) → told ≡ Some bytes → (answer : Bool) (out : List ℕ) → judges (Ok (answer, out)) → others bytes (Ok (answer, out)))
-    → IfOk result (PutsText judges sink sink') → IfOk result (λ answer. IfSome told (λ bytes. PutsText (others bytes) sink sink' answer))
-told_as judges others sink sink' None (Ok answer) as_other h = tt
-told_as judges others sink sink' (Some bytes) (Ok answer) as_other h = text_as judges (others bytes) sink sink' answer (as_other bytes refl answer) h
-told_as judges others sink sink' told (Err e) as_other h = tt
+-- where an input is one thing, what comes of it twice is so of that one
+pub by_one : {X E : Type 0} → (is : Result X E → Type 0) → ((r x : Result X E) → is r → is x → r ≡ x) → (goes others : X → Type 0) → (ends ends' : E → Type 0)
+    → (C : Type 0) → ((x : X) → is (Ok x) → goes x → others x → C) → ((e : E) → ends e → ends' e → C) → ByInput is goes ends → ByInput is others ends' → C
+by_one is one goes others ends ends' C taken refused (Ok x, h, g) (Ok y, k, o) = let same : y ≡ x = cc (one (Ok y) (Ok x) k h) in taken x h g (subst others same o)
+by_one is one goes others ends ends' C taken refused (Ok x, h, g) (Err e, k, o) = absurd (cc (one (Ok x) (Err e) h k))
+by_one is one goes others ends ends' C taken refused (Err e, h, g) (Ok y, k, o) = absurd (cc (one (Err e) (Ok y) h k))
+by_one is one goes others ends ends' C taken refused (Err d, h, g) (Err e, k, o) = let same : e ≡ d = cc (one (Err e) (Err d) k h) in refused d g (subst ends' same o)
 
--- where the input shows one text and no fault of reading comes, that text is put, or memory was
--- wanting
-module _ (judges others : Verdict → Type 0) (sink sink' : SinkState) (works : sink'.failed ≡ false)
-    (as_other : (answer : Bool) (out : List ℕ) → judges (Ok (answer, out)) → others (Ok (answer, out)))
-    (one : (x y : Bool × List ℕ) → others (Ok x) → others (Ok y) → x ≡ y)
-    (no_read : judges (Err Read) → ⊥) (no_endless : judges (Err Endless) → ⊥) (answer : Bool) (out : List ℕ) (is : others (Ok (answer, out))) where
-  pub only_text : (result : Result Bool Fault) → PutsOrEnds judges sink sink' result
-      → MatchResult result (λ taken. (taken ≡ answer) × Appends sink.bytes sink'.bytes out) (λ e. e ≡ Memory)
-  only_text (Ok taken) h =
-      let text = h.0 in
-      let same = one (taken, text.out) (answer, out) (as_other taken text.out text.judged) is in
-      let texts : text.out ≡ out = ap (λ (x : Bool × List ℕ). x.1) same in
-      (ap (λ (x : Bool × List ℕ). x.0) same, subst (λ (bytes : List ℕ). Appends sink.bytes sink'.bytes bytes) texts text.put)
-  only_text (Err Write) until = absurd (cc (sym until.fails ∙ works))
-  only_text (Err Read) until = absurd (no_read until.0)
-  only_text (Err Endless) until = absurd (no_endless until.0)
-  only_text (Err Memory) until = refl
+-- where the other input comes to one text, and no fault comes but want of memory
+pub only_texts : (judges others : Verdict → Type 0) → TextsAreOf judges others → ((x y : Bool × List ℕ) → others (Ok x) → others (Ok y) → x ≡ y)
+    → ((fault : Fault) → judges (Err fault) → fault ≡ Memory) → OnlyTextsOf judges others
+only_texts judges others as_other one faults text (Ok x) other h = inl (ap (λ (y : Bool × List ℕ). let v : Verdict = Ok y in v) (one x text (as_other x h) other))
+only_texts judges others as_other one faults text (Err fault) other h = inr (ap (λ (y : Fault). let v : Verdict = Err y in v) (faults fault h))
 
 -- what is so of a command without lines is so of one with lines
 pub reason_with_lines : (lines : Type 0) (sink sink' : SinkState) (given : Answer) → GivesReason ⊥ sink sink' given → GivesReason lines sink sink' given

@@ -1,5 +1,4 @@
 pub mod Answering
-mod EpdClauses
 mod Hexadecimals
 pub mod Judging
 mod LookupClauses
@@ -10,7 +9,6 @@ mod OneBook
 mod OneProbe
 mod Probing
 mod PutsInTurn
-mod Rewriting
 mod Showing
 mod Shown
 pub mod Told

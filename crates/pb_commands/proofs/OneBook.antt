@@ -13,7 +13,7 @@ use Rattle.pb_poly.specs.declared.reading.BookError.{BookError}
 use Rattle.pb_poly.specs.declared.reading.BookError.TheVariants as book
 use Rattle.pb_commands.specs.BookJudged.{AsBook, book_verdict}
 use Rattle.pb_commands.specs.BookShown.{BookShown, show_text}
-use Rattle.pb_commands.specs.Judged.{Verdict}
+use Rattle.pb_commands.proofs.Judging.{by_one}
 
 -- of two fronts of one text the shorter begins the longer
 shorter_begins : (a x b y : List ℕ) → a ++ x ≡ b ++ y → length a ≤ length b → (z : List ℕ) × (b ≡ a ++ z)
@@ -106,13 +106,7 @@ module _ (bytes : List ℕ) where
   one_book r (Err book.Endless) h k = absurd k
   one_book r (Err book.Memory) h k = absurd k
 
-  verdict_is_one : (x y : Verdict) → BookShown (AsBook bytes) x → BookShown (AsBook bytes) y → x ≡ y
-  verdict_is_one x y (BookShown.shown entries h is) (BookShown.shown others k is') =
-      let same : entries ≡ others = cc (one_book (Ok entries) (Ok others) h k) in is ∙ ap (λ es. Ok (true, show_text es)) same ∙ sym is'
-  verdict_is_one x y (BookShown.shown entries h is) (BookShown.no_book e k is') = absurd (cc (one_book (Ok entries) (Err e) h k))
-  verdict_is_one x y (BookShown.no_book e h is) (BookShown.shown others k is') = absurd (cc (one_book (Err e) (Ok others) h k))
-  verdict_is_one x y (BookShown.no_book d h is) (BookShown.no_book e k is') =
-      let same : d ≡ e = cc (one_book (Err d) (Err e) h k) in is ∙ ap book_verdict same ∙ sym is'
-
   pub shown_is_one : (a b : Bool × List ℕ) → BookShown (AsBook bytes) (Ok a) → BookShown (AsBook bytes) (Ok b) → a ≡ b
-  shown_is_one a b h k = cc (verdict_is_one (Ok a) (Ok b) h k)
+  shown_is_one a b =
+      by_one (AsBook bytes) one_book (λ entries. Ok a ≡ Ok (true, show_text entries)) (λ entries. Ok b ≡ Ok (true, show_text entries)) (λ e. Ok a ≡ book_verdict e)
+      (λ e. Ok b ≡ book_verdict e) (a ≡ b) (λ entries h is is'. cc (is ∙ sym is')) (λ e is is'. cc (is ∙ sym is'))

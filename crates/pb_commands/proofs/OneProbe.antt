@@ -1,5 +1,5 @@
 -- Bytes show one text of a table, a book and a record.
-use Rattle.std.proofs.Common.{◌≡◌, ◌∙◌, ℕ, Bool, List, Result, Ok, Err, ap, arith, refl, subst, sym, true}
+use Rattle.std.proofs.Common.{◌≡◌, ◌∙◌, ℕ, Bool, List, Result, Ok, Err, ap, arith, inl, inr, refl, sym, true}
 use Rattle.pb_board.specs.declared.refusal.FenError.{FenError}
 use Rattle.pb_board.specs.Position.{IsRecord, Record}
 use Rattle.pb_board.specs.Fields.{fields}
@@ -18,9 +18,11 @@ use Rattle.pb_poly.specs.declared.table_file.TableFault.TheVariants as table_fau
 use Rattle.pb_poly.proofs.Finding.{found_is_one}
 use Rattle.pb_poly.proofs.OnlyTables.{tables_are_one}
 use Rattle.pb_commands.specs.BookJudged.{AsBook, book_verdict}
+use Rattle.pb_commands.specs.Judged.{ByInput, Verdict}
 use Rattle.pb_commands.specs.ProbeShown.{FoundShown, ProbeShown, probe_text}
 use Rattle.pb_commands.specs.RecordJudged.{AsRecord, record_verdict}
 use Rattle.pb_commands.specs.TableJudged.{AsTable, table_verdict}
+use Rattle.pb_commands.proofs.Judging.{by_one}
 use Rattle.pb_commands.proofs.OneBook.{one_book}
 
 -- ---- tables
@@ -56,37 +58,33 @@ one_text fen (Err d) (Err e) h k = ap (λ y. Err y) (one_first (IsDueFen (fields
 
 -- ---- all three
 
--- a text that is put for moves that are found is one
-found_one : (words : List ℕ) (entries : List Entry) (f : Record) → IsRecord f → (a b : Bool × List ℕ) → FoundShown words entries f (Ok a) → FoundShown words entries f (Ok b) → a ≡ b
-found_one words entries f lawful a b (FoundShown.found pairs h is) (FoundShown.found others k is') =
-    let same = found_is_one entries words f.setup pairs others lawful.setup h k in cc (is ∙ ap (λ ps. Ok (true, probe_text ps)) same ∙ sym is')
-found_one words entries f lawful a b (FoundShown.found pairs h is) (FoundShown.no_memory is') = absurd (cc is')
-found_one words entries f lawful a b (FoundShown.no_memory is) k = absurd (cc is)
+-- what is shown where there are a table and a book, or a table alone
+abbrev RecordShown : List ℕ → List ℕ → List Entry → Verdict → Type 0
+RecordShown fen words entries verdict = ByInput (AsRecord fen) (λ f. FoundShown words entries probe_text f.setup verdict) (λ e. verdict ≡ record_verdict e)
 
-module _ (table book fen : List ℕ) where
-  pub probe_is_one : (a b : Bool × List ℕ) → ProbeShown (AsTable table) (AsBook book) fen (Ok a) → ProbeShown (AsTable table) (AsBook book) fen (Ok b) → a ≡ b
-  probe_is_one a b (ProbeShown.no_table d t is) (ProbeShown.no_table e t' is') =
-      let same : d ≡ e = cc (one_table table (Err d) (Err e) t t') in cc (is ∙ ap table_verdict same ∙ sym is')
-  probe_is_one a b (ProbeShown.no_table d t is) (ProbeShown.no_book others e t' h' is') = absurd (cc (one_table table (Err d) (Ok others) t t'))
-  probe_is_one a b (ProbeShown.no_table d t is) (ProbeShown.no_record others entries' e t' h' r' is') = absurd (cc (one_table table (Err d) (Ok others) t t'))
-  probe_is_one a b (ProbeShown.no_table d t is) (ProbeShown.probed others entries' g t' h' r' y) = absurd (cc (one_table table (Err d) (Ok others) t t'))
-  probe_is_one a b (ProbeShown.no_book words d t h is) (ProbeShown.no_table e t' is') = absurd (cc (one_table table (Ok words) (Err e) t t'))
-  probe_is_one a b (ProbeShown.no_book words d t h is) (ProbeShown.no_book others e t' h' is') =
-      let same : d ≡ e = cc (one_book book (Err d) (Err e) h h') in cc (is ∙ ap book_verdict same ∙ sym is')
-  probe_is_one a b (ProbeShown.no_book words d t h is) (ProbeShown.no_record others entries' e t' h' r' is') = absurd (cc (one_book book (Err d) (Ok entries') h h'))
-  probe_is_one a b (ProbeShown.no_book words d t h is) (ProbeShown.probed others entries' g t' h' r' y) = absurd (cc (one_book book (Err d) (Ok entries') h h'))
-  probe_is_one a b (ProbeShown.no_record words entries d t h r is) (ProbeShown.no_table e t' is') = absurd (cc (one_table table (Ok words) (Err e) t t'))
-  probe_is_one a b (ProbeShown.no_record words entries d t h r is) (ProbeShown.no_book others e t' h' is') = absurd (cc (one_book book (Ok entries) (Err e) h h'))
-  probe_is_one a b (ProbeShown.no_record words entries d t h r is) (ProbeShown.no_record others entries' e t' h' r' is') =
-      let same : d ≡ e = cc (one_text fen (Err d) (Err e) r r') in cc (is ∙ ap record_verdict same ∙ sym is')
-  probe_is_one a b (ProbeShown.no_record words entries d t h r is) (ProbeShown.probed others entries' g t' h' r' y) = absurd (cc (one_text fen (Err d) (Ok g) r r'))
-  probe_is_one a b (ProbeShown.probed words entries f t h r x) (ProbeShown.no_table e t' is') = absurd (cc (one_table table (Ok words) (Err e) t t'))
-  probe_is_one a b (ProbeShown.probed words entries f t h r x) (ProbeShown.no_book others e t' h' is') = absurd (cc (one_book book (Ok entries) (Err e) h h'))
-  probe_is_one a b (ProbeShown.probed words entries f t h r x) (ProbeShown.no_record others entries' e t' h' r' is') = absurd (cc (one_text fen (Ok f) (Err e) r r'))
-  probe_is_one a b (ProbeShown.probed words entries f t h r x) (ProbeShown.probed others entries' g t' h' r' y) =
-      let same_words : others ≡ words = cc (one_table table (Ok others) (Ok words) t' t) in
-      let same_entries : entries' ≡ entries = cc (one_book book (Ok entries') (Ok entries) h' h) in
-      let same_record : g ≡ f = cc (one_text fen (Ok g) (Ok f) r' r) in
-      let at_words = subst (λ (ws : List ℕ). FoundShown ws entries' g (Ok b)) same_words y in
-      let at_entries = subst (λ (es : List Entry). FoundShown words es g (Ok b)) same_entries at_words in
-      found_one words entries f r.0 a b x (subst (λ (z : Record). FoundShown words entries z (Ok b)) same_record at_entries)
+abbrev UnderTable : List ℕ → List ℕ → List ℕ → Verdict → Type 0
+UnderTable fen book words verdict = ByInput (AsBook book) (λ entries. RecordShown fen words entries verdict) (λ e. verdict ≡ book_verdict e)
+
+-- a text that is put for moves that are found is one
+found_one : (words : List ℕ) (entries : List Entry) (f : Record) → IsRecord f → (a b : Bool × List ℕ) → FoundShown words entries probe_text f.setup (Ok a)
+    → FoundShown words entries probe_text f.setup (Ok b) → a ≡ b
+found_one words entries f lawful a b (inl (pairs, h, is)) (inl (others, k, is')) =
+    let same = found_is_one entries words f.setup pairs others lawful.setup h k in cc (is ∙ ap (λ ps. Ok (true, probe_text ps)) same ∙ sym is')
+found_one words entries f lawful a b (inl (pairs, h, is)) (inr is') = absurd (cc is')
+found_one words entries f lawful a b (inr is) k = absurd (cc is)
+
+module _ (table book fen : List ℕ) (a b : Bool × List ℕ) where
+  record_is_one : (words : List ℕ) (entries : List Entry) → RecordShown fen words entries (Ok a) → RecordShown fen words entries (Ok b) → a ≡ b
+  record_is_one words entries =
+      by_one (AsRecord fen) (one_text fen) (λ f. FoundShown words entries probe_text f.setup (Ok a)) (λ f. FoundShown words entries probe_text f.setup (Ok b))
+      (λ e. Ok a ≡ record_verdict e) (λ e. Ok b ≡ record_verdict e) (a ≡ b) (λ f r. found_one words entries f r.0 a b) (λ e is is'. cc (is ∙ sym is'))
+
+  book_is_one : (words : List ℕ) → UnderTable fen book words (Ok a) → UnderTable fen book words (Ok b) → a ≡ b
+  book_is_one words =
+      by_one (AsBook book) (one_book book) (λ entries. RecordShown fen words entries (Ok a)) (λ entries. RecordShown fen words entries (Ok b))
+      (λ e. Ok a ≡ book_verdict e) (λ e. Ok b ≡ book_verdict e) (a ≡ b) (λ entries h. record_is_one words entries) (λ e is is'. cc (is ∙ sym is'))
+
+  pub probe_is_one : ProbeShown (AsTable table) (AsBook book) fen (Ok a) → ProbeShown (AsTable table) (AsBook book) fen (Ok b) → a ≡ b
+  probe_is_one =
+      by_one (AsTable table) (one_table table) (λ words. UnderTable fen book words (Ok a)) (λ words. UnderTable fen book words (Ok b))
+      (λ e. Ok a ≡ table_verdict e) (λ e. Ok b ≡ table_verdict e) (a ≡ b) (λ words h. book_is_one words) (λ e is is'. cc (is ∙ sym is'))

@@ -5,9 +5,12 @@ use Rattle.std.specs.Io.KnownBytes.{Appends}
 use Rattle.std.proofs.KnownBytes.{Appends-kept}
 use Rattle.std.proofs.Math.ListN.{drop_of_length-le}
 use Rattle.std.proofs.lemmas.List.{drop_more}
+use Rattle.pb_board.specs.LineEnd.{with_end}
+use Rattle.pb_moves.specs.Moved.{Moved}
 use Rattle.pb_io.specs.Count.{next_count}
 use Rattle.pb_io.specs.Sink.{Flush, Put, SinkState}
 use Rattle.pb_io.specs.declared.source.Failed.{Failed}
+use Rattle.pb_commands.specs.ProbeShown.{found_text}
 use Rattle.pb_commands.specs.Shows.{Shows}
 use Rattle.pb_io.specs.declared.fault.Fault.TheVariants.{Write}
 use Rattle.pb_io.proofs.PutLemmas.{front_all, front_more, put_more}
@@ -22,6 +25,10 @@ not_handed_on old mid new bytes e put same flush = record {
   front = front_all _ _ _ _ put flush.bytes;
   flushes = flush.flushes ∙ same;
 }
+
+-- the line of one move that is found
+abbrev pub found_line : Moved × ℕ → List ℕ
+found_line pair = with_end (found_text pair)
 
 -- the lines before one have been put, and not handed on
 pub record PutsLines {X : Type 0} (line : X → List ℕ) (xs : List X) (i : ℕ) (old now : SinkState) : Type 0 where

@@ -16,6 +16,7 @@ use Rattle.pb_poly.specs.declared.table_file.TableFault.{TableFault}
 use Rattle.pb_poly.specs.declared.table_file.TableFault.TheVariants as table
 use Rattle.pb_commands.specs.BookJudged.{AsBook, book_verdict}
 use Rattle.pb_commands.specs.BookShown.{BookShown}
+use Rattle.pb_commands.specs.Laws.{TextsAreOf}
 use Rattle.pb_commands.specs.TableJudged.{AsTable, table_verdict}
 
 module _ (fills : ℕ) (old new : SourceState) (bytes : List ℕ) (told : old.to_come ≡ Some bytes) where
@@ -64,6 +65,6 @@ module _ (fills : ℕ) (old new : SourceState) (bytes : List ℕ) (told : old.to
 
   -- ---- what they show
 
-  pub told_shown : (answer : Bool) (out : List ℕ) → BookShown (ReadsBook fills old new) (Ok (answer, out)) → BookShown (AsBook bytes) (Ok (answer, out))
-  told_shown answer out (BookShown.shown entries h is) = BookShown.shown entries (told_book entries h) is
-  told_shown answer out (BookShown.no_book e h is) = BookShown.no_book e (told_no_book e (answer, out) is h) is
+  pub told_shown : TextsAreOf (BookShown (ReadsBook fills old new)) (BookShown (AsBook bytes))
+  told_shown text (Ok entries, h, is) = (Ok entries, told_book entries h, is)
+  told_shown text (Err e, h, is) = (Err e, told_no_book e text is h, is)

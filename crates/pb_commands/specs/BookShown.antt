@@ -1,11 +1,11 @@
 -- What the command `show` writes: a line for each entry of a book.
-use Rattle.std.specs.Prelude.{◌≡◌, ℕ, true, List, ◌∷◌, ◌++◌, Result, Ok, Err, flat_map}
+use Rattle.std.specs.Prelude.{◌≡◌, ℕ, true, List, ◌∷◌, ◌++◌, Result, Ok, flat_map}
 use Rattle.pb_board.specs.LineEnd.{with_end}
 use Rattle.pb_poly.specs.declared.entry.Entry.{Entry}
 use Rattle.pb_poly.specs.declared.reading.BookError.{BookError}
 use Rattle.pb_commands.specs.BookJudged.{book_verdict}
 use Rattle.pb_commands.specs.Hexadecimal.{hexadecimal}
-use Rattle.pb_commands.specs.Judged.{Verdict}
+use Rattle.pb_commands.specs.Judged.{ByInput, Verdict}
 
 -- key, code, weight and learn, one space between
 abbrev pub entry_line : Entry → List ℕ
@@ -16,8 +16,6 @@ abbrev pub show_text : List Entry → List ℕ
 show_text entries = flat_map entry_line entries
 
 -- what the command comes to, where `book` tells what its input is as a book
-pub data BookShown (book : Result (List Entry) BookError → Type 0)
-    (verdict : Verdict) : Type 0 where
-  shown : (entries : List Entry) → book (Ok entries) → verdict ≡ Ok (true, show_text entries)
-      → BookShown book verdict
-  no_book : (e : BookError) → book (Err e) → verdict ≡ book_verdict e → BookShown book verdict
+abbrev pub BookShown : (Result (List Entry) BookError → Type 0) → Verdict → Type 0
+BookShown book verdict = ByInput book (λ entries. verdict ≡ Ok (true, show_text entries))
+    (λ e. verdict ≡ book_verdict e)

@@ -4,17 +4,8 @@ use Rattle.pb_io.specs.Source.{SourceState}
 use Rattle.pb_io.specs.Sink.{SinkState}
 use Rattle.pb_io.specs.declared.fault.Fault.{Fault}
 use Rattle.pb_commands.specs.EpdShown.{LineShown}
-use Rattle.pb_commands.specs.LinesRun.{AnswersOrEnds, AnswersStream, AnswersUntil}
+use Rattle.pb_commands.specs.LinesRun.{AnswersOrEnds}
 
--- how a run ends with each fault
-abbrev pub RewritesUntil : ℕ → SourceState → SourceState → SinkState → SinkState → Fault → Type 0
-RewritesUntil = AnswersUntil LineShown
-
--- all lines of the stream gave this answer, and what they give was put
-abbrev pub RewritesStream : ℕ → SourceState → SourceState → SinkState → SinkState → Bool → Type 0
-RewritesStream = AnswersStream LineShown
-
--- how a run ends
 abbrev pub RewritesOrEnds : ℕ → SourceState → SourceState → SinkState → SinkState
     → Result Bool Fault → Type 0
 RewritesOrEnds = AnswersOrEnds LineShown

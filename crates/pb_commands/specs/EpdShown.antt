@@ -1,6 +1,6 @@
 -- What the command `epd` writes: for each line its one ordered form, or why it is refused.
-use Rattle.std.specs.Prelude.{◌≡◌, ℕ, ◌<◌, ◌≤◌, true, List, [], ◌∷◌, ◌++◌, Ok, Err, length, All}
-use Rattle.std.specs.Prelude.{codes, decimal}
+use Rattle.std.specs.Prelude.{◌≡◌, ◌⊎◌, ℕ, ◌<◌, ◌≤◌, true, List, [], ◌∷◌, ◌++◌, Result, Ok, Err}
+use Rattle.std.specs.Prelude.{length, All, codes, decimal}
 use Rattle.pb_board.specs.Words.{word_of}
 use Rattle.std.specs.Str.Lines.{strip_carriage_return}
 use Rattle.pb_board.specs.LineEnd.{with_end}
@@ -10,8 +10,7 @@ use Rattle.pb_epd.specs.Epd.{EpdRecord, IsEpd, EpdText, epd_form}
 use Rattle.pb_epd.specs.Refusal.{IsFirstDueEpd}
 use Rattle.pb_io.specs.Lines.{line_limit}
 use Rattle.pb_io.specs.declared.fault.Fault.TheVariants.{Memory}
-use Rattle.pb_commands.specs.Judged.{Verdict, refused}
-use Rattle.pb_commands.specs.LinesShown.{LinesShown}
+use Rattle.pb_commands.specs.Judged.{ByInput, Verdict, refused}
 
 -- no byte but spaces
 abbrev pub IsBlank : List ℕ → Type 0
@@ -31,19 +30,21 @@ epd_verdict number epd.Unended = refused_line number (codes "unended")
 epd_verdict number (epd.Repeated n) = refused_line number (codes "repeated " ++ decimal n)
 epd_verdict number epd.Memory = Err Memory
 
--- what the line of this number gives, and whether it was taken
-pub data LineShown (number : ℕ) (line : List ℕ) (verdict : Verdict) : Type 0 where
-  long : line_limit < length line → verdict ≡ refused_line number (codes "long")
-      → LineShown number line verdict
-  blank : length line ≤ line_limit → IsBlank (strip_carriage_return line) → verdict ≡ Ok (true, [])
-      → LineShown number line verdict
-  written : (e : EpdRecord) → length line ≤ line_limit → IsEpd e
-      → EpdText e (strip_carriage_return line)
-      → verdict ≡ Ok (true, with_end (epd_form e)) → LineShown number line verdict
-  no_record : (x : EpdError) → length line ≤ line_limit → ¬ IsBlank (strip_carriage_return line)
-      → IsFirstDueEpd x (strip_carriage_return line)
-      → verdict ≡ epd_verdict number x → LineShown number line verdict
+-- the text is this EPD record, or none for this reason
+abbrev pub AsEpd : List ℕ → Result EpdRecord EpdError → Type 0
+AsEpd text (Ok e) = IsEpd e × EpdText e text
+AsEpd text (Err x) = IsFirstDueEpd x text
 
--- the lines in order, the first of this number
-abbrev pub EpdShown : ℕ → List (List ℕ) → Verdict → Type 0
-EpdShown = LinesShown LineShown
+-- What the line of this number gives, and whether it was taken. It is too long, or blank, or else
+-- `gives` tells what comes of its text.
+abbrev pub LineGives : (ℕ → List ℕ → Verdict → Type 0) → ℕ → List ℕ → Verdict → Type 0
+LineGives gives number line verdict =
+    ((line_limit < length line) × (verdict ≡ refused_line number (codes "long")))
+    ⊎ ((length line ≤ line_limit)
+    × ((IsBlank (strip_carriage_return line) × (verdict ≡ Ok (true, [])))
+    ⊎ (¬ IsBlank (strip_carriage_return line) × gives number (strip_carriage_return line) verdict)))
+
+-- what a line gives for `epd`
+abbrev pub LineShown : ℕ → List ℕ → Verdict → Type 0
+LineShown = LineGives (λ number text verdict. ByInput (AsEpd text)
+    (λ e. verdict ≡ Ok (true, with_end (epd_form e))) (λ x. verdict ≡ epd_verdict number x))

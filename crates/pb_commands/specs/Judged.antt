@@ -1,5 +1,6 @@
 -- What a command puts that judges its input. Below, `judges` says what the input comes to.
 use Rattle.std.specs.Prelude.{◌≡◌, ℕ, Bool, List, ◌++◌, Result, Ok, Err, codes, take, false, true}
+use Rattle.std.specs.Prelude.{MatchResult}
 use Rattle.std.specs.Io.KnownBytes.{Appends}
 use Rattle.pb_board.specs.LineEnd.{with_end}
 use Rattle.pb_io.specs.Count.{next_count}
@@ -11,6 +12,11 @@ use Rattle.pb_io.specs.declared.fault.Fault.TheVariants.{Write}
 -- memory
 abbrev pub Verdict : Type 0
 Verdict = Result (Bool × List ℕ) Fault
+
+-- What comes of an input, where `is` tells what it is: it is an X, and then this is so of the X; or
+-- it is none for a reason, and then that is so of the reason.
+abbrev pub ByInput : {X E : Type 0} → (Result X E → Type 0) → (X → Type 0) → (E → Type 0) → Type 0
+ByInput {X} {E} is goes ends = (found : Result X E) × is found × MatchResult found goes ends
 
 -- the input is refused, and a line says why
 abbrev pub refused : List ℕ → Verdict

@@ -20,6 +20,7 @@ pub mod Refused
 pub mod Shows
 pub mod Status
 pub mod TableJudged
+pub mod WithBook
 pub use Rattle.pb_poly.specs.TableFilling
 pub use Rattle.pb_poly.specs.TableReading
 pub use Rattle.pb_poly.specs.declared.table_file.TableFault

@@ -25,29 +25,17 @@ pub record PutsButLast (shown : ℕ → List ℕ → Verdict → Type 0) (sink s
   pub wants : shown (length before + 1) last (Err Memory)
   pub puts : PutsLines shown sink sink' before
 
--- how a run ends with each fault; for want of memory before the first fill or at a line
-abbrev pub AnswersUntil : (ℕ → List ℕ → Verdict → Type 0) → ℕ → SourceState → SourceState
-    → SinkState → SinkState → Fault → Type 0
-AnswersUntil shown fills source source' sink sink' Read =
-    AtFault fills source source' (PutsLines shown sink sink')
-AnswersUntil shown fills source source' sink sink' Endless =
-    AtNoEnd fills source source' (PutsLines shown sink sink')
-AnswersUntil shown fills source source' sink sink' Write =
-    AtLine fills source source' (λ ls. PutsFrontOfText (LinesShown shown 1 ls) sink sink')
-AnswersUntil shown fills source source' sink sink' Memory =
-    ((source' ≡ source) × (sink' ≡ sink))
-    ⊎ AtLine fills source source' (PutsButLast shown sink sink')
-
--- all lines of the stream gave this answer, and what they give was put
-abbrev pub AnswersStream : (ℕ → List ℕ → Verdict → Type 0) → ℕ → SourceState → SourceState
-    → SinkState → SinkState → Bool → Type 0
-AnswersStream shown fills source source' sink sink' answer =
-    AtEnd fills source source' (λ ls. PutsText (LinesShown shown 1 ls) sink sink' answer)
-
--- how a run ends
+-- How a run ends: all lines of the stream gave this answer, and what they give was put and handed
+-- on; or a fault came, want of memory before the first fill or at a line.
 abbrev pub AnswersOrEnds : (ℕ → List ℕ → Verdict → Type 0) → ℕ → SourceState → SourceState
     → SinkState → SinkState → Result Bool Fault → Type 0
-AnswersOrEnds shown fills source source' sink sink' (Ok answer) =
-    AnswersStream shown fills source source' sink sink' answer × HandedOnOnce sink sink'
-AnswersOrEnds shown fills source source' sink sink' (Err fault) =
-    AnswersUntil shown fills source source' sink sink' fault
+AnswersOrEnds shown fills s s' sink sink' (Ok answer) =
+    AtEnd fills s s' (λ ls. PutsText (LinesShown shown 1 ls) sink sink' answer)
+    × HandedOnOnce sink sink'
+AnswersOrEnds shown fills s s' sink sink' (Err Read) = AtFault fills s s' (PutsLines shown sink sink')
+AnswersOrEnds shown fills s s' sink sink' (Err Endless) =
+    AtNoEnd fills s s' (PutsLines shown sink sink')
+AnswersOrEnds shown fills s s' sink sink' (Err Write) =
+    AtLine fills s s' (λ ls. PutsFrontOfText (LinesShown shown 1 ls) sink sink')
+AnswersOrEnds shown fills s s' sink sink' (Err Memory) =
+    ((s' ≡ s) × (sink' ≡ sink)) ⊎ AtLine fills s s' (PutsButLast shown sink sink')

@@ -1,8 +1,7 @@
 -- What the command `probe` writes: a line for each move that a book has for a position.
-use Rattle.std.specs.Prelude.{◌≡◌, ℕ, true, List, ◌∷◌, ◌++◌, OnErr}
+use Rattle.std.specs.Prelude.{◌≡◌, ◌⊎◌, ℕ, true, List, ◌∷◌, ◌++◌, OnErr}
 use Rattle.std.specs.Prelude.{Result, Ok, Err, decimal, flat_map}
-use Rattle.pb_board.specs.declared.refusal.FenError.{FenError}
-use Rattle.pb_board.specs.Position.{Record}
+use Rattle.pb_board.specs.Position.{Position}
 use Rattle.pb_board.specs.LineEnd.{with_end}
 use Rattle.pb_moves.specs.Moved.{Moved}
 use Rattle.pb_moves.specs.Spelling.{spelling}
@@ -14,43 +13,32 @@ use Rattle.pb_poly.specs.Found.{Found}
 use Rattle.pb_poly.specs.Reading.{ReadsBook}
 use Rattle.pb_poly.specs.TableReading.{ReadsTable}
 use Rattle.pb_io.specs.declared.fault.Fault.TheVariants.{Memory}
-use Rattle.pb_commands.specs.BookJudged.{book_verdict}
-use Rattle.pb_commands.specs.Judged.{Verdict}
+use Rattle.pb_commands.specs.Judged.{ByInput, Verdict}
 use Rattle.pb_commands.specs.RecordJudged.{AsRecord, record_verdict}
-use Rattle.pb_commands.specs.TableJudged.{table_verdict}
+use Rattle.pb_commands.specs.WithBook.{WithBook}
 
 -- the move and its weight, a space between
 abbrev pub found_text : Moved × ℕ → List ℕ
 found_text found = spelling found.0 ++ (32 ∷ decimal found.1)
 
-abbrev pub found_line : Moved × ℕ → List ℕ
-found_line found = with_end (found_text found)
-
 abbrev pub probe_text : List (Moved × ℕ) → List ℕ
-probe_text found = flat_map found_line found
+probe_text found = flat_map (λ pair. with_end (found_text pair)) found
 
--- where there are a table, a book and a record: the moves and their weights, or want of memory
-pub data FoundShown (words : List ℕ) (entries : List Entry) (f : Record)
-    (verdict : Verdict) : Type 0 where
-  found : (pairs : List (Moved × ℕ)) → Found entries words f.setup pairs
-      → verdict ≡ Ok (true, probe_text pairs) → FoundShown words entries f verdict
-  no_memory : verdict ≡ Err Memory → FoundShown words entries f verdict
+-- the moves that the book has for the setup, as this text, or want of memory
+abbrev pub FoundShown : List ℕ → List Entry → (List (Moved × ℕ) → List ℕ) → Position → Verdict
+    → Type 0
+FoundShown words entries text s verdict =
+    ((pairs : List (Moved × ℕ)) × Found entries words s pairs × (verdict ≡ Ok (true, text pairs)))
+    ⊎ (verdict ≡ Err Memory)
 
 -- what the command comes to, where `table` and `book` tell what its inputs are; they are judged in
--- this order
-pub data ProbeShown (table : Result (List ℕ) TableFault → Type 0)
-    (book : Result (List Entry) BookError → Type 0) (fen : List ℕ)
-    (verdict : Verdict) : Type 0 where
-  no_table : (e : TableFault) → table (Err e) → verdict ≡ table_verdict e
-      → ProbeShown table book fen verdict
-  no_book : (words : List ℕ) (e : BookError) → table (Ok words) → book (Err e)
-      → verdict ≡ book_verdict e → ProbeShown table book fen verdict
-  no_record : (words : List ℕ) (entries : List Entry) (e : FenError) → table (Ok words)
-      → book (Ok entries) → AsRecord fen (Err e)
-      → verdict ≡ record_verdict e → ProbeShown table book fen verdict
-  probed : (words : List ℕ) (entries : List Entry) (f : Record) → table (Ok words)
-      → book (Ok entries) → AsRecord fen (Ok f)
-      → FoundShown words entries f verdict → ProbeShown table book fen verdict
+-- this order, and then the record
+abbrev pub ProbeShown : (Result (List ℕ) TableFault → Type 0)
+    → (Result (List Entry) BookError → Type 0) → List ℕ → Verdict → Type 0
+ProbeShown table book fen verdict = WithBook table book
+    (λ words entries. ByInput (AsRecord fen)
+    (λ f. FoundShown words entries probe_text f.setup verdict) (λ e. verdict ≡ record_verdict e))
+    (λ refusal. verdict ≡ refusal)
 
 -- the same over the states of the table's source and of the book's, which is left alone where there
 -- is no table

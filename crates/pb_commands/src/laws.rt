@@ -1,52 +1,65 @@
 //! Laws of how commands end. Each is the contract of a function that does nothing, over the
-//! definitions alone.
+//! definitions alone. `PutsOrEnds` and `AnswersOrEnds` say what is put of what an input comes to.
 
-ghost use Rattle.std.specs.Prelude.{ℕ, Bool, List, Result};
+ghost use Rattle.std.specs.Prelude.{◌≡◌, ℕ, Bool, Err, List, Ok, Some};
+ghost use Rattle.pb_io.specs.LineTask.{IfTold};
+ghost use Rattle.pb_io.specs.Lines.{lines};
 ghost use Rattle.pb_io.specs.Sink.{SinkState};
 ghost use Rattle.pb_io.specs.Source.{SourceState};
 ghost use Rattle.pb_io.specs.declared.fault.Fault.{Fault};
-ghost use Rattle.pb_poly.specs.Reading.{ReadsBook};
+ghost use Rattle.pb_io.specs.declared.fault.Fault.TheVariants.{Write};
+ghost use Rattle.pb_poly.specs.Reading.{ReadsBook, Tells};
+ghost use Rattle.pb_commands.specs.BookJudged.{AsBook};
 ghost use Rattle.pb_commands.specs.BookShown.{BookShown};
 ghost use Rattle.pb_commands.specs.EpdRun.{RewritesOrEnds};
+ghost use Rattle.pb_commands.specs.EpdShown.{LineShown};
 ghost use Rattle.pb_commands.specs.FenShown.{FenShown};
-ghost use Rattle.pb_commands.specs.Judged.{PutsOrEnds};
-ghost use Rattle.pb_commands.specs.Laws.{EpdEnds, FenEnds, LookupEnds, ProbeEnds, ShowEnds};
+ghost use Rattle.pb_commands.specs.Judged.{PutsOrEnds, PutsText};
+ghost use Rattle.pb_commands.specs.Laws.{OnlyTextsOf, TextsAreOf};
+ghost use Rattle.pb_commands.specs.LinesShown.{LinesShown};
 ghost use Rattle.pb_commands.specs.LookupRun.{LooksUp};
-ghost use Rattle.pb_commands.specs.ProbeShown.{ProbesSources};
+ghost use Rattle.pb_commands.specs.LookupShown.{LookupShown};
+ghost use Rattle.pb_commands.specs.ProbeShown.{ProbeShown, ProbesSources};
+ghost use Rattle.pb_commands.specs.TableJudged.{AsTable};
 
-/// However `run_fen` ends: the whole text was put and handed on once; or the sink failed, a front
-/// of the text was put, and none of it handed on.
+/// No fault ends `run_fen` but one of the sink.
 pub fn fen_ends()
-    ensures { (fen : List ℕ) (words : List (List ℕ)) (k k' : SinkState) (result : Result Bool Fault)
-        → PutsOrEnds (FenShown fen words) k k' result → FenEnds fen words k k' result }
+    ensures { (fen : List ℕ) (words : List (List ℕ)) (k k' : SinkState) (fault : Fault)
+        → PutsOrEnds (FenShown fen words) k k' (Err fault) → fault ≡ Write }
 {}
 
-/// However `run_epd` ends: what all lines give was put and handed on once, or the fault tells what
-/// was put; and where the source tells its bytes, what was put is what their lines give.
+/// Where the source of `run_epd` tells its bytes, what was put is what their lines give.
 pub fn epd_ends()
-    ensures { (fills : ℕ) (s s' : SourceState) (k k' : SinkState) (result : Result Bool Fault)
-        → RewritesOrEnds fills s s' k k' result → EpdEnds fills s s' k k' result }
+    ensures { (fills : ℕ) (s s' : SourceState) (k k' : SinkState) (answer : Bool)
+        → RewritesOrEnds fills s s' k k' (Ok answer)
+        → IfTold s s' (λ ls. PutsText (LinesShown LineShown 1 ls) k k' answer) }
 {}
 
-/// However `run_show` ends: the whole text was put and handed on once, or the fault tells what was
-/// put; and where the source tells its bytes, what was put is what they show.
+/// What `run_show` puts, where its source tells its bytes, is what they show. Where it also doesn't
+/// fail and ends within the fills, only want of memory comes in place of that.
 pub fn show_ends()
-    ensures { (fills : ℕ) (s s' : SourceState) (k k' : SinkState) (result : Result Bool Fault)
-        → PutsOrEnds (BookShown (ReadsBook fills s s')) k k' result
-        → ShowEnds fills s s' k k' result }
+    ensures told { (fills : ℕ) (s s' : SourceState) (bytes : List ℕ) → s.to_come ≡ Some bytes
+        → TextsAreOf (BookShown (ReadsBook fills s s')) (BookShown (AsBook bytes)) }
+    ensures only { (fills : ℕ) (s s' : SourceState) (bytes : List ℕ) → Tells fills s s' bytes
+        → OnlyTextsOf (BookShown (ReadsBook fills s s')) (BookShown (AsBook bytes)) }
 {}
 
-/// However `run_probe` ends, the same of its two sources.
+/// The same of `run_probe` and its two sources.
 pub fn probe_ends()
-    ensures { (fills : ℕ) (t t' b b' : SourceState) (fen : List ℕ) (k k' : SinkState)
-        (result : Result Bool Fault) → PutsOrEnds (ProbesSources fills t t' b b' fen) k k' result
-        → ProbeEnds fills t t' b b' fen k k' result }
+    ensures told { (fills : ℕ) (t t' b b' : SourceState) (fen table book : List ℕ)
+        → t.to_come ≡ Some table → b.to_come ≡ Some book
+        → TextsAreOf (ProbesSources fills t t' b b' fen)
+        (ProbeShown (AsTable table) (AsBook book) fen) }
+    ensures only { (fills : ℕ) (t t' b b' : SourceState) (fen table book : List ℕ)
+        → Tells fills t t' table → Tells fills b b' book
+        → OnlyTextsOf (ProbesSources fills t t' b b' fen)
+        (ProbeShown (AsTable table) (AsBook book) fen) }
 {}
 
-/// However `run_lookup` ends: where its three sources tell their bytes, what was put is what these
-/// give, and it was handed on once; or the fault tells what was put.
+/// What `run_lookup` puts, where its three sources tell their bytes, is what these give.
 pub fn lookup_ends()
-    ensures { (fills : ℕ) (t t' b b' s s' : SourceState) (k k' : SinkState)
-        (result : Result Bool Fault) → LooksUp fills t t' b b' s s' k k' result
-        → LookupEnds fills t t' b b' s s' k k' result }
+    ensures { (fills : ℕ) (t t' b b' s s' : SourceState) (k k' : SinkState) (answer : Bool)
+        (table book bytes : List ℕ) → t.to_come ≡ Some table → b.to_come ≡ Some book
+        → s.to_come ≡ Some bytes → LooksUp fills t t' b b' s s' k k' (Ok answer)
+        → PutsText (LookupShown (AsTable table) (AsBook book) (lines bytes)) k k' answer }
 {}

@@ -1,10 +1,13 @@
 //! Streams of lines, each of which is answered by what is put for it.
-ghost use Rattle.std.specs.Prelude.{◌≡◌, IfErr, List, OnOk, length, true, ◌<◌, ◌≤◌, ℕ};
+ghost use Rattle.std.specs.Prelude.{◌≡◌, Err, IfErr, List, OnOk, length, true, ◌<◌, ◌≤◌, ℕ};
+ghost use Rattle.pb_io.specs.LineTask.{AtEnd};
 ghost use Rattle.pb_io.specs.Lines.{line_limit};
 ghost use Rattle.pb_io.specs.Sink.{AwaitsFlush};
 ghost use Rattle.pb_commands.specs.Answering.{KeepsLent};
+ghost use Rattle.pb_commands.specs.Judged.{PutsText};
 ghost use Rattle.pb_commands.specs.LineAnswer.{PutsOrStops, SameShown};
-ghost use Rattle.pb_commands.specs.LinesRun.{AnswersOrEnds, AnswersStream, AnswersUntil};
+ghost use Rattle.pb_commands.specs.LinesRun.{AnswersOrEnds};
+ghost use Rattle.pb_commands.specs.LinesShown.{LinesShown};
 
 use pb_io::{Fault, LineTask, Sink, Source, take_lines};
 use std::alloc::Global;
@@ -80,12 +83,12 @@ impl<A: LineAnswer, K: Sink> Answering<'_, '_, A, K> {
     ) -> Result<(), Fault>
         requires first { self.old.lines ≡ 0 }
         requires none_refused { self.old.all_taken ≡ true }
-        ensures ok { OnOk result (AnswersStream (A.shows self.old.answerer.now) fills
+        ensures ok { OnOk result (AtEnd fills (S.state source.old) (S.state source.new)
+            (λ ls. PutsText (LinesShown (A.shows self.old.answerer.now) 1 ls)
+            (K.state self.old.sink.now) (K.state self.new.sink.now) self.new.all_taken)) }
+        ensures err { IfErr result (λ fault. AnswersOrEnds (A.shows self.old.answerer.now) fills
             (S.state source.old) (S.state source.new) (K.state self.old.sink.now)
-            (K.state self.new.sink.now) self.new.all_taken) }
-        ensures err { IfErr result (AnswersUntil (A.shows self.old.answerer.now) fills
-            (S.state source.old) (S.state source.new) (K.state self.old.sink.now)
-            (K.state self.new.sink.now)) }
+            (K.state self.new.sink.now) (Err fault)) }
         ensures awaits { OnOk result (AwaitsFlush (K.state self.old.sink.now)
             (K.state self.new.sink.now)) }
         ensures same { KeepsLent A.shows self.old self.new }

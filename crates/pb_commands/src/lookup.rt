@@ -1,11 +1,13 @@
 //! The command `lookup`: the moves that a book has for the position of each line.
-ghost use Rattle.std.specs.Prelude.{◌≤◌, IfErr, IfOk, length};
-ghost use Rattle.pb_epd.specs.Refusal.{IsFirstDueEpd};
+ghost use Rattle.std.specs.Prelude.{◌≡◌, ◌≤◌, Err, IfOk, Ok, length};
 ghost use Rattle.pb_io.specs.Lines.{line_limit};
 ghost use Rattle.pb_io.specs.Sink.{Put};
+ghost use Rattle.pb_commands.specs.EpdShown.{AsEpd};
+ghost use Rattle.pb_commands.specs.Judged.{ByInput};
 ghost use Rattle.pb_commands.specs.LineAnswer.{PutsOrStops};
 ghost use Rattle.pb_commands.specs.LookupRun.{LooksUp, ReadsBoth};
-ghost use Rattle.pb_commands.specs.LookupShown.{IsFenText, LineFound, SpellsSetup, moves_line};
+ghost use Rattle.pb_commands.specs.LookupShown.{LineFound, moves_line};
+ghost use Rattle.pb_commands.specs.RecordJudged.{AsRecord};
 ghost use Rattle.pb_commands.specs.Refused.{GivesReason, taken};
 
 use crate::line_refusal::{is_blank, put_refusal, refuse_line};
@@ -130,8 +132,8 @@ fn look_up<K: Sink>(finder: &Finder, sink: &mut K, number: u64, line: &[u8]) -> 
 /// The setup of the FEN record or else of the EPD record that the text spells. The error says why
 /// there is no EPD record.
 fn read_setup(alloc: Global, text: &[u8]) -> Result<Setup, EpdError>
-    ensures found { IfOk result (SpellsSetup text.now) }
-    ensures refused { IfErr result (λ x. (¬ IsFenText text.now) × IsFirstDueEpd x text.now) }
+    ensures { ByInput (AsRecord text.now) (λ f. result ≡ Ok f.setup)
+        (λ _. ByInput (AsEpd text.now) (λ e. result ≡ Ok e.setup) (λ x. result ≡ Err x)) }
 {
     match read_fen(text) {
         Ok(record) => Ok(record.setup()),

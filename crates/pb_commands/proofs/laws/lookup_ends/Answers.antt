@@ -1,5 +1,5 @@
-use Rattle.pb_commands.proofs.LookupClauses.{lookup_ends}
+use Rattle.pb_commands.proofs.LookupClauses.{told_looked_up}
 use Rattle.pb_commands.proofs.laws.lookup_ends.Goals as goal
 
 pub returns : goal.returns
-returns c = lookup_ends
+returns c fills t t' b b' s s' k k' answer table book bytes = told_looked_up fills t t' b b' s s' k k' answer table book bytes

@@ -5,14 +5,14 @@ use Rattle.std.proofs.lemmas.Result.{err_from_is_err_and}
 use Rattle.pb_commands.specs.EpdShown.{epd_verdict}
 use Rattle.pb_commands.specs.LookupShown.{LineFound}
 use Rattle.pb_commands.proofs.Answering.{line_shows, put_as, stops_as}
-use Rattle.pb_commands.proofs.Lookups.{line_blank, line_found, line_refused, line_wants}
+use Rattle.pb_commands.proofs.Lookups.{Gives, line_blank, line_full, text_found, text_refused, text_wants}
 use Rattle.pb_commands.proofs.lookup.look_up.Goals as goal
 
 pub returns-then-is_blank : goal.returns-then-is_blank
 returns-then-is_blank g c = (
   record {
     out = [];
-    judged = line_blank _ _ _ _ _ c.requires c.without_return-text.ensures (c.is_blank.ensures.0 c.if-is_blank.true);
+    judged = line_blank (Gives c.args.finder.now.table.now c.args.finder.now.book.now) c.args.number _ _ c.requires c.without_return-text.ensures (c.is_blank.ensures.0 c.if-is_blank.true);
     put = Appends-nil _;
   },
   inl refl,
@@ -21,23 +21,25 @@ returns-then-is_blank g c = (
 pub returns-in_err-found-in-Ok : goal.returns-in_err-found-in-Ok
 returns-in_err-found-in-Ok g c =
     let p = err_from_is_err_and c.from_residual.result c.from_residual.ensures.1 in
-    rw (p.1, p.2) (line_wants _ _ _ _ _ c.requires c.without_return-text.ensures c.in-Ok.setup c.in-Ok.ensures.found, refl)
+    rw (p.1, p.2) (line_full (Gives c.args.finder.now.table.now c.args.finder.now.book.now) c.args.number _ _ c.requires c.without_return-text.ensures (λ blank. false≢true (c.if-is_blank.ensures.1 blank)) _ (text_wants c.args.finder.now.table.now c.args.finder.now.book.now c.args.number _ c.in-Ok.setup c.in-Ok.ensures), refl)
 
 pub returns-in_err-put_moves-in-Ok : goal.returns-in_err-put_moves-in-Ok
 returns-in_err-put_moves-in-Ok g c =
     let p = err_from_is_err_and c.from_residual-in_err-put_moves-in-Ok.result c.from_residual-in_err-put_moves-in-Ok.ensures.1 in
     rw (p.1, p.2) (stops_as (LineFound c.args.finder.now.table.now c.args.finder.now.book.now c.args.number c.args.line.now) _ _ true _
-    (line_found _ _ _ _ _ c.requires c.without_return-text.ensures c.in-Ok.setup c.in-Ok.ensures.found _ c.as_slice.result.now c.in_ok-found-in-Ok.ensures c.as_slice.ensures.value)
+    (line_full (Gives c.args.finder.now.table.now c.args.finder.now.book.now) c.args.number _ _ c.requires c.without_return-text.ensures (λ blank. false≢true (c.if-is_blank.ensures.1 blank)) _
+    (text_found c.args.finder.now.table.now c.args.finder.now.book.now c.args.number _ c.in-Ok.setup c.in-Ok.ensures _ c.as_slice.result.now c.in_ok-found-in-Ok.ensures c.as_slice.ensures.value))
     _ c.in_err-put_moves-in-Ok.ensures)
 
 pub returns-in_ok-put_moves-in-Ok : goal.returns-in_ok-put_moves-in-Ok
 returns-in_ok-put_moves-in-Ok g c =
     put_as (LineFound c.args.finder.now.table.now c.args.finder.now.book.now c.args.number c.args.line.now) _ _ true _
-    (line_found _ _ _ _ _ c.requires c.without_return-text.ensures c.in-Ok.setup c.in-Ok.ensures.found _ c.as_slice.result.now c.in_ok-found-in-Ok.ensures c.as_slice.ensures.value)
+    (line_full (Gives c.args.finder.now.table.now c.args.finder.now.book.now) c.args.number _ _ c.requires c.without_return-text.ensures (λ blank. false≢true (c.if-is_blank.ensures.1 blank)) _
+    (text_found c.args.finder.now.table.now c.args.finder.now.book.now c.args.number _ c.in-Ok.setup c.in-Ok.ensures _ c.as_slice.result.now c.in_ok-found-in-Ok.ensures c.as_slice.ensures.value))
     _ c.in_ok-put_moves-in-Ok.ensures
 
 pub returns-in-Err : goal.returns-in-Err
 returns-in-Err g c =
     line_shows (LineFound c.args.finder.now.table.now c.args.finder.now.book.now c.args.number c.args.line.now) (epd_verdict c.args.number c.in-Err.error)
-    (line_refused _ _ _ _ _ c.requires c.without_return-text.ensures c.in-Err.error (λ blank. false≢true (c.if-is_blank.ensures.1 blank)) c.in-Err.ensures.refused)
+    (line_full (Gives c.args.finder.now.table.now c.args.finder.now.book.now) c.args.number _ _ c.requires c.without_return-text.ensures (λ blank. false≢true (c.if-is_blank.ensures.1 blank)) _ (text_refused c.args.finder.now.table.now c.args.finder.now.book.now c.args.number _ c.in-Err.error c.in-Err.ensures))
     _ _ c.put_refusal.result c.put_refusal.ensures

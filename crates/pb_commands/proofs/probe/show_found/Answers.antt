@@ -5,8 +5,7 @@ use Rattle.pb_moves.specs.Moved.{Moved}
 use Rattle.pb_io.specs.Sink.{Put}
 use Rattle.pb_io.specs.declared.source.Failed.{Failed}
 use Rattle.std.proofs.Common.{Err, Ok}
-use Rattle.pb_commands.specs.ProbeShown.{found_line}
-use Rattle.pb_commands.proofs.PutsInTurn.{PutsLines-more, flush_fails, line_fails, lines_shown}
+use Rattle.pb_commands.proofs.PutsInTurn.{PutsLines-more, flush_fails, found_line, line_fails, lines_shown}
 use Rattle.pb_commands.proofs.probe.show_found.Goals as goal
 
 abbrev Pair : Type 0

@@ -1,5 +1,4 @@
-use Rattle.pb_commands.specs.ProbeShown.{found_line}
-use Rattle.pb_commands.proofs.PutsInTurn.{PutsLines}
+use Rattle.pb_commands.proofs.PutsInTurn.{PutsLines, found_line}
 use Rattle.pb_commands.proofs.probe.show_found.Given as goal
 
 -- the lines of the moves before this one have been put
