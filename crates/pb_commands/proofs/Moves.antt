@@ -42,6 +42,11 @@ pub plays_more : (f : Record) (ms : List Moved) (g : Record) (m : Moved) (h : Re
 plays_more f [] g m h same legal is = (subst (λ (r : Record). Legal r.setup m) same legal, is ∙ ap (λ (r : Record). record_after r m) same)
 plays_more f (n ∷ ms) g m h plays legal is = (plays.0, plays_more (record_after f n) ms g m h plays.1 legal is)
 
+-- a move that is played after others is legal there
+pub last_legal : (f : Record) (ms : List Moved) (g : Record) (m : Moved) (h : Record) → Plays f ms g → Plays f (ms ++ m ∷ []) h → Legal g.setup m
+last_legal f [] g m h same plays = subst (λ (r : Record). Legal r.setup m) (sym same) plays.0
+last_legal f (n ∷ ms) g m h plays more = last_legal (record_after f n) ms g m h plays.1 more.1
+
 -- the move that a word spells is played, or isn't legal
 pub word_played : (word text : List ℕ) (f : Record) (m : Moved) (next : Option Record) → IsMove m × (text ≡ spelling m)
     → text ≡ word → SomeIff next (Legal f.setup m) (record_after f m)

@@ -16,8 +16,8 @@ shown_by fen words text bytes shows same = subst (λ w. FenShown fen words (Ok (
 never : (fen : List ℕ) (words : List (List ℕ)) (fault : Fault) → FenShown fen words (Err fault) → ⊥
 never fen words fault (Err e, h, is) = cc is
 never fen words fault (Ok start, h, inl (n, k, is)) = cc is
-never fen words fault (Ok start, h, inr (inl (n, k, is))) = cc is
-never fen words fault (Ok start, h, inr (inr (last, plays, is))) = cc is
+never fen words fault (Ok start, h, inr (moves, spelt, inl (n, k, is))) = cc is
+never fen words fault (Ok start, h, inr (moves, spelt, inr (last, plays, is))) = cc is
 
 pub only_write : (fen : List ℕ) (words : List (List ℕ)) (sink sink' : SinkState) (fault : Fault) → PutsOrEnds (FenShown fen words) sink sink' (Err fault) → fault ≡ Write
 only_write fen words sink sink' Write h = refl

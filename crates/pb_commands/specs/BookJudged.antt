@@ -5,13 +5,14 @@ use Rattle.pb_poly.specs.Streams.{at_end, so_far}
 use Rattle.pb_poly.specs.declared.entry.Entry.{Entry}
 use Rattle.pb_poly.specs.declared.reading.BookError.{BookError}
 use Rattle.pb_poly.specs.declared.reading.BookError.TheVariants as book
+use Rattle.pb_poly.specs.declared.reading.BookError.TheVariants.{Unsorted, Cut}
 use Rattle.pb_io.specs.declared.fault.Fault.TheVariants.{Read, Endless, Memory}
 use Rattle.pb_commands.specs.Judged.{Verdict, refused}
 
 -- what comes of a file for this reason why there is no book
 abbrev pub book_verdict : BookError → Verdict
-book_verdict (book.Unsorted number) = refused (codes "book unsorted " ++ decimal number)
-book_verdict (book.Cut extra) = refused (codes "book cut " ++ decimal extra)
+book_verdict (Unsorted number) = refused (codes "book unsorted " ++ decimal number)
+book_verdict (Cut extra) = refused (codes "book cut " ++ decimal extra)
 book_verdict book.Read = Err Read
 book_verdict book.Endless = Err Endless
 book_verdict book.Memory = Err Memory
@@ -19,7 +20,7 @@ book_verdict book.Memory = Err Memory
 -- the bytes, all of them, come to these entries, or to one of the two reasons that bytes alone can
 -- give
 abbrev pub AsBook : List ℕ → Result (List Entry) BookError → Type 0
-AsBook bytes (Err (book.Unsorted n)) =
+AsBook bytes (Err (Unsorted n)) =
     (front : List ℕ) × (rest : List ℕ) × (bytes ≡ front ++ rest)
-    × BookIs so_far front (Err (book.Unsorted n))
+    × BookIs so_far front (Err (Unsorted n))
 AsBook bytes result = BookIs at_end bytes result

@@ -6,6 +6,8 @@ use Rattle.std.specs.Str.Lines.{strip_carriage_return}
 use Rattle.pb_board.specs.LineEnd.{with_end}
 use Rattle.pb_epd.specs.declared.refusal.EpdError.{EpdError}
 use Rattle.pb_epd.specs.declared.refusal.EpdError.TheVariants as epd
+use Rattle.pb_epd.specs.declared.refusal.EpdError.TheVariants.{Token, Fields, Setup}
+use Rattle.pb_epd.specs.declared.refusal.EpdError.TheVariants.{Opcode, Unended, Repeated}
 use Rattle.pb_epd.specs.Epd.{EpdRecord, IsEpd, EpdText, epd_form}
 use Rattle.pb_epd.specs.Refusal.{IsFirstDueEpd}
 use Rattle.pb_io.specs.Lines.{line_limit}
@@ -22,12 +24,12 @@ refused_line number why = refused (decimal number ++ (32 ∷ why))
 
 -- what comes of the line of this number for this reason why it is no EPD record
 abbrev pub epd_verdict : ℕ → EpdError → Verdict
-epd_verdict number (epd.Token at) = refused_line number (codes "token " ++ decimal at)
-epd_verdict number epd.Fields = refused_line number (codes "fields")
-epd_verdict number (epd.Setup e) = refused_line number (codes "setup " ++ word_of e)
-epd_verdict number (epd.Opcode n) = refused_line number (codes "opcode " ++ decimal n)
-epd_verdict number epd.Unended = refused_line number (codes "unended")
-epd_verdict number (epd.Repeated n) = refused_line number (codes "repeated " ++ decimal n)
+epd_verdict number (Token at) = refused_line number (codes "token " ++ decimal at)
+epd_verdict number Fields = refused_line number (codes "fields")
+epd_verdict number (Setup e) = refused_line number (codes "setup " ++ word_of e)
+epd_verdict number (Opcode n) = refused_line number (codes "opcode " ++ decimal n)
+epd_verdict number Unended = refused_line number (codes "unended")
+epd_verdict number (Repeated n) = refused_line number (codes "repeated " ++ decimal n)
 epd_verdict number epd.Memory = Err Memory
 
 -- the text is this EPD record, or none for this reason

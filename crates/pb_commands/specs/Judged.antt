@@ -1,6 +1,7 @@
 -- What a command puts that judges its input. Below, `judges` says what the input comes to.
 use Rattle.std.specs.Prelude.{◌≡◌, ℕ, Bool, List, ◌++◌, Result, Ok, Err, codes, take, false, true}
 use Rattle.std.specs.Prelude.{MatchResult}
+use Rattle.std.specs.Result.{result_map_both}
 use Rattle.std.specs.Io.KnownBytes.{Appends}
 use Rattle.pb_board.specs.LineEnd.{with_end}
 use Rattle.pb_io.specs.Count.{next_count}
@@ -57,5 +58,5 @@ PutsOrEnds judges sink sink' (Err fault) = PutsUntil judges sink sink' fault
 -- the input comes to this, and is refused by it: the line was put and then handed on, or a fault
 -- came
 abbrev pub Refuses : Verdict → SinkState → SinkState → Result (Unit {0}) Fault → Type 0
-Refuses verdict sink sink' (Ok _) = PutsOrEnds (λ v. v ≡ verdict) sink sink' (Ok false)
-Refuses verdict sink sink' (Err fault) = PutsOrEnds (λ v. v ≡ verdict) sink sink' (Err fault)
+Refuses verdict sink sink' result =
+    PutsOrEnds (λ v. v ≡ verdict) sink sink' (result_map_both (λ _. false) (λ fault. fault) result)

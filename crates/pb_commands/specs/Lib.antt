@@ -13,7 +13,6 @@ pub mod LinesRun
 pub mod LinesShown
 pub mod LookupRun
 pub mod LookupShown
-pub mod Plays
 pub mod ProbeShown
 pub mod RecordJudged
 pub mod Refused

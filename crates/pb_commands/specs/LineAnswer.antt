@@ -16,4 +16,5 @@ PutsOrStops judges sink sink' (Err fault) = ⊥
 -- the same comes of lines before and after
 abbrev pub SameShown : (ℕ → List ℕ → Verdict → Type 0) → (ℕ → List ℕ → Verdict → Type 0) → Type 0
 SameShown old new =
-    (number : ℕ) (line : List ℕ) (verdict : Verdict) → new number line verdict ↔ old number line verdict
+    (number : ℕ) (line : List ℕ) (verdict : Verdict) → new number line verdict
+    ↔ old number line verdict

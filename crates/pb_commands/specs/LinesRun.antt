@@ -32,7 +32,8 @@ abbrev pub AnswersOrEnds : (ℕ → List ℕ → Verdict → Type 0) → ℕ →
 AnswersOrEnds shown fills s s' sink sink' (Ok answer) =
     AtEnd fills s s' (λ ls. PutsText (LinesShown shown 1 ls) sink sink' answer)
     × HandedOnOnce sink sink'
-AnswersOrEnds shown fills s s' sink sink' (Err Read) = AtFault fills s s' (PutsLines shown sink sink')
+AnswersOrEnds shown fills s s' sink sink' (Err Read) =
+    AtFault fills s s' (PutsLines shown sink sink')
 AnswersOrEnds shown fills s s' sink sink' (Err Endless) =
     AtNoEnd fills s s' (PutsLines shown sink sink')
 AnswersOrEnds shown fills s s' sink sink' (Err Write) =

@@ -12,8 +12,8 @@ use Rattle.pb_commands.specs.LinesRun.{AnswersOrEnds}
 use Rattle.pb_commands.specs.LookupShown.{LineFound}
 use Rattle.pb_commands.specs.WithBook.{WithBook}
 
--- The table is read, then the book, and then the lines are answered. What comes after the first that
--- can't be had is left alone.
+-- The table is read, then the book, and then the lines are answered. What comes after the first
+-- that can't be had is left alone.
 abbrev pub LooksUp : ℕ → SourceState → SourceState → SourceState → SourceState → SourceState
     → SourceState → SinkState → SinkState → Result Bool Fault → Type 0
 LooksUp fills t t' b b' s s' sink sink' result =

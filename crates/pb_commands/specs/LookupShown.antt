@@ -26,8 +26,8 @@ LineFound words entries = LineGives (λ number text verdict. ByInput (AsRecord t
     (λ _. ByInput (AsEpd text) (λ e. FoundShown words entries moves_line e.setup verdict)
     (λ x. verdict ≡ epd_verdict number x)))
 
--- what the command comes to for these lines, where `table` and `book` tell what its first two inputs
--- are
+-- what the command comes to for these lines, where `table` and `book` tell what its first two
+-- inputs are
 abbrev pub LookupShown : (Result (List ℕ) TableFault → Type 0)
     → (Result (List Entry) BookError → Type 0) → List (List ℕ) → Verdict → Type 0
 LookupShown table book ls verdict = WithBook table book

@@ -5,8 +5,9 @@ ghost use Rattle.pb_commands.specs.EpdRun.{RewritesOrEnds};
 ghost use Rattle.pb_commands.specs.EpdShown.{LineShown};
 ghost use Rattle.pb_commands.specs.LineAnswer.{PutsOrStops};
 
+use crate::line_answer::LineAnswer;
 use crate::line_refusal::{is_blank, put_refusal, refuse_line};
-use crate::lines::{LineAnswer, answer_lines};
+use crate::lines::answer_lines;
 use crate::output::put_line;
 use pb_board::without_return;
 use pb_epd::{read_epd, write_epd};

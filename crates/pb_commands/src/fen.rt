@@ -1,5 +1,7 @@
 //! The command `fen`: moves are played from a FEN record, and the record after them is written.
-ghost use Rattle.std.specs.Prelude.{◌≡◌, ◌↔◌, All, IfOk, IsTrue, MatchOption, MatchResult, Ok, true};
+ghost use Rattle.std.specs.List.{AllZip};
+ghost use Rattle.std.specs.Prelude.{◌≡◌, ◌↔◌, All, IfOk, IsTrue, List, MatchOption, MatchResult, Ok};
+ghost use Rattle.std.specs.Prelude.{true};
 ghost use Rattle.pb_board.specs.Position.{IsRecord};
 ghost use Rattle.pb_board.specs.LineEnd.{with_end};
 ghost use Rattle.pb_board.specs.Refusal.{BreaksAt};
@@ -7,11 +9,10 @@ ghost use Rattle.pb_board.specs.Text.{fen_text};
 ghost use Rattle.pb_moves.specs.Clocks.{record_after as next_record};
 ghost use Rattle.pb_moves.specs.Legal.{Legal};
 ghost use Rattle.pb_moves.specs.Moved.{Moved};
-ghost use Rattle.pb_moves.specs.Played.{IsSpelled, Spells};
+ghost use Rattle.pb_moves.specs.Played.{IsSpelled, Plays, Spells};
 ghost use Rattle.pb_commands.specs.Line.{texts};
-ghost use Rattle.pb_commands.specs.FenShown.{FenShown, Unplayable};
+ghost use Rattle.pb_commands.specs.FenShown.{FenShown, MayPlay};
 ghost use Rattle.pb_commands.specs.Judged.{PutsOrEnds};
-ghost use Rattle.pb_commands.specs.Plays.{PlaysWords};
 ghost use Rattle.pb_commands.specs.Refused.{GivesReason, refused_verdict, taken};
 
 use crate::output::show_line;
@@ -105,9 +106,8 @@ fn spells_move(word: &str) -> bool
 fn play_words(start: Fen, words: &[&str]) -> Result<Fen, usize>
     requires lawful { IsRecord start }
     requires spelt { All IsSpelled (texts words.now) }
-    ensures { MatchResult result
-        (λ last. PlaysWords start (texts words.now) last)
-        (λ number. Unplayable start (texts words.now) number) }
+    ensures { (moves : List Moved) × AllZip Spells (texts words.now) moves
+        × MatchResult result (λ last. Plays start moves last) (BreaksAt (MayPlay start) moves) }
 {
     let mut record = start;
     for (index, word) in words.iter().enumerate() {

@@ -10,8 +10,9 @@ ghost use Rattle.pb_commands.specs.LookupShown.{LineFound, moves_line};
 ghost use Rattle.pb_commands.specs.RecordJudged.{AsRecord};
 ghost use Rattle.pb_commands.specs.Refused.{GivesReason, taken};
 
+use crate::line_answer::LineAnswer;
 use crate::line_refusal::{is_blank, put_refusal, refuse_line};
-use crate::lines::{LineAnswer, answer_lines};
+use crate::lines::answer_lines;
 use crate::output::put_line;
 use crate::probe::put_found;
 use crate::refusal::{Answer, Refused, refuse};

@@ -2,8 +2,10 @@ use Rattle.std.proofs.Common.{◌∙◌, ◌+◌, [], ◌∷◌, ◌++◌, ap, a
 use Rattle.std.specs.List.{AllZip}
 use Rattle.std.proofs.lemmas.List.{length_push}
 use Rattle.std.proofs.lemmas.List.Elements.{All-head, All-rest, All-same, All-tail}
+use Rattle.pb_board.proofs.Breaks.{breaks_from}
 use Rattle.pb_moves.specs.Played.{IsSpelled, Spells}
-use Rattle.pb_commands.proofs.Moves.{plays_more, spelt_joined, spelt_moves, texts_from}
+use Rattle.pb_commands.specs.FenShown.{MayPlay}
+use Rattle.pb_commands.proofs.Moves.{last_legal, plays_more, spelt_joined, spelt_moves, texts_from}
 use Rattle.pb_commands.proofs.fen.play_words.Goals as goal
 
 pub loop-index-init : goal.loop-index-init
@@ -23,17 +25,14 @@ returns-in_default c =
     let rest_is = texts_from c.args.words.now c.loop-index.index _ c.loop-index-test.true in
     let to_come = All-same IsSpelled _ _ (sym rest_is) so_far.to_come in
     let others = spelt_moves _ (All-tail IsSpelled _ _ to_come) in
-    let this = c.in_default.ensures (All-head IsSpelled _ _ to_come) in record {
-      before = so_far.moves;
-      move = this.0;
-      after = others.0;
-      spelt = subst (λ ws. AllZip Spells ws (so_far.moves ++ this.0 ∷ others.0)) (ap (λ ws. so_far.done ++ ws) (sym rest_is) ∙ so_far.cut)
-          (spelt_joined so_far.done so_far.moves _ (this.0 ∷ others.0) so_far.spelt (this.1, others.1));
-      number = ap (λ n. n + 1) (sym so_far.count);
-      last = c.loop-index.record;
-      plays = so_far.plays;
-      illegal = this.2;
-    }
+    let this = c.in_default.ensures (All-head IsSpelled _ _ to_come) in
+    let moves = so_far.moves ++ this.0 ∷ others.0 in (
+      moves,
+      subst (λ ws. AllZip Spells ws moves) (ap (λ ws. so_far.done ++ ws) (sym rest_is) ∙ so_far.cut)
+          (spelt_joined so_far.done so_far.moves _ (this.0 ∷ others.0) so_far.spelt (this.1, others.1)),
+      breaks_from (MayPlay c.args.start) moves so_far.moves this.0 others.0 _ refl (ap (λ n. n + 1) (sym so_far.count)) (c.loop-index.record, so_far.plays)
+          (λ played. this.2 (last_legal c.args.start so_far.moves c.loop-index.record this.0 played.0 so_far.plays played.1)),
+    )
 
 pub loop-index-preserved : goal.loop-index-preserved
 loop-index-preserved c =
