@@ -1,15 +1,13 @@
 -- What the command `check` puts, from what a line is judged to be.
-use Rattle.std.proofs.Common.{◌≡◌, ◌∙◌, ℕ, ◌<◌, ◌≤◌, Bool, true, false, List, [], ◌++◌, ◌⊎◌, length, Result, Ok, Err, ap, append-nil, codes, inl, inr, refl, subst, sym}
+use Rattle.std.proofs.Common.{◌≡◌, ◌∙◌, ℕ, ◌<◌, ◌≤◌, Bool, true, false, List, [], ◌++◌, ◌⊎◌, length, Ok, Err, ap, append-nil, codes, inl, inr, refl, sym}
 use Rattle.std.proofs.lemmas.Bool.{false≢true}
-use Rattle.std.specs.Prelude.{IfErr, IfOk, OnOk}
 use Rattle.pb_board.specs.LineEnd.{with_end}
 use Rattle.pb_io.specs.Lines.{line_limit}
-use Rattle.pb_io.specs.LineTask.{AtEnd, AtLine, IfTold}
+use Rattle.pb_io.specs.LineTask.{AtLine}
 use Rattle.pb_io.specs.Source.{SourceState}
 use Rattle.pb_io.specs.Sink.{SinkState}
 use Rattle.pb_io.specs.declared.fault.Fault.{Fault}
 use Rattle.pb_io.specs.declared.fault.Fault.TheVariants as fault
-use Rattle.pb_io.proofs.EndLemmas.{told_of}
 use Rattle.pb_games.specs.Refusing.{Refuses}
 use Rattle.pb_games.specs.Submissions.{IsLawful, Submission}
 use Rattle.pb_games.specs.declared.refusal.Refusal.{Refusal}
@@ -21,10 +19,10 @@ use Rattle.pb_accepted.specs.Accepting as steps
 use Rattle.pb_accepted.specs.Accepting.{Answer, Step}
 use Rattle.pb_accepted.specs.Replies.{named, reply_line}
 use Rattle.pb_accepted.proofs.Steps.{named_step}
-use Rattle.pb_commands.specs.Judged.{HandedOnOnce, PutsText, Verdict}
+use Rattle.pb_commands.specs.Judged.{Verdict}
 use Rattle.pb_commands.specs.LinesRun.{PutsButLast}
-use Rattle.pb_collecting.specs.CheckLaws.{CheckEnds, RefusedByLedgers, TakenByLedgers}
-use Rattle.pb_collecting.specs.CheckRun.{ChecksOrEnds, ChecksShown, ChecksUntil}
+use Rattle.pb_collecting.specs.CheckLaws.{RefusedByLedgers, TakenByLedgers}
+use Rattle.pb_collecting.specs.CheckRun.{ChecksOrEnds}
 use Rattle.pb_collecting.specs.CheckShown as check
 use Rattle.pb_collecting.specs.CheckShown.{CheckShown}
 
@@ -59,51 +57,13 @@ never_wants line f (check.legal s law is) = cc is
 never_wants line f (check.refused e h is) = cc is
 
 module _ (fills : ℕ) (s s' : SourceState) (sink sink' : SinkState) where
-  abbrev Ends : Result Bool Fault → Type 0
-  Ends = ChecksOrEnds fills s s' sink sink'
-
-  abbrev Puts : Bool → List (List ℕ) → Type 0
-  Puts answer ls = PutsText (ChecksShown ls) sink sink' answer
-
-  shown : (result : Result Bool Fault) → Ends result → IfOk result (λ answer. AtEnd fills s s' (Puts answer))
-  shown (Ok answer) h = h.0
-  shown (Err f) h = tt
-
-  told : (result : Result Bool Fault) → Ends result → IfOk result (λ answer. IfTold s s' (Puts answer))
-  told (Ok answer) h = told_of fills s s' (Puts answer) h.0
-  told (Err f) h = tt
-
-  handed_on : (result : Result Bool Fault) → Ends result → OnOk result (HandedOnOnce sink sink')
-  handed_on (Ok answer) h = h.1
-  handed_on (Err f) h = tt
-
-  until : (result : Result Bool Fault) → Ends result → IfErr result (ChecksUntil fills s s' sink sink')
-  until (Ok answer) h = tt
-  until (Err f) h = h
-
-  abbrev Wants : List (List ℕ) → Type 0
-  Wants = PutsButLast (λ _. CheckShown) sink sink'
-
-  at_a_line : AtLine fills s s' Wants → ⊥
+  at_a_line : AtLine fills s s' (PutsButLast (λ _. CheckShown) sink sink') → ⊥
   at_a_line (inl h) = never_wants h.done.last fault.Memory h.done.wants
   at_a_line (inr h) = never_wants h.done.last fault.Memory h.done.wants
 
-  at_first : ChecksUntil fills s s' sink sink' fault.Memory → (s' ≡ s) × (sink' ≡ sink)
+  pub at_first : ChecksOrEnds fills s s' sink sink' (Err fault.Memory) → (s' ≡ s) × (sink' ≡ sink)
   at_first (inl h) = h
   at_first (inr h) = absurd (at_a_line h)
-
-  memory : (result : Result Bool Fault) → Ends result → result ≡ Err fault.Memory → (s' ≡ s) × (sink' ≡ sink)
-  memory (Ok answer) h is = absurd (cc is)
-  memory (Err f) h is = let same : f ≡ fault.Memory = cc is in at_first (subst (ChecksUntil fills s s' sink sink') same h)
-
-  pub check_ends : (result : Result Bool Fault) → Ends result → CheckEnds fills s s' sink sink' result
-  check_ends result h = record {
-    shown = shown result h;
-    told = told result h;
-    handed_on = handed_on result h;
-    fault = until result h;
-    memory = memory result h;
-  }
 
 -- ---- the answers of a ledger
 

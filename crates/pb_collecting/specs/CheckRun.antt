@@ -5,17 +5,13 @@ use Rattle.pb_io.specs.Source.{SourceState}
 use Rattle.pb_io.specs.Sink.{SinkState}
 use Rattle.pb_io.specs.declared.fault.Fault.{Fault}
 use Rattle.pb_commands.specs.Judged.{Verdict}
-use Rattle.pb_commands.specs.LinesRun.{AnswersOrEnds, AnswersUntil}
+use Rattle.pb_commands.specs.LinesRun.{AnswersOrEnds}
 use Rattle.pb_commands.specs.LinesShown.{LinesShown}
 use Rattle.pb_collecting.specs.CheckShown.{CheckShown}
 
 -- what is put for these lines, and whether none was refused; no line's number counts
 abbrev pub ChecksShown : List (List ℕ) → Verdict → Type 0
 ChecksShown = LinesShown (λ _. CheckShown) 1
-
--- how a run ends with each fault
-abbrev pub ChecksUntil : ℕ → SourceState → SourceState → SinkState → SinkState → Fault → Type 0
-ChecksUntil = AnswersUntil (λ _. CheckShown)
 
 -- how a run ends
 abbrev pub ChecksOrEnds : ℕ → SourceState → SourceState → SinkState → SinkState

@@ -2,14 +2,16 @@
 //! and of the command `check`. Each is the contract of a function that does nothing, over the
 //! definitions alone.
 
-ghost use Rattle.std.specs.Prelude.{◌≡◌, ℕ, Bool, Result};
+ghost use Rattle.std.specs.Prelude.{◌≡◌, ℕ, Bool, Err, Ok};
 ghost use Rattle.std.specs.Bool.{Decides};
+ghost use Rattle.pb_io.specs.LineTask.{IfTold};
 ghost use Rattle.pb_io.specs.Sink.{SinkState};
 ghost use Rattle.pb_io.specs.Source.{SourceState};
-ghost use Rattle.pb_io.specs.declared.fault.Fault.{Fault};
+ghost use Rattle.pb_io.specs.declared.fault.Fault.TheVariants.{Memory};
 ghost use Rattle.pb_accepted.specs.Rules.{CountingRules};
-ghost use Rattle.pb_collecting.specs.CheckLaws.{CheckEnds, RefusedByLedgers, TakenByLedgers};
-ghost use Rattle.pb_collecting.specs.CheckRun.{ChecksOrEnds};
+ghost use Rattle.pb_commands.specs.Judged.{PutsText};
+ghost use Rattle.pb_collecting.specs.CheckLaws.{RefusedByLedgers, TakenByLedgers};
+ghost use Rattle.pb_collecting.specs.CheckRun.{ChecksOrEnds, ChecksShown};
 ghost use Rattle.pb_collecting.specs.Ends.{EndStates};
 ghost use Rattle.pb_collecting.specs.Laws.{GoesOnAsOneRun, RefusalsLeaveTheGames, RefusedIsUnread};
 ghost use Rattle.pb_collecting.specs.declared.continuing_into.NotContinued.{NotContinued};
@@ -48,11 +50,14 @@ pub fn equal_values()
     ensures both { (a b : NotContinued) → Decides (⟦<NotContinued as PartialEq>⟧.eq a b) (a ≡ b) }
 {}
 
-/// However `run_check` ends: what all lines give was put and handed on once, or the fault tells
-/// what was put; and where the source tells its bytes, what was put is what their lines give.
+/// Where the source of `run_check` tells its bytes, what was put is what their lines give. No line
+/// wants memory.
 pub fn check_ends()
-    ensures { (fills : ℕ) (s s' : SourceState) (k k' : SinkState) (result : Result Bool Fault)
-        → ChecksOrEnds fills s s' k k' result → CheckEnds fills s s' k k' result }
+    ensures told { (fills : ℕ) (s s' : SourceState) (k k' : SinkState) (answer : Bool)
+        → ChecksOrEnds fills s s' k k' (Ok answer)
+        → IfTold s s' (λ ls. PutsText (ChecksShown ls) k k' answer) }
+    ensures memory { (fills : ℕ) (s s' : SourceState) (k k' : SinkState)
+        → ChecksOrEnds fills s s' k k' (Err Memory) → (s' ≡ s) × (k' ≡ k) }
 {}
 
 /// Whatever a ledger holds, it refuses a line that `run_check` refuses, with the same reply. A line
