@@ -1,5 +1,5 @@
 -- The command line of `pbook`: one level of commands, each with its words.
-use Rattle.std.specs.Prelude.{ℕ, Some, [], ◌∷◌, codes, true}
+use Rattle.std.specs.Prelude.{ℕ, Some, [], ◌∷◌, codes, fold, true}
 use Rattle.clap.specs.Words.{App, Rule, Text, new_app, new_rule, with_rule, with_subcommand}
 use Rattle.clap.specs.Simple.{on_top}
 use Rattle.clap.specs.Lexer.{usize_max}
@@ -9,19 +9,11 @@ use Rattle.clap.specs.declared.builder.action.ArgAction.TheVariants.{Append, Set
 abbrev pub required_word : Text → Rule
 required_word id = record (new_rule id) { required = true; action = Some Set }
 
--- any number of words
-abbrev pub further_words : Text → Rule
-further_words id = record (new_rule id) {
+-- words, so many at least
+abbrev pub words_from : ℕ → Text → Rule
+words_from least id = record (new_rule id) {
   action = Some Append;
-  range = Some (record { start_inclusive = 0; end_inclusive = usize_max });
-}
-
--- words of which one has to be given
-abbrev pub required_words : Text → Rule
-required_words id = record (new_rule id) {
-  required = true;
-  action = Some Append;
-  range = Some (record { start_inclusive = 1; end_inclusive = usize_max });
+  range = Some (record { start_inclusive = least; end_inclusive = usize_max });
 }
 
 -- an option with a value, which has none where it isn't given
@@ -36,30 +28,25 @@ option_with id value = record (option_if_given id) { defaults = value ∷ [] }
 abbrev pub flag : Text → Rule
 flag id = record (new_rule id) { long = Some id; action = Some SetTrue }
 
--- a flag that a short letter stands for too
-abbrev pub flag_with_short : Text → ℕ → Rule
-flag_with_short id letter = record (flag id) { short = Some letter }
-
 -- the flag that leaves only errors on standard error: `--quiet`, or `-q`, whose letter is 113
 abbrev pub quiet_flag : Rule
-quiet_flag = flag_with_short (codes "quiet") 113
+quiet_flag = record (flag (codes "quiet")) { short = Some 113 }
 
 -- a command with the three options that say what is kept beside the book
 abbrev pub with_keeping : App → App
-with_keeping app = with_rule (with_rule (with_rule app (option_if_given (codes "ledger")))
-    (option_if_given (codes "journal"))) (flag (codes "sync"))
+with_keeping app = fold with_rule app (option_if_given (codes "ledger")
+    ∷ option_if_given (codes "journal") ∷ flag (codes "sync") ∷ [])
 
 -- a command that takes games: with the two options that say what of them counts, the flags that ask
 -- for the summary and for errors alone, and the table
 abbrev pub with_games : App → App
-with_games app = with_rule (with_rule (with_rule
-    (with_rule (with_rule app (option_with (codes "plies") (codes "1024")))
-    (option_with (codes "least") (codes "1"))) (flag (codes "summary"))) quiet_flag)
-    (required_word (codes "TABLE"))
+with_games app = fold with_rule app (option_with (codes "plies") (codes "1024")
+    ∷ option_with (codes "least") (codes "1") ∷ flag (codes "summary") ∷ quiet_flag
+    ∷ required_word (codes "TABLE") ∷ [])
 
 abbrev pub fen_command : App
 fen_command = with_rule (with_rule (new_app (codes "fen")) (required_word (codes "FEN")))
-    (further_words (codes "MOVES"))
+    (words_from 0 (codes "MOVES"))
 
 abbrev pub epd_command : App
 epd_command = new_app (codes "epd")
@@ -68,9 +55,9 @@ abbrev pub show_command : App
 show_command = with_rule (new_app (codes "show")) (required_word (codes "BOOK"))
 
 abbrev pub probe_command : App
-probe_command = with_rule (with_rule (with_rule (new_app (codes "probe"))
-    (required_word (codes "TABLE"))) (required_word (codes "BOOK")))
-    (required_word (codes "FEN"))
+probe_command = fold with_rule (new_app (codes "probe"))
+    (required_word (codes "TABLE") ∷ required_word (codes "BOOK")
+    ∷ required_word (codes "FEN") ∷ [])
 
 abbrev pub lookup_command : App
 lookup_command = with_rule (with_rule (new_app (codes "lookup")) (required_word (codes "TABLE")))
@@ -87,7 +74,8 @@ abbrev pub export_command : App
 export_command = with_games (new_app (codes "export"))
 
 abbrev pub games_command : App
-games_command = with_rule (new_app (codes "games")) (required_words (codes "FILE"))
+games_command = with_rule (new_app (codes "games"))
+    (record (words_from 1 (codes "FILE")) { required = true })
 
 -- the program, before its commands
 abbrev pub program_alone : App
@@ -99,7 +87,6 @@ program_alone = on_top (λ s. record s {
 
 -- the whole command line
 abbrev pub pbook : App
-pbook = with_subcommand (with_subcommand (with_subcommand (with_subcommand (with_subcommand
-    (with_subcommand (with_subcommand (with_subcommand (with_subcommand program_alone
-    collect_command.top) export_command.top) check_command.top) games_command.top) fen_command.top)
-    epd_command.top) show_command.top) probe_command.top) lookup_command.top
+pbook = fold (λ app command. with_subcommand app command.top) program_alone
+    (collect_command ∷ export_command ∷ check_command ∷ games_command ∷ fen_command ∷ epd_command
+    ∷ show_command ∷ probe_command ∷ lookup_command ∷ [])

@@ -7,23 +7,24 @@ use Rattle.clap.specs.Words.{Row, Text, all_of, first_of}
 use Rattle.clap.specs.Walk.{texts}
 use Rattle.pb_accepted.specs.Rules.{AreRules, CountingRules}
 use Rattle.pb_cli.specs.declared.order.Keeping.{Keeping}
-use Rattle.pb_cli.specs.declared.order.Keeping.TheVariants as keeping
+use Rattle.pb_cli.specs.declared.order.Keeping.TheVariants.{Book, Ledger, Journal}
 use Rattle.pb_cli.specs.declared.order.Order.{Order}
 use Rattle.pb_cli.specs.declared.order.ParseFault.{ParseFault}
 use Rattle.pb_cli.specs.declared.order.ParseFault.TheVariants.{Memory}
-use Rattle.pb_cli.specs.declared.order.Order.TheVariants as order
+use Rattle.pb_cli.specs.declared.order.Order.TheVariants.{Fen, Epd, Show, Probe, Lookup, Check}
+use Rattle.pb_cli.specs.declared.order.Order.TheVariants.{Collect, Export, Games}
 
 -- the command's name
 abbrev pub name_of : Order → Text
-name_of (order.Fen _ _) = codes "fen"
-name_of order.Epd = codes "epd"
-name_of (order.Show _) = codes "show"
-name_of (order.Probe _ _ _) = codes "probe"
-name_of (order.Lookup _ _) = codes "lookup"
-name_of order.Check = codes "check"
-name_of (order.Collect _) = codes "collect"
-name_of (order.Export _) = codes "export"
-name_of (order.Games _) = codes "games"
+name_of (Fen _ _) = codes "fen"
+name_of Epd = codes "epd"
+name_of (Show _) = codes "show"
+name_of (Probe _ _ _) = codes "probe"
+name_of (Lookup _ _) = codes "lookup"
+name_of Check = codes "check"
+name_of (Collect _) = codes "collect"
+name_of (Export _) = codes "export"
+name_of (Games _) = codes "games"
 
 -- the argument of this name was given this word
 abbrev pub HasWord : Text → Bor Text → List Row → Type 0
@@ -37,23 +38,22 @@ HasWordIfGiven id word rows = first_of id rows ≡ option_map (λ w. w.now) word
 abbrev pub HasFlag : Text → Bool → List Row → Type 0
 HasFlag id flag rows = IsTrue flag ↔ (first_of id rows ≡ Some (codes "true"))
 
--- the options say what is kept beside the book; a saved ledger and a journal aren't kept at once,
--- and a journal alone is synced
+-- Where this is kept: the word of `--ledger`, that of `--journal`, and whether `--sync` is given. A
+-- saved ledger and a journal aren't kept at once, and a journal alone is synced.
+abbrev pub options_of : Keeping → Option Text × Option Text × Bool
+options_of Book = (None, None, false)
+options_of (Ledger path) = (Some path.now, None, false)
+options_of (Journal path sync) = (None, Some path.now, sync)
+
+-- the options say what is kept beside the book
 abbrev pub HasKeeping : Keeping → List Row → Type 0
-HasKeeping keeping.Book rows = (first_of (codes "ledger") rows ≡ None)
-    × (first_of (codes "journal") rows ≡ None) × HasFlag (codes "sync") false rows
-HasKeeping (keeping.Ledger path) rows = HasWord (codes "ledger") path rows
-    × (first_of (codes "journal") rows ≡ None) × HasFlag (codes "sync") false rows
-HasKeeping (keeping.Journal path sync) rows = (first_of (codes "ledger") rows ≡ None)
-    × HasWord (codes "journal") path rows × HasFlag (codes "sync") sync rows
+HasKeeping kept rows = (first_of (codes "ledger") rows ≡ (options_of kept).0)
+    × (first_of (codes "journal") rows ≡ (options_of kept).1)
+    × HasFlag (codes "sync") (options_of kept).2 rows
 
 -- the same is kept: it is of one kind, at paths of the same text, and synced alike
 abbrev pub KeepsTheSame : Keeping → Keeping → Type 0
-KeepsTheSame keeping.Book keeping.Book = Unit {0}
-KeepsTheSame (keeping.Ledger path) (keeping.Ledger other) = path.now ≡ other.now
-KeepsTheSame (keeping.Journal path sync) (keeping.Journal other synced) =
-    (path.now ≡ other.now) × (sync ≡ synced)
-KeepsTheSame kept other = ⊥
+KeepsTheSame kept other = options_of kept ≡ options_of other
 
 -- the argument of this name was given a word that writes this number in digits
 abbrev pub HasNumber : Text → ℕ → List Row → Type 0
@@ -66,24 +66,23 @@ pub record HasRules (rules : CountingRules) (rows : List Row) : Type 0 where
   pub plies : HasNumber (codes "plies") rules.plies rows
   pub least : HasNumber (codes "least") rules.least rows
 
--- the order has the words of these matches
+-- the order has the words of these matches; the others have none
 abbrev pub HasWords : Order → List Row → Type 0
-HasWords (order.Fen fen moves) rows = HasWord (codes "FEN") fen rows
+HasWords (Fen fen moves) rows = HasWord (codes "FEN") fen rows
     × (texts moves.items ≡ unwrap_or (all_of (codes "MOVES") rows) [])
-HasWords order.Epd rows = Unit {0}
-HasWords (order.Show book) rows = HasWord (codes "BOOK") book rows
-HasWords (order.Probe table book fen) rows = HasWord (codes "TABLE") table rows
+HasWords (Show book) rows = HasWord (codes "BOOK") book rows
+HasWords (Probe table book fen) rows = HasWord (codes "TABLE") table rows
     × HasWord (codes "BOOK") book rows × HasWord (codes "FEN") fen rows
-HasWords (order.Lookup table book) rows =
+HasWords (Lookup table book) rows =
     HasWord (codes "TABLE") table rows × HasWord (codes "BOOK") book rows
-HasWords order.Check rows = Unit {0}
-HasWords (order.Collect given) rows = HasRules given.rules rows × HasKeeping given.kept rows
+HasWords (Collect given) rows = HasRules given.rules rows × HasKeeping given.kept rows
     × HasWord (codes "TABLE") given.table rows × HasWord (codes "BOOK") given.book rows
     × HasFlag (codes "summary") given.summary rows × HasFlag (codes "quiet") given.quiet rows
-HasWords (order.Export given) rows = HasRules given.rules rows
+HasWords (Export given) rows = HasRules given.rules rows
     × HasWord (codes "TABLE") given.table rows
     × HasFlag (codes "summary") given.summary rows × HasFlag (codes "quiet") given.quiet rows
-HasWords (order.Games files) rows = all_of (codes "FILE") rows ≡ Some (texts files.items)
+HasWords (Games files) rows = all_of (codes "FILE") rows ≡ Some (texts files.items)
+HasWords other rows = Unit {0}
 
 -- the order is that of the command that was found, with its words as the matches give them
 abbrev pub IsOrderOf : Order → Option (Text × List Row) → Type 0

@@ -1,14 +1,14 @@
 //! The command line of `pbook`, by clap's builder: one function for each command.
-ghost use Rattle.std.specs.Prelude.{◌≡◌, IfOk, codes, false};
+ghost use Rattle.std.specs.Prelude.{◌≡◌, IfOk, Some, codes, false, true};
 ghost use Rattle.clap.specs.Words.{App, new_app, rule_of};
 ghost use Rattle.pb_cli.specs.Built.{IsCommand};
 ghost use Rattle.pb_cli.specs.CommandLine.{check_command, collect_command, epd_command};
-ghost use Rattle.pb_cli.specs.CommandLine.{export_command, fen_command, flag, flag_with_short};
-ghost use Rattle.pb_cli.specs.CommandLine.{further_words, games_command, lookup_command};
+ghost use Rattle.pb_cli.specs.CommandLine.{export_command, fen_command, flag};
+ghost use Rattle.pb_cli.specs.CommandLine.{games_command, lookup_command};
 ghost use Rattle.pb_cli.specs.CommandLine.{option_if_given, option_with, pbook};
 ghost use Rattle.pb_cli.specs.CommandLine.{probe_command, program_alone, quiet_flag};
-ghost use Rattle.pb_cli.specs.CommandLine.{required_word, required_words, show_command};
-ghost use Rattle.pb_cli.specs.CommandLine.{with_games, with_keeping};
+ghost use Rattle.pb_cli.specs.CommandLine.{required_word, show_command};
+ghost use Rattle.pb_cli.specs.CommandLine.{with_games, with_keeping, words_from};
 
 use clap::{Arg, ArgAction, Command};
 use std::alloc::{AllocError, Global};
@@ -358,7 +358,7 @@ fn flag<'a>(alloc: Global, name: &'a str, help: &'a str) -> Arg<'a>
 
 /// An option without a value that a short letter stands for too.
 fn flag_with_short<'a>(alloc: Global, name: &'a str, letter: char, help: &'a str) -> Arg<'a>
-    ensures rule { rule_of result ≡ flag_with_short name.now letter }
+    ensures rule { rule_of result ≡ record (flag name.now) { short = Some letter } }
     ensures local { result.global ≡ false }
 {
     flag(alloc, name, help).short(letter)
@@ -385,7 +385,7 @@ fn required<'a>(alloc: Global, id: &'a str, help: &'a str) -> Arg<'a>
 
 /// One file, or more.
 fn some_files<'a>(alloc: Global) -> Arg<'a>
-    ensures rule { rule_of result ≡ required_words (codes "FILE") }
+    ensures rule { rule_of result ≡ record (words_from 1 (codes "FILE")) { required = true } }
     ensures local { result.global ≡ false }
 {
     Arg::new(alloc, "FILE")
@@ -397,7 +397,7 @@ fn some_files<'a>(alloc: Global) -> Arg<'a>
 
 /// Any number of moves.
 fn moves<'a>(alloc: Global) -> Arg<'a>
-    ensures rule { rule_of result ≡ further_words (codes "MOVES") }
+    ensures rule { rule_of result ≡ words_from 0 (codes "MOVES") }
     ensures local { result.global ≡ false }
 {
     Arg::new(alloc, "MOVES")
