@@ -1,5 +1,5 @@
 -- The command line of `pbook`: one level of commands, each with its words.
-use Rattle.std.specs.Prelude.{ℕ, Some, [], ◌∷◌, codes, fold, true}
+use Rattle.std.specs.Prelude.{ℕ, Some, [], ◌∷◌, codes, true}
 use Rattle.clap.specs.Words.{App, Rule, Text, new_app, new_rule, with_rule, with_subcommand}
 use Rattle.clap.specs.Simple.{on_top}
 use Rattle.clap.specs.Lexer.{usize_max}
@@ -34,15 +34,16 @@ quiet_flag = record (flag (codes "quiet")) { short = Some 113 }
 
 -- a command with the three options that say what is kept beside the book
 abbrev pub with_keeping : App → App
-with_keeping app = fold with_rule app (option_if_given (codes "ledger")
-    ∷ option_if_given (codes "journal") ∷ flag (codes "sync") ∷ [])
+with_keeping app = with_rule (with_rule (with_rule app (option_if_given (codes "ledger")))
+    (option_if_given (codes "journal"))) (flag (codes "sync"))
 
 -- a command that takes games: with the two options that say what of them counts, the flags that ask
 -- for the summary and for errors alone, and the table
 abbrev pub with_games : App → App
-with_games app = fold with_rule app (option_with (codes "plies") (codes "1024")
-    ∷ option_with (codes "least") (codes "1") ∷ flag (codes "summary") ∷ quiet_flag
-    ∷ required_word (codes "TABLE") ∷ [])
+with_games app = with_rule (with_rule (with_rule
+    (with_rule (with_rule app (option_with (codes "plies") (codes "1024")))
+    (option_with (codes "least") (codes "1"))) (flag (codes "summary"))) quiet_flag)
+    (required_word (codes "TABLE"))
 
 abbrev pub fen_command : App
 fen_command = with_rule (with_rule (new_app (codes "fen")) (required_word (codes "FEN")))
@@ -55,9 +56,9 @@ abbrev pub show_command : App
 show_command = with_rule (new_app (codes "show")) (required_word (codes "BOOK"))
 
 abbrev pub probe_command : App
-probe_command = fold with_rule (new_app (codes "probe"))
-    (required_word (codes "TABLE") ∷ required_word (codes "BOOK")
-    ∷ required_word (codes "FEN") ∷ [])
+probe_command = with_rule (with_rule (with_rule (new_app (codes "probe"))
+    (required_word (codes "TABLE"))) (required_word (codes "BOOK")))
+    (required_word (codes "FEN"))
 
 abbrev pub lookup_command : App
 lookup_command = with_rule (with_rule (new_app (codes "lookup")) (required_word (codes "TABLE")))
@@ -87,6 +88,7 @@ program_alone = on_top (λ s. record s {
 
 -- the whole command line
 abbrev pub pbook : App
-pbook = fold (λ app command. with_subcommand app command.top) program_alone
-    (collect_command ∷ export_command ∷ check_command ∷ games_command ∷ fen_command ∷ epd_command
-    ∷ show_command ∷ probe_command ∷ lookup_command ∷ [])
+pbook = with_subcommand (with_subcommand (with_subcommand (with_subcommand (with_subcommand
+    (with_subcommand (with_subcommand (with_subcommand (with_subcommand program_alone
+    collect_command.top) export_command.top) check_command.top) games_command.top) fen_command.top)
+    epd_command.top) show_command.top) probe_command.top) lookup_command.top
