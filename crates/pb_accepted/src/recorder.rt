@@ -2,16 +2,18 @@
 //! played once.
 
 ghost use Rattle.std.specs.Prelude.{◌≡◌, IfErr, IfOk, Ok};
+ghost use Rattle.pb_board.specs.Initial.{initial};
 ghost use Rattle.pb_games.specs.Refusing.{Refuses};
 ghost use Rattle.pb_games.specs.Submissions.{IsLawful, Submission};
+ghost use Rattle.pb_poly.specs.Key.{key as key_by};
 ghost use Rattle.pb_accepted.specs.Noting.{HasNoted};
 
 use crate::ply_log::PlyLog;
 use crate::ply_points::{PlyPoints, points_for};
-use pb_board::Setup;
+use pb_board::{Colour, Setup};
 use pb_games::{Game, Line, MoveList, MoveVisitor, Outcome, Refusal, judge_line};
 use pb_moves::{Move, legal_effect};
-use pb_poly::{Table, code_of, key_next, key_of};
+use pb_poly::{Table, code_by, key_next, key_of};
 use std::alloc::{AllocError, Global};
 
 /// Plays the moves of a game, and writes down what each gives. Its buffers are made with it, so
@@ -19,9 +21,14 @@ use std::alloc::{AllocError, Global};
 #[derive(Drop)]
 pub(crate) struct Recorder {
     table: Table,
-    outcome: Outcome,
+    // The key of the initial array, with which nearly all games begin.
+    start_key: u64,
+    // What a ply of White gives, and one of Black.
+    white: u8,
+    black: u8,
     key: u64,
     log: PlyLog,
+    ghost start_is: { start_key ≡ key_by table initial },
 }
 
 impl Recorder {
@@ -31,7 +38,9 @@ impl Recorder {
     {
         Ok(Recorder {
             table: table.clone()?,
-            outcome: Outcome::Draw,
+            start_key: key_of(table, &Setup::start()),
+            white: 0,
+            black: 0,
             key: 0,
             log: PlyLog::new(alloc)?,
         })
@@ -79,13 +88,18 @@ impl Recorder {
 impl MoveVisitor for Recorder {
     ghost use Rattle.pb_accepted.specs.Noting.{Holds};
 
-    ghost holds = { λ r outcome ps t. Holds r.table r.outcome r.key r.log outcome ps t };
+    ghost holds = { λ r outcome ps t. Holds r.table r.white r.black r.key r.log outcome ps t };
 
     ghost fixed = { λ r. r.table };
 
     fn begin(&mut self, start: &Setup, outcome: Outcome) {
-        self.outcome = outcome;
-        self.key = key_of(&self.table, start);
+        self.white = points_for(outcome, Colour::White);
+        self.black = points_for(outcome, Colour::Black);
+        self.key = if start.is_start() {
+            self.start_key
+        } else {
+            key_of(&self.table, start)
+        };
         self.log.clear();
     }
 
@@ -94,8 +108,11 @@ impl MoveVisitor for Recorder {
             Some(effect) => {
                 let given = PlyPoints {
                     key: self.key,
-                    code: code_of(setup, m),
-                    points: points_for(self.outcome, setup.turn()),
+                    code: code_by(m, &effect),
+                    points: match setup.turn() {
+                        Colour::White => self.white,
+                        Colour::Black => self.black,
+                    },
                 };
                 self.key = key_next(&self.table, self.key, setup, m, &effect);
                 effect.apply(setup, m);

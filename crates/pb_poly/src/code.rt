@@ -1,14 +1,17 @@
 //! Move codes of PolyGlot books.
 
-ghost use Rattle.std.specs.Prelude.{◌≡◌, MatchOption, Some};
+ghost use Rattle.std.specs.Prelude.{◌≡◌, MatchOption, Some, if◌then◌else◌};
 ghost use Rattle.pb_board.specs.Piece.{king_of};
 ghost use Rattle.pb_board.specs.Board.{at, is_piece};
+ghost use Rattle.pb_board.specs.Position.{Position};
+ghost use Rattle.pb_moves.specs.Effect.{IsEffect};
 ghost use Rattle.pb_moves.specs.Moved.{Moved};
+ghost use Rattle.pb_moves.specs.Successor.{is_castling, rook_home};
 ghost use Rattle.pb_poly.specs.Decoding.{reached as reached_by};
 ghost use Rattle.pb_poly.specs.Code.{HasCode, encode_move, encoded_to};
 
-use pb_board::{Castling, Kind, Setup, Square};
-use pb_moves::{Move, is_legal, promotion_of};
+use pb_board::{Castling, Colour, Kind, Setup, Square};
+use pb_moves::{Effect, Move, is_legal, promotion_of};
 
 /// Whether the king of the side to move stands there.
 #[inline(always)]
@@ -21,18 +24,35 @@ fn has_own_king(setup: &Setup, square: Square) -> bool
     }
 }
 
+/// The square that the code of a move by this side's king names as the one that it reaches.
+#[inline(always)]
+fn king_to(side: Colour, m: Move) -> Square
+    ensures { result ≡ if is_castling side m then rook_home m else m.to }
+{
+    match Castling::of(m.from(), m.to()) {
+        Some(castling) if castling.colour() == side => castling.squares().rook_from,
+        _ => m.to(),
+    }
+}
+
 /// The square that the code names as the one that the move reaches.
 #[inline(always)]
 fn coded_to(setup: &Setup, m: Move) -> Square
     ensures { result ≡ encoded_to setup.now m }
 {
-    if !has_own_king(setup, m.from()) {
-        return m.to();
+    if has_own_king(setup, m.from()) {
+        king_to(setup.turn(), m)
+    } else {
+        m.to()
     }
-    match Castling::of(m.from(), m.to()) {
-        Some(castling) if castling.colour() == setup.turn() => castling.squares().rook_from,
-        _ => m.to(),
-    }
+}
+
+/// The code of a move that names this square as the one that it reaches.
+#[inline(always)]
+fn code_to(m: Move, to: Square) -> u16
+    ensures { (s : Position) → to ≡ encoded_to s m → result ≡ encode_move s m }
+{
+    m.bits() - u16::from(m.to().index()) + u16::from(to.index())
 }
 
 /// The code of a legal move in a PolyGlot book, below 2^15. It is `to + 64 * from + 4096 *
@@ -42,7 +62,20 @@ fn coded_to(setup: &Setup, m: Move) -> Square
 pub fn code_of(setup: &Setup, m: Move) -> u16
     ensures { result ≡ encode_move setup.now m }
 {
-    m.bits() - u16::from(m.to().index()) + u16::from(coded_to(setup, m).index())
+    code_to(m, coded_to(setup, m))
+}
+
+/// The code, as `code_of` gives it, of a move of which it is known what it does. No square is
+/// looked up.
+#[inline(always)]
+pub fn code_by(m: Move, effect: &Effect) -> u16
+    ensures { (s : Position) → IsEffect s m effect.now → result ≡ encode_move s m }
+{
+    if effect.piece.kind == Kind::King {
+        code_to(m, king_to(effect.piece.colour, m))
+    } else {
+        m.bits()
+    }
 }
 
 /// The square that a coded move reaches: the king's target where it castles, else the named one.

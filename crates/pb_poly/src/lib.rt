@@ -21,7 +21,7 @@ mod table;
 mod table_file;
 
 pub use book::{Book, write_book};
-pub use code::{code_of, move_of};
+pub use code::{code_by, code_of, move_of};
 pub use entry::{Entry, write_entry};
 pub use key::key_of;
 pub use key_change::{key_after, key_next};
