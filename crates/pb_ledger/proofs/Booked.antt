@@ -20,16 +20,17 @@ use Rattle.pb_accepted.specs.Ledger.{LedgerState}
 use Rattle.pb_accepted.proofs.BookLaws.{one_book}
 use Rattle.pb_accepted.proofs.BookStretches.{front_stretch, joined_stretch, no_stretch, whole_stretch}
 use Rattle.pb_accepted.proofs.SomeBooks.{some_book_of_ledger}
+use Rattle.pb_ledger.proofs.Changes.{from_to}
 use Rattle.pb_ledger.specs.Booking.{PutsOn, WritesBook}
 use Rattle.pb_ledger.specs.declared.booking.WriteFault.{WriteFault}
 use Rattle.pb_ledger.specs.declared.booking.WriteFault.TheVariants as fault
 
 -- ---- bytes that are put part by part
 
-pub puts_none : (sink : SinkState) → PutsOn sink sink []
+pub puts_none : (sink : SinkState) → PutsOn (from_to sink sink) []
 puts_none sink = record { put = Appends-nil sink.bytes; awaits = inl refl; stays_failed = λ h. h; lasts = Lasts-refl sink.lasting }
 
-pub puts_then : (old mid new : SinkState) (a b : List ℕ) → PutsOn old mid a → PutsOn mid new b → PutsOn old new (a ++ b)
+pub puts_then : (old mid new : SinkState) (a b : List ℕ) → PutsOn (from_to old mid) a → PutsOn (from_to mid new) b → PutsOn (from_to old new) (a ++ b)
 puts_then old mid new a b first next = record {
   put = Appends-trans _ _ _ a b first.put next.put;
   awaits = AwaitsFlush-trans old mid new first.awaits next.awaits;
@@ -37,7 +38,7 @@ puts_then old mid new a b first next = record {
   lasts = Lasts-trans _ _ _ first.lasts next.lasts;
 }
 
-pub puts_one : {E : Type 0} (old new : SinkState) (v : Unit {0}) (bytes : List ℕ) → Put {E = E} old new (Ok v) bytes → PutsOn old new bytes
+pub puts_one : {E : Type 0} (old new : SinkState) (v : Unit {0}) (bytes : List ℕ) → Put {E = E} old new (Ok v) bytes → PutsOn (from_to old new) bytes
 puts_one old new v bytes put = record {
   put = put.all;
   awaits = AwaitsFlush-put old new v bytes put;
@@ -51,7 +52,7 @@ awaits_flushes old new (inr now) = now.2
 
 -- a put that failed, after others
 pub puts_stopped : {E F : Type 0} (old mid new : SinkState) (e : E) (answer : Result (Unit {0}) F) (a b rest whole : List ℕ) → IsErr answer → a ++ (b ++ rest) ≡ whole
-    → PutsOn old mid a → Put mid new (Err e) b → Put old new answer whole
+    → PutsOn (from_to old mid) a → Put mid new (Err e) b → Put old new answer whole
 puts_stopped old mid new e answer a b rest whole failing is first put =
     put_failed old new answer whole failing (front_more _ _ _ a b rest whole first.put is put.front.0 put.front.1) put.failed (Lasts-trans _ _ _ first.lasts put.lasts)
     put.flushed (put.flushes ∙ awaits_flushes old mid first.awaits)
@@ -63,13 +64,13 @@ pub record Booking (ledger : LedgerState) (next : Option ℕ) (old new : SinkSta
   pub book : List Entry
   pub is : IsBook (counted ledger.basis ledger.accepted) ledger.basis.rules.least book
   pub bounds : All IsEntry book
-  pub puts : PutsOn old new (book_bytes (stretch 0 next book))
+  pub puts : PutsOn (from_to old new) (book_bytes (stretch 0 next book))
   pub counted : count ≡ min (length (stretch 0 next book)) (2 ^ 64 - 1)
 
 starts : (ledger : LedgerState) → IsLedger ledger → (sink : SinkState) → Booking ledger (Some 0) sink sink 0
 starts ledger rules sink =
     let book = some_book_of_ledger ledger rules in
-    record { book = book.0; is = book.1; bounds = book.2; puts = subst (λ l. PutsOn sink sink (book_bytes l)) (sym (no_stretch book.0)) (puts_none sink); counted = ap (λ (l : List Entry). min (length l) (2 ^ 64 - 1)) (sym (no_stretch book.0)) }
+    record { book = book.0; is = book.1; bounds = book.2; puts = subst (λ l. PutsOn (from_to sink sink) (book_bytes l)) (sym (no_stretch book.0)) (puts_none sink); counted = ap (λ (l : List Entry). min (length l) (2 ^ 64 - 1)) (sym (no_stretch book.0)) }
 
 -- nothing was put yet, or the entries before the next stretch were
 abbrev pub Begun : LedgerState → Option ℕ → SinkState → SinkState → ℕ → Type 0
@@ -100,16 +101,16 @@ module _ (ledger : LedgerState) (old mid : SinkState) (count : ℕ) where
     joined : book_bytes (stretch 0 (Some first) h.book) ++ book_bytes entries ≡ book_bytes (stretch 0 next h.book)
     joined = sym (book_bytes-append (stretch 0 (Some first) h.book) entries) ∙ ap book_bytes listed
 
-    pub goes_on : (new : SinkState) (more_counted : ℕ) → more_counted ≡ min (count + length entries) (2 ^ 64 - 1) → PutsOn mid new (book_bytes entries) → Booking ledger next old new more_counted
+    pub goes_on : (new : SinkState) (more_counted : ℕ) → more_counted ≡ min (count + length entries) (2 ^ 64 - 1) → PutsOn (from_to mid new) (book_bytes entries) → Booking ledger next old new more_counted
     goes_on new more_counted is more = record {
       book = h.book;
       is = h.is;
       bounds = h.bounds;
-      puts = subst (PutsOn old new) joined (puts_then old mid new (book_bytes (stretch 0 (Some first) h.book)) (book_bytes entries) h.puts more);
+      puts = subst (PutsOn (from_to old new)) joined (puts_then old mid new (book_bytes (stretch 0 (Some first) h.book)) (book_bytes entries) h.puts more);
       counted = omega (arith, is, h.counted, ap length listed, length-append (stretch 0 (Some first) h.book) entries);
     }
 
-    pub breaks : {E : Type 0} (new : SinkState) (e : E) → Put mid new (Err e) (book_bytes entries) → WritesBook ledger old new (Err fault.Write)
+    pub breaks : {E : Type 0} (new : SinkState) (e : E) → Put mid new (Err e) (book_bytes entries) → WritesBook ledger (from_to old new) (Err fault.Write)
     breaks new e put =
         let rest = front_stretch (counted ledger.basis ledger.accepted) ledger.basis.rules.least h.book h.is next in
         let a = book_bytes (stretch 0 (Some first) h.book) in
@@ -124,20 +125,20 @@ module _ (ledger : LedgerState) (old mid : SinkState) (count : ℕ) where
         )
 
   -- memory was wanting for the next stretch
-  pub wants : (next : Option ℕ) → Booking ledger next old mid count → WritesBook ledger old mid (Err fault.Memory)
+  pub wants : (next : Option ℕ) → Booking ledger next old mid count → WritesBook ledger (from_to old mid) (Err fault.Memory)
   wants next h =
       let rest = front_stretch (counted ledger.basis ledger.accepted) ledger.basis.rules.least h.book h.is next in
       let a = book_bytes (stretch 0 next h.book) in
       let whole : a ++ book_bytes rest.0 ≡ book_bytes h.book = sym (book_bytes-append (stretch 0 next h.book) rest.0) ∙ ap book_bytes rest.1 in
       let front : a ≡ take (length a) (book_bytes h.book) = sym (take-append_seam a (book_bytes rest.0)) ∙ ap (take (length a)) whole in
-      (book_bytes h.book, min (length h.book) (2 ^ 64 - 1), (h.book, h.is, record { bounds = h.bounds; are = refl }, refl), (length a, subst (PutsOn old mid) front h.puts), tt)
+      (book_bytes h.book, min (length h.book) (2 ^ 64 - 1), (h.book, h.is, record { bounds = h.bounds; are = refl }, refl), (length a, subst (PutsOn (from_to old mid)) front h.puts), tt)
 
   -- all was put
   module _ (h : Booking ledger None old mid count) where
     all : Appends old.bytes mid.bytes (book_bytes h.book)
     all = subst (λ l. Appends old.bytes mid.bytes (book_bytes l)) (whole_stretch h.book) h.puts.put
 
-    pub ends : {E : Type 0} (new : SinkState) (v : Unit {0}) → Flush {E = E} mid new (Ok v) → WritesBook ledger old new (Ok count)
+    pub ends : {E : Type 0} (new : SinkState) (v : Unit {0}) → Flush {E = E} mid new (Ok v) → WritesBook ledger (from_to old new) (Ok count)
     ends new v flush = (
       book_bytes h.book,
       min (length h.book) (2 ^ 64 - 1),
@@ -147,7 +148,7 @@ module _ (ledger : LedgerState) (old mid : SinkState) (count : ℕ) where
       h.counted ∙ ap (λ (l : List Entry). min (length l) (2 ^ 64 - 1)) (whole_stretch h.book),
     )
 
-    pub unflushed : {E : Type 0} (new : SinkState) (e : E) → Flush mid new (Err e) → WritesBook ledger old new (Err fault.Write)
+    pub unflushed : {E : Type 0} (new : SinkState) (e : E) → Flush mid new (Err e) → WritesBook ledger (from_to old new) (Err fault.Write)
     unflushed new e flush = (
       book_bytes h.book,
       min (length h.book) (2 ^ 64 - 1),

@@ -1,12 +1,12 @@
 -- From the lines that the collector took to what was collected, and to what the journal gained.
-use Rattle.std.proofs.Common.{◌≡◌, ℕ, ◌+◌, ◌^◌, ◌<◌, Bool, true, false, cond, List, [], ◌∷◌, ◌++◌, length, take, MutBor, Option, None, Some, Ok, Err, IfSome, refl, sym, ap, ◌∙◌, subst, arith, inl, inr}
+use Rattle.std.proofs.Common.{◌≡◌, ℕ, ◌+◌, ◌^◌, ◌<◌, Bool, true, false, cond, List, [], ◌∷◌, ◌++◌, length, take, MutBor, Ok, Err, refl, sym, ap, ◌∙◌, subst, arith, inl, inr}
 use Rattle.std.specs.Prelude.{count_by, is_err}
 use Rattle.std.specs.Io.KnownBytes.{Appends}
 use Rattle.std.proofs.lemmas.List.Sums.{sum_by-cons}
 use Rattle.std.proofs.KnownBytes.{Appends-nil, Appends-trans, Appends-kept}
 use Rattle.pb_io.specs.Count.{next_count}
 use Rattle.pb_io.specs.Source.{SourceState}
-use Rattle.pb_io.specs.Sink.{AllLasts, AwaitsFlush, Flush, Lasts, LastsFirst, SinkState}
+use Rattle.pb_io.specs.Sink.{AwaitsFlush, Flush, SinkState}
 use Rattle.pb_io.proofs.FlushLemmas.{AwaitsFlush-put, AwaitsFlush-trans, not_flushed}
 use Rattle.pb_io.specs.Lines.{lines, ended_lines}
 use Rattle.pb_io.specs.Fault.{fault_of_read}
@@ -21,9 +21,11 @@ use Rattle.pb_accepted.specs.Ledger.{LedgerState}
 use Rattle.pb_accepted.proofs.Steps.{runs_join}
 use Rattle.pb_accepted.specs.Replies.{replies, reply_line}
 use Rattle.pb_games.specs.Submissions.{Submission}
-use Rattle.pb_ledger.specs.Collecting.{Collects, CollectsButOne, CollectsCounted, Leads}
+use Rattle.pb_ledger.specs.Streams.{AtLast}
+use Rattle.pb_ledger.specs.Collecting.{Collects, CollectsButOne, CollectsCounted, CollectsStream, Leads}
+use Rattle.pb_ledger.proofs.Changes.{from_to}
 use Rattle.pb_ledger.specs.Collector.{Answered, KeepsLent, CollectsLine, Unkept, with_answer}
-use Rattle.pb_ledger.specs.Journaling.{CollectsUnkept, Gains, JournalsStream, JournalsUntil}
+use Rattle.pb_ledger.specs.Journaling.{CollectsUnkept, Gains, JournalsUntil}
 use Rattle.pb_ledger.specs.declared.collector.Collector.{Collector}
 use Rattle.pb_ledger.specs.declared.journaling.JournalFault.{JournalFault}
 use Rattle.pb_ledger.specs.declared.journaling.JournalFault.TheVariants.{Journal, Lines}
@@ -81,21 +83,6 @@ Leads-then a b c K L Q R first next = record {
   cap = next.cap ∙ first.cap;
 }
 
--- ---- what lasts
-
--- what all lasted goes on lasting, whatever lasts behind it
-lasts_first : (old mid new : SinkState) (text : List ℕ) → Appends old.bytes mid.bytes text → AllLasts mid → Lasts mid.lasting new.lasting
-    → LastsFirst old new text
-lasts_first old mid new text put all lasts = lasting_first mid.lasting new.lasting all lasts
-  where
-    lasting_first : (known later : Option (List ℕ)) → IfSome known (λ bytes. mid.bytes ≡ Some bytes) → Lasts known later
-        → IfSome later (λ bytes. (behind : List ℕ) × Appends old.bytes (Some bytes) (text ++ behind))
-    lasting_first None None all lasts = tt
-    lasting_first None (Some later) all lasts = cc
-    lasting_first (Some bytes) None all lasts = absurd lasts.1
-    lasting_first (Some bytes) (Some later) all lasts =
-        (lasts.0, Appends-trans old.bytes mid.bytes (Some later) text lasts.0 put (subst (λ (known : Option (List ℕ)). Appends known (Some later) lasts.0) (sym all) lasts.1))
-
 -- what a fault of reading is to the journaling
 abbrev Gives : ReadFault → JournalFault → Type 0
 Gives read e = e ≡ Lines (fault_of_read read)
@@ -105,7 +92,7 @@ module _ {T K J W : Type 0} (state : K → SinkState) (kept : J → SinkState) w
   Sink s = state s.sink.now
 
   abbrev GainsTo : Collector T K J W → Collector T K J W → Type 0
-  GainsTo s t = Gains (kept s.journal.now) (kept t.journal.now) s.ledger.now.accepted t.ledger.now.accepted
+  GainsTo s t = Gains (from_to (kept s.journal.now) (kept t.journal.now)) (from_to s.ledger.now t.ledger.now)
 
   KeepsLent-trans : (s m t : Collector T K J W) → KeepsLent s m → KeepsLent m t → KeepsLent s t
   KeepsLent-trans s m t first next =
@@ -115,7 +102,7 @@ module _ {T K J W : Type 0} (state : K → SinkState) (kept : J → SinkState) w
 
   -- they gave these answers
   record Taken (s t : Collector T K J W) (ls : List (List ℕ)) : Type 0 where
-    collects : Collects (Sink s) (Sink t) s.ledger.now t.ledger.now ls
+    collects : Collects (from_to (Sink s) (Sink t)) (from_to s.ledger.now t.ledger.now) ls
     number : length collects.answers ≡ length ls
     counts : AddsUp s.totals → s.totals.lines + length ls < 2 ^ 64
         → Grows (length s.ledger.now.accepted) (length t.ledger.now.accepted) s.totals t.totals (length ls) (count_by is_err collects.answers)
@@ -129,7 +116,7 @@ module _ {T K J W : Type 0} (state : K → SinkState) (kept : J → SinkState) w
     number = refl;
     counts = λ sum few. record { all = omega arith; refused = omega arith; new_games = omega arith; adds_up = sum };
     awaits = inl refl;
-    gains = Gains-none (kept s.journal.now) s.ledger.now.accepted;
+    gains = Gains-none (kept s.journal.now) s.ledger.now;
     same = record { ledger = refl; sink = refl; journal = refl };
   })
   taken_of s t (line ∷ ls) h =
@@ -174,7 +161,7 @@ module _ {T K J W : Type 0} (state : K → SinkState) (kept : J → SinkState) w
   }
 
   record StoppedAt (s t : Collector T K J W) (ls : List (List ℕ)) : Type 0 where
-    collects : CollectsButOne (Sink s) (Sink t) s.ledger.now t.ledger.now ls
+    collects : CollectsButOne (from_to (Sink s) (Sink t)) (from_to s.ledger.now t.ledger.now) ls
     fails : (Sink t).failed ≡ true
     flushes : (Sink t).flushes ≡ (Sink s).flushes
     gains : GainsTo s t
@@ -188,11 +175,7 @@ module _ {T K J W : Type 0} (state : K → SinkState) (kept : J → SinkState) w
           before = h.0;
           line = h.1;
           are = h.3;
-          answers = stopped.answers;
-          answer = stopped.answer;
-          leads = subst (λ (L : List (List ℕ)). Leads s.ledger.now t.ledger.now L (stopped.answers ++ stopped.answer ∷ [])) (sym h.3) stopped.leads;
-          count = stopped.count;
-          put = stopped.put;
+          done = (stopped.answers, stopped.answer, stopped.leads, stopped.count, stopped.put);
         };
         fails = last.put.failed;
         flushes = last.put.flushes ∙ not_flushed (Sink s) (Sink m) taken.awaits;
@@ -203,42 +186,31 @@ module _ {T K J W : Type 0} (state : K → SinkState) (kept : J → SinkState) w
   -- ---- lines of which the last one brought a game that the journal didn't take
 
   record Unjournaled (s t : Collector T K J W) (ls : List (List ℕ)) : Type 0 where
-    unkept : CollectsUnkept (Sink s) (Sink t) (kept s.journal.now) (kept t.journal.now) s.ledger.now t.ledger.now ls
+    unkept : AtLast (CollectsUnkept (from_to (Sink s) (Sink t)) (from_to (kept s.journal.now) (kept t.journal.now)) (from_to s.ledger.now t.ledger.now)) ls
     awaits : AwaitsFlush (Sink s) (Sink t)
-    fails : (kept t.journal.now).failed ≡ true
     same : KeepsLent s t
 
   journal_stops : (s t : Collector T K J W) (ls : List (List ℕ)) → StopsAtLast (CollectsLine state kept) s ls Journal t → Unjournaled s t ls
   journal_stops s t ls h =
       let m : Collector T K J W = h.2 in let before = h.0 in let line = h.1 in
-      let taken = taken_of s m before h.4 in let last : Unkept kept m line t = h.5 in
-      let answers = taken.collects.answers in let gains = taken.gains in record {
+      let taken = taken_of s m before h.4 in let last : Unkept kept m line t = h.5 in record {
         unkept = record {
           before = before;
           line = line;
           are = h.3;
-          answers = answers;
-          number = last.number;
-          leads = subst (λ (L : List (List ℕ)). Leads s.ledger.now t.ledger.now L (answers ++ Ok last.number ∷ [])) (sym h.3)
-              (Leads-then s.ledger.now m.ledger.now t.ledger.now before (line ∷ []) answers (Ok last.number ∷ []) taken.collects.leads last.leads);
-          put = subst (λ (x : MutBor K). Appends (Sink s).bytes (state x.now).bytes (replies before answers)) (sym last.same_sink) taken.collects.put;
-          new = gains.new;
-          game = last.game;
-          games = last.games ∙ ap (λ (G : List Submission). G ++ last.game ∷ []) gains.are;
-          middle = m.ledger.now;
-          leads_before = taken.collects.leads;
-          held_before = gains.are;
-          text = gains.text;
-          lines = gains.lines;
-          last = last.text;
-          spells = last.spells;
-          count = last.count;
-          kept = Appends-trans _ _ _ _ _ gains.put last.put;
-          lasts = λ before. lasts_first (kept s.journal.now) (kept m.journal.now) (kept t.journal.now) gains.text gains.put (gains.all_lasts before) last.lasts;
-          each = λ below. let same = last.flushes in let earlier = gains.each (omega (arith, below, same)) in omega (arith, same, earlier);
+          done = record {
+            middle = m.ledger.now;
+            kept = kept m.journal.now;
+            collects = subst (λ (x : MutBor K). Collects (from_to (Sink s) (state x.now)) (from_to s.ledger.now m.ledger.now) before) (sym last.same_sink) taken.collects;
+            gains = taken.gains;
+            number = last.number;
+            leads = last.leads;
+            game = last.game;
+            brings = last.brings;
+            breaks = last.breaks;
+          };
         };
         awaits = subst (λ (x : MutBor K). AwaitsFlush (Sink s) (state x.now)) (sym last.same_sink) taken.awaits;
-        fails = last.fails;
         same = KeepsLent-trans s m t taken.same last.same;
       }
 
@@ -251,20 +223,18 @@ module _ {T K J W : Type 0} (state : K → SinkState) (kept : J → SinkState) w
     at_line P Q follows (inr h) = follows (lines h.came) h.done
 
     stream_of : fills < 2 ^ 32 → s.totals ≡ record { lines = 0; new = 0; repeats = 0; refused = 0 }
-        → TakesStream (CollectsLine state kept) fills old new s t → AtEnd fills old new (CollectsCounted (Sink s) (Sink t) s.ledger.now t.ledger.now t.totals)
+        → TakesStream (CollectsLine state kept) fills old new s t → AtEnd fills old new (CollectsCounted (from_to (Sink s) (Sink t)) (from_to s.ledger.now t.ledger.now) t.totals)
     stream_of small fresh h = AtEnd-weaker fills old new _ _ (λ ls few taken.
         let all_taken = taken_of s t ls taken in
         let all = ap (λ (x : Totals). x.lines) fresh in let new_games = ap (λ (x : Totals). x.new) fresh in
         let repeats = ap (λ (x : Totals). x.repeats) fresh in let refused = ap (λ (x : Totals). x.refused) fresh in
-        let grows = all_taken.counts (omega arith) (omega (arith, small, few)) in (
-          all_taken.collects,
-          record {
-            all = omega (arith, grows.all, all_taken.number);
-            refusals = omega (arith, grows.refused);
-            new_games = omega (arith, grows.new_games);
-            others = grows.adds_up;
-          },
-        )) h
+        let grows = all_taken.counts (omega arith) (omega (arith, small, few)) in record {
+          collects = all_taken.collects;
+          all = omega (arith, grows.all);
+          refusals = omega (arith, grows.refused);
+          new_games = omega (arith, grows.new_games);
+          others = grows.adds_up;
+        }) h
 
     -- no reply was handed on before the end
     unflushed_of : TakesStream (CollectsLine state kept) fills old new s t → (Sink t).flushes ≡ (Sink s).flushes
@@ -272,24 +242,28 @@ module _ {T K J W : Type 0} (state : K → SinkState) (kept : J → SinkState) w
 
     pub journaled : (sink' : SinkState) (u : Unit {0}) → fills < 2 ^ 32 → s.totals ≡ record { lines = 0; new = 0; repeats = 0; refused = 0 }
         → TakesStream (CollectsLine state kept) fills old new s t → Flush {E = Failed} (Sink t) sink' (Ok u)
-        → JournalsStream fills old new (Sink s) sink' (kept s.journal.now) (kept t.journal.now) s.ledger.now t.ledger.now t.totals
+        → CollectsStream fills (from_to old new) (from_to (Sink s) sink') (from_to s.ledger.now t.ledger.now) t.totals × GainsTo s t
     journaled sink' u small fresh h flush = (
       (
-        AtEnd-weaker fills old new _ _ (λ ls few c. (record { answers = c.0.answers; leads = c.0.leads; put = Appends-kept _ _ _ _ c.0.put flush.bytes }, c.1)) (stream_of small fresh h),
-        (flush.failed, flush.flushed),
-        flush.flushes ∙ ap next_count (unflushed_of h),
+        AtEnd-weaker fills old new _ _ (λ ls few c. record {
+          collects = record { answers = c.collects.answers; leads = c.collects.leads; put = Appends-kept _ _ _ _ c.collects.put flush.bytes };
+          all = c.all;
+          refusals = c.refusals;
+          new_games = c.new_games;
+          others = c.others;
+        }) (stream_of small fresh h),
+        ((flush.failed, flush.flushed), flush.flushes ∙ ap next_count (unflushed_of h)),
       ),
       (taken_of s t (lines h.came) h.done).gains,
     )
 
     -- all lines were taken, and the replies couldn't be handed on
     pub unflushed : (sink' : SinkState) (e : Failed) → TakesStream (CollectsLine state kept) fills old new s t → Flush {E = Failed} (Sink t) sink' (Err e)
-        → JournalsUntil fills old new (Sink s) sink' (kept s.journal.now) (kept t.journal.now) s.ledger.now t.ledger.now (Lines fault.Write)
+        → JournalsUntil fills (from_to old new) (from_to (Sink s) sink') (from_to (kept s.journal.now) (kept t.journal.now)) (from_to s.ledger.now t.ledger.now) (Lines fault.Write)
     unflushed sink' e h flush = (
       (
         inr (AtEnd-weaker fills old new _ _ (λ ls few taken. let c = (taken_of s t ls taken).collects in record { answers = c.answers; leads = c.leads; put = Appends-kept _ _ _ _ c.put flush.bytes }) h),
-        flush.failed,
-        flush.flushes ∙ unflushed_of h,
+        (flush.failed, flush.flushes ∙ unflushed_of h),
       ),
       (taken_of s t (lines h.came) h.done).gains,
     )
@@ -297,12 +271,12 @@ module _ {T K J W : Type 0} (state : K → SinkState) (kept : J → SinkState) w
     -- how the lines ended
 
     abbrev Until : JournalFault → Type 0
-    Until e = JournalsUntil fills old new (Sink s) (Sink t) (kept s.journal.now) (kept t.journal.now) s.ledger.now t.ledger.now e
+    Until e = JournalsUntil fills (from_to old new) (from_to (Sink s) (Sink t)) (from_to (kept s.journal.now) (kept t.journal.now)) (from_to s.ledger.now t.ledger.now) e
 
     until_read : (read : ReadFault) → ReadUntil (CollectsLine state kept) fills old new s t read → Until (Lines (fault_of_read read))
     until_read Memory h = (
       (h.0, ap (λ (x : Collector T K J W). Sink x) h.1, ap (λ (x : Collector T K J W). x.ledger.now) h.1),
-      subst (λ (x : Collector T K J W). GainsTo s x) (sym h.1) (Gains-none (kept s.journal.now) s.ledger.now.accepted),
+      subst (λ (x : Collector T K J W). GainsTo s x) (sym h.1) (Gains-none (kept s.journal.now) s.ledger.now),
     )
     until_read Read h =
         let taken = taken_of s t (ended_lines h.came) h.done in
@@ -315,15 +289,16 @@ module _ {T K J W : Type 0} (state : K → SinkState) (kept : J → SinkState) w
     until_line (Lines fault.Write) h = (
       (
         inl (AtLine-weaker fills old new _ _ (λ ls few stops. (reply_stops s t ls stops).collects) h),
-        at_line _ ((Sink t).failed ≡ true) (λ ls stops. (reply_stops s t ls stops).fails) h,
-        at_line _ ((Sink t).flushes ≡ (Sink s).flushes) (λ ls stops. (reply_stops s t ls stops).flushes) h,
+        (
+          at_line _ ((Sink t).failed ≡ true) (λ ls stops. (reply_stops s t ls stops).fails) h,
+          at_line _ ((Sink t).flushes ≡ (Sink s).flushes) (λ ls stops. (reply_stops s t ls stops).flushes) h,
+        ),
       ),
       at_line _ (GainsTo s t) (λ ls stops. (reply_stops s t ls stops).gains) h,
     )
     until_line Journal h = (
       AtLine-weaker fills old new _ _ (λ ls few stops. (journal_stops s t ls stops).unkept) h,
       at_line _ (AwaitsFlush (Sink s) (Sink t)) (λ ls stops. (journal_stops s t ls stops).awaits) h,
-      at_line _ ((kept t.journal.now).failed ≡ true) (λ ls stops. (journal_stops s t ls stops).fails) h,
     )
     until_line (Lines fault.Read) h = absurd (at_line _ ⊥ (λ ls stops. stops.5) h)
     until_line (Lines fault.Endless) h = absurd (at_line _ ⊥ (λ ls stops. stops.5) h)

@@ -21,6 +21,7 @@ use Rattle.pb_ledger.specs.declared.collector.Collector.{Collector}
 use Rattle.pb_ledger.specs.declared.journaling.JournalFault.{JournalFault}
 use Rattle.pb_ledger.specs.declared.journaling.JournalFault.TheVariants.{Journal, Lines}
 use Rattle.pb_ledger.specs.declared.totals.Totals.{Totals}
+use Rattle.pb_ledger.proofs.Changes.{from_to}
 use Rattle.pb_ledger.proofs.Gaining.{Brings, Gains-kept, Gains-one, brought, unchanged}
 use Rattle.pb_ledger.proofs.Submitting.{Leads-long, Leads-one, step_of}
 
@@ -73,8 +74,8 @@ answered_long {T} {K} {J} {W} state kept s t line result long replied =
       leads = Leads-long s.ledger.now t.ledger.now line long same;
       counted = replied.counted;
       put = replied.put;
-      gains = subst (λ (x : MutBor J). Gains (kept s.journal.now) (kept x.now) s.ledger.now.accepted t.ledger.now.accepted) (sym replied.journal)
-          (Gains-kept (kept s.journal.now) s.ledger.now.accepted t.ledger.now.accepted (ap (λ (x : LedgerState). x.accepted) same));
+      gains = subst (λ (x : MutBor J). Gains (from_to (kept s.journal.now) (kept x.now)) (from_to s.ledger.now t.ledger.now)) (sym replied.journal)
+          (Gains-kept (kept s.journal.now) s.ledger.now t.ledger.now (ap (λ (x : LedgerState). x.accepted) same));
       same = record {
         ledger = ap (λ (x : MutBor LedgerState). x.ghost_name) replied.ledger;
         sink = replied.sink;
@@ -90,6 +91,9 @@ module _ {T K J W : Type 0} (state : K → SinkState) (kept : J → SinkState) (
   abbrev B : List Submission
   B = m.ledger.now.accepted
 
+  abbrev Gained : Type 0
+  Gained = Gains (from_to (kept s.journal.now) (kept journal.now)) (from_to s.ledger.now m.ledger.now)
+
   -- what writing the line to the journal did
   abbrev Wrote : Result (Unit {0}) JournalFault → Type 0
   Wrote result = Writes (kept m.journal.now) (kept journal.now) result (with_end (strip_carriage_return line))
@@ -104,14 +108,14 @@ module _ {T K J W : Type 0} (state : K → SinkState) (kept : J → SinkState) (
       brought s.ledger.now.cap A line answer B (step_of s.ledger.now m.ledger.now line answer submitted.leads) (ltb-true (length A) (length B) (sym submitted.grown ∙ new))
 
   -- the game is on the journal
-  pub gained_so : (u : Unit {0}) → is_new ≡ true → Wrote (Ok u) → Gains (kept s.journal.now) (kept journal.now) A B
+  pub gained_so : (u : Unit {0}) → is_new ≡ true → Wrote (Ok u) → Gained
   gained_so u new wrote =
-      let came = game_brought new in Gains-one (kept s.journal.now) (kept journal.now) A B came.game (strip_carriage_return line) u came.games came.spells (wrote_to (Ok u) wrote)
+      let came = game_brought new in Gains-one (kept s.journal.now) (kept journal.now) s.ledger.now m.ledger.now came.game (strip_carriage_return line) u came.games came.spells (wrote_to (Ok u) wrote)
 
   -- no game has come
-  pub nothing_gained : is_new ≡ false → journal ≡ m.journal → Gains (kept s.journal.now) (kept journal.now) A B
+  pub nothing_gained : is_new ≡ false → journal ≡ m.journal → Gained
   nothing_gained old untouched =
-      subst (λ (x : MutBor J). Gains (kept s.journal.now) (kept x.now) A B) (sym (untouched ∙ submitted.journal)) (Gains-kept (kept s.journal.now) A B
+      subst (λ (x : MutBor J). Gains (from_to (kept s.journal.now) (kept x.now)) (from_to s.ledger.now m.ledger.now)) (sym (untouched ∙ submitted.journal)) (Gains-kept (kept s.journal.now) s.ledger.now m.ledger.now
       (unchanged s.ledger.now.cap A line answer B (step_of s.ledger.now m.ledger.now line answer submitted.leads) (λ more. true≢false (sym (lt-ltb (length A) (length B) more) ∙ sym submitted.grown ∙ old))))
 
   -- the journal has failed at the game
@@ -123,22 +127,16 @@ module _ {T K J W : Type 0} (state : K → SinkState) (kept : J → SinkState) (
         number = came.number;
         leads = subst (λ (r : Answer). Leads s.ledger.now m.ledger.now (line ∷ []) (r ∷ [])) came.answered submitted.leads;
         game = came.game;
-        games = came.games;
-        text = strip_carriage_return line;
-        spells = came.spells;
-        count = wrote.front.0;
-        put = wrote.front.1;
-        lasts = wrote.lasts;
-        fails = wrote.failed;
-        flushes = wrote.flushes;
+        brings = came.games;
+        breaks = subst (λ text. Writes (kept s.journal.now) (kept journal.now) (Err Journal) (with_end text)) came.spells
+            (subst (λ (x : JournalFault). Writes (kept s.journal.now) (kept journal.now) (Err x) (with_end (strip_carriage_return line))) is wrote);
         same_sink = submitted.sink;
         same = record { ledger = submitted.ledger; sink = ap (λ (x : MutBor K). x.ghost_name) submitted.sink; journal = lent ∙ ap (λ (x : MutBor J). x.ghost_name) submitted.journal };
       } in
       subst (λ (x : JournalFault). CollectsLine state kept s line (Err x) (record m { journal = journal })) (sym is) unkept
 
   -- the line was answered, or its reply couldn't be put
-  pub takes_so : (now t : Collector T K J W) (result : Result (Unit {0}) JournalFault) → now ≡ record m { journal = journal } → Gains (kept s.journal.now) (kept journal.now) A B
-      → journal.ghost_name ≡ m.journal.ghost_name → Replied state now t line answer is_new result → CollectsLine state kept s line result t
+  pub takes_so : (now t : Collector T K J W) (result : Result (Unit {0}) JournalFault) → now ≡ record m { journal = journal } → Gained → journal.ghost_name ≡ m.journal.ghost_name → Replied state now t line answer is_new result → CollectsLine state kept s line result t
   takes_so now t result is gains lent reply =
       let replied : Replied state (record m { journal = journal }) t line answer is_new result = subst (λ (x : Collector T K J W). Replied state x t line answer is_new result) is reply in
       takes_answered state kept s t line result replied.stops (record {
@@ -148,8 +146,8 @@ module _ {T K J W : Type 0} (state : K → SinkState) (kept : J → SinkState) (
             ∙ ap (λ b. with_answer s.totals answer b)
             (submitted.grown ∙ ap (λ (x : MutBor LedgerState). nat_lt (length s.ledger.now.accepted) (length x.now.accepted)) (sym replied.ledger));
         put = subst (λ (x : MutBor K). Put (state x.now) (state t.sink.now) result (reply_line line answer)) submitted.sink replied.put;
-        gains = subst (λ (x : MutBor J). Gains (kept s.journal.now) (kept x.now) A t.ledger.now.accepted) (sym replied.journal)
-            (subst (λ (x : MutBor LedgerState). Gains (kept s.journal.now) (kept journal.now) A x.now.accepted) (sym replied.ledger) gains);
+        gains = subst (λ (x : MutBor J). Gains (from_to (kept s.journal.now) (kept x.now)) (from_to s.ledger.now t.ledger.now)) (sym replied.journal)
+            (subst (λ (x : MutBor LedgerState). Gains (from_to (kept s.journal.now) (kept journal.now)) (from_to s.ledger.now x.now)) (sym replied.ledger) gains);
         same = record {
           ledger = ap (λ (x : MutBor LedgerState). x.ghost_name) replied.ledger ∙ submitted.ledger;
           sink = replied.sink ∙ ap (λ (x : MutBor K). x.ghost_name) submitted.sink;

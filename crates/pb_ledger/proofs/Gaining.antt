@@ -12,7 +12,9 @@ use Rattle.pb_games.specs.Submissions.{Submission, submission_text}
 use Rattle.pb_accepted.specs.Accepting.{Answer, Step}
 use Rattle.pb_accepted.proofs.Steps.{refusal_step, step_to}
 use Rattle.pb_ledger.specs.Journal.{GameLines}
-use Rattle.pb_ledger.specs.Journaling.{Gains, HandedOnEach}
+use Rattle.pb_accepted.specs.Ledger.{LedgerState}
+use Rattle.pb_ledger.specs.Journaling.{Gains}
+use Rattle.pb_ledger.proofs.Changes.{from_to}
 
 -- ---- the lines of games
 
@@ -48,10 +50,11 @@ unchanged most A line r B step no_more = elim (step_to most A line r B step).1 [
 
 -- ---- gains
 
-pub Gains-none : (journal : SinkState) (A : List Submission) → Gains journal journal A A
-Gains-none journal A = record {
+-- no game has come
+pub Gains-kept : (journal : SinkState) (ledger ledger' : LedgerState) → ledger'.accepted ≡ ledger.accepted → Gains (from_to journal journal) (from_to ledger ledger')
+Gains-kept journal ledger ledger' same = record {
   new = [];
-  are = sym (append-nil A);
+  are = same ∙ sym (append-nil ledger.accepted);
   text = [];
   lines = refl;
   put = Appends-nil journal.bytes;
@@ -61,14 +64,13 @@ Gains-none journal A = record {
   each = λ below. omega arith;
 }
 
--- no game has come
-pub Gains-kept : (journal : SinkState) (A B : List Submission) → B ≡ A → Gains journal journal A B
-Gains-kept journal A B same = subst (λ (G : List Submission). Gains journal journal A G) (sym same) (Gains-none journal A)
+pub Gains-none : (journal : SinkState) (ledger : LedgerState) → Gains (from_to journal journal) (from_to ledger ledger)
+Gains-none journal ledger = Gains-kept journal ledger ledger refl
 
 -- the line of a game was written
-pub Gains-one : {E : Type 0} (journal journal' : SinkState) (A B : List Submission) (game : Submission) (text : List ℕ) (u : Unit {0}) → B ≡ A ++ game ∷ [] → text ≡ submission_text game
-    → Writes {E = E} journal journal' (Ok u) (with_end text) → Gains journal journal' A B
-Gains-one journal journal' A B game text u are spells writes = record {
+pub Gains-one : {E : Type 0} (journal journal' : SinkState) (ledger ledger' : LedgerState) (game : Submission) (text : List ℕ) (u : Unit {0}) → ledger'.accepted ≡ ledger.accepted ++ game ∷ []
+    → text ≡ submission_text game → Writes {E = E} journal journal' (Ok u) (with_end text) → Gains (from_to journal journal') (from_to ledger ledger')
+Gains-one journal journal' ledger ledger' game text u are spells writes = record {
   new = game ∷ [];
   are = are;
   text = with_end text;
@@ -90,20 +92,18 @@ handed_on_last journal journal' F [] some before untouched after =
     subst HandedOn (sym (untouched refl)) (before (λ none. some (append-nil F ∙ none)))
 handed_on_last journal journal' F (g ∷ G) some before untouched after = after (λ none. (cc))
 
--- one after the other, and then others
-pub HandedOnEach-trans : (a b c : SinkState) (F G : List Submission) → HandedOnEach F a b → HandedOnEach G b c → HandedOnEach (F ++ G) a c
-HandedOnEach-trans a b c F G first next below =
-    let later = next below in let earlier = first (omega (arith, below, later)) in omega (arith, later, earlier, length-append F G)
-
-pub Gains-trans : (a b c : SinkState) (A B C : List Submission) → Gains a b A B → Gains b c B C → Gains a c A C
+pub Gains-trans : (a b c : SinkState) (A B C : LedgerState) → Gains (from_to a b) (from_to A B) → Gains (from_to b c) (from_to B C) → Gains (from_to a c) (from_to A C)
 Gains-trans a b c A B C first next = record {
   new = first.new ++ next.new;
-  are = next.are ∙ ap (λ (G : List Submission). G ++ next.new) first.are ∙ append_assoc A first.new next.new;
+  are = next.are ∙ ap (λ (G : List Submission). G ++ next.new) first.are ∙ append_assoc A.accepted first.new next.new;
   text = first.text ++ next.text;
   lines = GameLines-append first.new next.new first.text next.text first.lines next.lines;
   put = Appends-trans _ _ _ _ _ first.put next.put;
   untouched = λ none. let each = both_none first.new next.new none in next.untouched each.1 ∙ first.untouched each.0;
   handed_on = λ some. handed_on_last b c first.new next.new some first.handed_on next.untouched next.handed_on;
   all_lasts = λ before. next.all_lasts (first.all_lasts before);
-  each = HandedOnEach-trans a b c first.new next.new first.each next.each;
+  each = λ below.
+      let later = next.each below in
+      let earlier = first.each (omega (arith, below, later)) in
+      omega (arith, later, earlier, length-append first.new next.new);
 }

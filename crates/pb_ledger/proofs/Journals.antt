@@ -184,9 +184,9 @@ GameLines-push G text g line put spells =
     ∙ ap (flat_map with_end) (sym (map-append submission_text G (g ∷ [])))
 
 pub journal_may_tear : JournalMayTear
-journal_may_tear cap bytes text line A G g n h games own room put spells =
-    elim (cases_lt (length line) n) [
-      | inl past ↦ inr (subst (λ bs. Journals cap (whole ++ bs) (A ++ G ++ g ∷ [])) (sym (take_all n (with_end line) (omega (arith, past, length-append line (10 ∷ []))))) grown)
+journal_may_tear cap bytes text A G g n h games own room put =
+    elim (cases_lt (length (submission_text g)) n) [
+      | inl past ↦ inr (subst (λ bs. Journals cap (whole ++ bs) (A ++ G ++ g ∷ [])) (sym (take_all n (with_end (submission_text g)) (omega (arith, past, length-append (submission_text g) (10 ∷ []))))) grown)
       | inr within ↦ inl (subst (λ ls. Replays cap ls (A ++ G)) (sym (unseen within)) (journal_grows cap bytes text A G h front_games front_own front_room put))
     ]
   where
@@ -196,11 +196,11 @@ journal_may_tear cap bytes text line A G g n h games own room put spells =
     joined : A ++ G ++ g ∷ [] ≡ A ++ (G ++ g ∷ [])
     joined = append_assoc A G (g ∷ [])
 
-    grown : Journals cap (whole ++ with_end line) (A ++ G ++ g ∷ [])
+    grown : Journals cap (whole ++ with_end (submission_text g)) (A ++ G ++ g ∷ [])
     grown =
-        let all = journal_grows cap bytes (text ++ with_end line) A (G ++ g ∷ []) h games (subst HaveOwnIds joined own) (omega (arith, room, ap length joined)) (GameLines-push G text g line put spells) in
-        subst (λ bs. Journals cap bs (A ++ G ++ g ∷ [])) (sym (append_assoc (bytes ++ mending bytes) text (with_end line)))
-        (subst (Journals cap (bytes ++ mending bytes ++ (text ++ with_end line))) (sym joined) all)
+        let all = journal_grows cap bytes (text ++ with_end (submission_text g)) A (G ++ g ∷ []) h games (subst HaveOwnIds joined own) (omega (arith, room, ap length joined)) (GameLines-push G text g (submission_text g) put refl) in
+        subst (λ bs. Journals cap bs (A ++ G ++ g ∷ [])) (sym (append_assoc (bytes ++ mending bytes) text (with_end (submission_text g))))
+        (subst (Journals cap (bytes ++ mending bytes ++ (text ++ with_end (submission_text g)))) (sym joined) all)
 
     front_games : All IsSubmission G
     front_games = All-same IsSubmission G (take (length G) (G ++ g ∷ [])) (sym (take-append_seam G (g ∷ []))) (All-take IsSubmission (length G) (G ++ g ∷ []) games)
@@ -215,10 +215,10 @@ journal_may_tear cap bytes text line A G g n h games own room put spells =
     lawful = All-head IsSubmission g [] (All-same IsSubmission (g ∷ []) (drop (length G) (G ++ g ∷ [])) (sym (drop-append_seam G (g ∷ []))) (All-drop IsSubmission (length G) (G ++ g ∷ []) games))
 
     -- a front of the line without its LF ends no line
-    unseen : n ≤ length line → ended_lines (whole ++ take n (with_end line)) ≡ ended_lines whole
+    unseen : n ≤ length (submission_text g) → ended_lines (whole ++ take n (with_end (submission_text g))) ≡ ended_lines whole
     unseen within =
-        ap (λ bs. ended_lines (whole ++ bs)) (take-append-le n line (10 ∷ []) within)
-        ∙ ended_lines-quiet whole (take n line) (All-take (λ b. is_line_feed b ≡ false) n line (subst IsQuiet (sym spells) (quiet_text g lawful)))
+        ap (λ bs. ended_lines (whole ++ bs)) (take-append-le n (submission_text g) (10 ∷ []) within)
+        ∙ ended_lines-quiet whole (take n (submission_text g)) (All-take (λ b. is_line_feed b ≡ false) n (submission_text g) (quiet_text g lawful))
 
 -- a front of what mends a journal changes nothing
 pub mending_may_tear : (cap : ℕ) (bytes : List ℕ) (A : List Submission) (n : ℕ) → Journals cap bytes A → Journals cap (bytes ++ take n (mending bytes)) A

@@ -1,4 +1,6 @@
 pub mod Booked
+mod Broken
+mod Changes
 mod Collected
 mod CollectorLine
 pub mod Continued
@@ -6,6 +8,7 @@ mod Gaining
 mod GamesHeld
 pub mod Journals
 mod LinesPut
+pub mod Lasting
 pub mod Loaded
 mod Passed
 mod Picked

@@ -1,5 +1,6 @@
 -- From the lines that the loader took to what was loaded.
-use Rattle.std.proofs.Common.{if◌then◌else◌, ◌≡◌, ℕ, ◌+◌, ◌*◌, ◌^◌, ◌<◌, ◌≤◌, ◌⊎◌, Bool, true, false, not, List, [], ◌∷◌, ◌++◌, length, Result, Ok, Err, All, IsOk, IsTrue, OnOk, IfErr, refl, sym, ap, subst, ◌∙◌, inl, inr, arith}
+use Rattle.std.specs.Prelude.{IsErr}
+use Rattle.std.proofs.Common.{if◌then◌else◌, ◌≡◌, ◌≢◌, ℕ, ◌+◌, ◌*◌, ◌^◌, ◌<◌, ◌≤◌, ◌⊎◌, Bool, true, false, not, List, [], ◌∷◌, ◌++◌, length, Result, Ok, Err, All, IsOk, IsTrue, OnOk, IfErr, refl, sym, ap, subst, ◌∙◌, inl, inr, arith}
 use Rattle.std.specs.Borrow.{MutBor}
 use Rattle.std.proofs.lemmas.List.Elements.{All-cons, All-nil}
 use Rattle.std.proofs.lemmas.List.{length_push}
@@ -10,7 +11,7 @@ use Rattle.pb_board.proofs.LineEnds.{cases_return}
 use Rattle.pb_io.specs.Source.{SourceState}
 use Rattle.pb_io.specs.Lines.{ended_lines, line_limit, lines}
 use Rattle.pb_io.specs.Reads.{chunk_len}
-use Rattle.pb_io.specs.LineTask.{AtLine, ReadUntil, StopsAtLast, TakesAll, TakesStream, TakesUntil}
+use Rattle.pb_io.specs.LineTask.{AtEnd, AtLine, ReadUntil, StopsAtLast, TakesAll, TakesStream, TakesUntil}
 use Rattle.pb_io.specs.declared.fault.ReadFault.{ReadFault}
 use Rattle.pb_io.specs.declared.fault.ReadFault.TheVariants as fault
 use Rattle.pb_io.proofs.EndLemmas.{AtEnd-weaker, AtFault-weaker, AtLine-weaker, AtNoEnd-weaker}
@@ -19,6 +20,7 @@ use Rattle.pb_games.specs.declared.refusal.Refusal.{Refusal}
 use Rattle.pb_games.specs.declared.refusal.Refusal.TheVariants as refusal
 use Rattle.pb_accepted.specs.Accepting.{Answer, Run, Step}
 use Rattle.pb_accepted.specs.Ledger.{LedgerState}
+use Rattle.pb_accepted.proofs.Runs.{HaveOwnIds-nil}
 use Rattle.pb_accepted.proofs.Steps.{refusal_step, step_to}
 use Rattle.pb_ledger.specs.declared.loading.Loader.{Loader}
 use Rattle.pb_ledger.specs.declared.loading.LoadError.{LoadError}
@@ -26,7 +28,10 @@ use Rattle.pb_ledger.specs.declared.loading.LoadError.TheVariants as error
 use Rattle.pb_ledger.specs.Lending.{SameLedger}
 use Rattle.pb_ledger.specs.Loader.{Judged, Submits, LoadsLine, header, load_error, error_at, with_line, submission}
 use Rattle.pb_ledger.specs.Saving as saving
-use Rattle.pb_ledger.specs.Loading.{EndsAtLine, Loads, LoadsAll, LoadsButOne, LoadsUntil, WantsMemory, has_header, is_header, submission_lines}
+use Rattle.pb_ledger.specs.Making.{Makes, Wants}
+use Rattle.pb_ledger.specs.Loading.{Breaks, Loads, LoadsUntil, has_header, is_header, submission_lines}
+use Rattle.pb_ledger.proofs.Broken.{not_both, submission_push, unbroken}
+use Rattle.pb_ledger.proofs.Changes.{from_to}
 
 -- ---- one line
 
@@ -182,8 +187,8 @@ module _ {T : Type 0} where
 
   -- lines that were taken, and one more that stopped the loader
   abbrev Stopped : Loader T → Loader T → LoadError → List (List ℕ) → Type 0
-  Stopped s t error.Memory ls = WantsMemory s.ledger.now.cap t.ledger.now.accepted ls
-  Stopped s t (error.Line n) ls = EndsAtLine s.ledger.now.cap n t.ledger.now.accepted ls
+  Stopped s t error.Memory ls = Wants Loads (from_to s.ledger.now t.ledger.now) ls
+  Stopped s t (error.Line n) ls = (n ≡ length ls) × Breaks (from_to s.ledger.now t.ledger.now) ls
   Stopped s t error.Read ls = ⊥
   Stopped s t error.Endless ls = ⊥
 
@@ -193,14 +198,11 @@ module _ {T : Type 0} where
       short : length before < 2 ^ 64
       short = omega (arith, few, ap length are ∙ length_push before line)
 
-      but_one : t.ledger.now.accepted ≡ m.ledger.now.accepted → LoadsButOne s.ledger.now.cap ls t.ledger.now.accepted
-      but_one same = record {
-        before = before;
-        line = line;
-        are = are;
-        loads = subst (λ B. Loads s.ledger.now.cap before B) (sym same) w.loads;
-        no_header = λ none. other (w.lines short ∙ ap length none);
-      }
+      loads_before : t.ledger.now.accepted ≡ m.ledger.now.accepted → Loads s.ledger.now.cap before t.ledger.now.accepted
+      loads_before same = subst (λ B. Loads s.ledger.now.cap before B) (sym same) w.loads
+
+      no_header : before ≡ [] → is_header line ≡ false
+      no_header none = other (w.lines short ∙ ap length none)
 
       -- the same step, from the list as it is afterwards
       step_after : (answer : Answer) → Step m.ledger.now.cap m.ledger.now.accepted line answer t.ledger.now.accepted → t.ledger.now.accepted ≡ m.ledger.now.accepted
@@ -209,28 +211,38 @@ module _ {T : Type 0} where
           subst (λ B. Step s.ledger.now.cap B line answer t.ledger.now.accepted) (sym same)
           (subst (λ most. Step most m.ledger.now.accepted line answer t.ledger.now.accepted) w.keeps.cap h)
 
+      -- with the last line they make nothing
+      breaks : (answer : Answer) → Step s.ledger.now.cap t.ledger.now.accepted line answer t.ledger.now.accepted → answer ≢ Err refusal.Memory
+          → Loads s.ledger.now.cap before t.ledger.now.accepted → IsErr answer ⊎ IsTrue m.is_saved → (C : List Submission) → Loads s.ledger.now.cap ls C → ⊥
+      breaks answer step remembers loads broken C all =
+          let whole : Loads s.ledger.now.cap (before ++ line ∷ []) C = subst (λ (l : List (List ℕ)). Loads s.ledger.now.cap l C) are all in
+          let push = submission_push before line no_header in
+          let so = unbroken s.ledger.now.cap [] t.ledger.now.accepted C (submission_lines before) line loads.answers whole.answers answer HaveOwnIds-nil loads.run loads.taken step remembers
+          (subst (λ l. Run s.ledger.now.cap [] l whole.answers C) push whole.run) whole.taken in
+          elim broken [
+            | inl refused ↦ not_both answer so.0 refused
+            | inr saved ↦
+                let has : IsTrue (has_header before) = subst IsTrue w.saved saved in
+                let fewer = loads.new has in
+                let more = whole.new (subst IsTrue (header_before before line no_header) has) in
+                omega (arith, fewer, more, ap length so.1, ap length push, length_push (submission_lines before) line)
+          ]
+
       stopped_so : (e : LoadError) → Submits (with_line m) line (Err e) t → Stopped s t e ls
-      unfolding but_one
       stopped_so error.Read sub = absurd sub.judged
       stopped_so error.Endless sub = absurd sub.judged
       stopped_so error.Memory sub =
           let answer : sub.answer ≡ Err refusal.Memory = sub.judged in
           let step = subst (λ r. Step m.ledger.now.cap m.ledger.now.accepted line r t.ledger.now.accepted) answer sub.step in
           let same = refusal_step m.ledger.now.cap m.ledger.now.accepted line refusal.Memory t.ledger.now.accepted step in
-          record { but_one = but_one same; wants = step_after (Err refusal.Memory) step same }
+          record { before = before; line = line; are = are; done = (loads_before same, step_after (Err refusal.Memory) step same) }
       stopped_so (error.Line n) sub =
           let judged = sub.judged in
-          let same : t.ledger.now.accepted ≡ m.ledger.now.accepted = judged.2 in record {
-            but_one = but_one same;
-            number = omega (arith, judged.0, w.lines short, short, ap length are ∙ length_push before line);
-            answer = sub.answer;
-            step = step_after sub.answer sub.step same;
-            other = judged.1;
-            breaks = elim judged.3 [
-              | inl refused ↦ inl refused
-              | inr saved ↦ inr (subst IsTrue w.saved saved)
-            ];
-          }
+          let same : t.ledger.now.accepted ≡ m.ledger.now.accepted = judged.2 in
+          let loads = loads_before same in (
+            omega (arith, judged.0, w.lines short, short, ap length are ∙ length_push before line),
+            (record { before = before; line = line; are = are; done = loads }, breaks sub.answer (step_after sub.answer sub.step same) judged.1 loads judged.3),
+          )
 
     stopped_by : (e : LoadError) (before : List (List ℕ)) (line : List ℕ) (m : Loader T) → ls ≡ before ++ line ∷ [] → Whole s m before → LoadsLine m line (Err e) t → Stopped s t e ls × SameLedger s.ledger t.ledger
     stopped_by e before line m are w (header zero is answer same) = let no : Err e ≡ Ok tt = answer in cc
@@ -273,7 +285,7 @@ module _ {T : Type 0} where
     gives fault e = e ≡ load_error fault
 
     abbrev Ends : LoadError → Type 0
-    Ends = LoadsUntil fills old new s.ledger.now t.ledger.now
+    Ends = LoadsUntil fills (from_to old new) (from_to s.ledger.now t.ledger.now)
 
     last_of : (e : LoadError) (ls : List (List ℕ)) → length ls ≤ fills * chunk_len
         → StopsAtLast LoadsLine s ls e t → Stopped s t e ls × SameLedger s.ledger t.ledger
@@ -306,7 +318,7 @@ module _ {T : Type 0} where
     pub ends_of : (result : Result (Unit {0}) LoadError)
         → OnOk result (TakesStream LoadsLine fills old new s t)
         → IfErr result (TakesUntil gives LoadsLine fills old new s t)
-        → OnOk result (LoadsAll fills old new s.ledger.now t.ledger.now)
+        → OnOk result (AtEnd fills old new (Makes Loads (from_to s.ledger.now t.ledger.now)))
         × IfErr result Ends × SameLedger s.ledger t.ledger
     ends_of (Ok x) h k = (
       AtEnd-weaker fills old new _ _ (λ ls few taken. (whole s fresh t ls taken).loads) h,

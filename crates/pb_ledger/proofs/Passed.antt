@@ -12,6 +12,7 @@ use Rattle.pb_io.proofs.LineLemmas.{is_line_feed}
 use Rattle.pb_accepted.specs.Ledger.{LedgerState}
 use Rattle.pb_ledger.specs.Ending.{before, feeds, through}
 use Rattle.pb_ledger.specs.Loading.{LoadsUntil}
+use Rattle.pb_ledger.proofs.Changes.{from_to}
 use Rattle.pb_ledger.specs.declared.loading.LoadError.{LoadError}
 use Rattle.pb_ledger.specs.declared.loading.LoadError.TheVariants.{Line, Read, Endless, Memory}
 
@@ -112,7 +113,7 @@ module _ (name name' count : ℕ) (source source' : SourceState) where
     unmoved : New ≡ Old → source' ≡ source
     unmoved same = ap (λ (s : SourceState). record s { handed = drop 2 s.handed }) same
 
-    pub until_of : (old new : LedgerState) (e : LoadError) → LoadsUntil fills Old New old new e → LoadsUntil fills source source' old new e
+    pub until_of : (old new : LedgerState) (e : LoadError) → LoadsUntil fills (from_to Old New) (from_to old new) e → LoadsUntil fills (from_to source source') (from_to old new) e
     until_of old new (Line n) h = line_of _ h
     until_of old new Read h = record { came = h.came; reads = fault_of chunk_len fills h.came h.reads; done = h.done }
     until_of old new Endless h = record { came = h.came; reads = on_of chunk_len fills h.came h.reads; done = h.done }
@@ -124,7 +125,7 @@ module _ (name name' count : ℕ) (source source' : SourceState) where
     line_same P (inl h) = (passed (h.came ++ h.reads.0) h.reads.1.reads.handed).same
     line_same P (inr h) = (passed h.came h.reads.some.reads.handed).same
 
-    pub until_same : (old new : LedgerState) (e : LoadError) → LoadsUntil fills Old New old new e → name' ≡ name
+    pub until_same : (old new : LedgerState) (e : LoadError) → LoadsUntil fills (from_to Old New) (from_to old new) e → name' ≡ name
     until_same old new (Line n) h = line_same _ h
     until_same old new Read h = (passed h.came h.reads.reads.handed).same
     until_same old new Endless h = (passed h.came h.reads.reads.handed).same

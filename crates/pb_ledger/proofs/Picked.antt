@@ -17,7 +17,9 @@ use Rattle.pb_io.specs.declared.fault.ReadFault.{ReadFault}
 use Rattle.pb_io.specs.declared.fault.ReadFault.TheVariants as read
 use Rattle.pb_io.proofs.EndLemmas.{AtEndedLine-weaker, AtFault-weaker, AtNoEnd-weaker}
 use Rattle.pb_io.proofs.FlushLemmas.{AwaitsFlush-put, AwaitsFlush-trans, not_flushed}
-use Rattle.pb_ledger.specs.Games.{Picks, PicksAll, PicksButOne, PicksEnded, PicksUntil, has_shape, text_of_games}
+use Rattle.pb_ledger.specs.Streams.{Puts}
+use Rattle.pb_ledger.specs.Games.{PicksAll, PicksButOne, PicksUntil, has_shape, text_of_games}
+use Rattle.pb_ledger.proofs.Changes.{from_to}
 use Rattle.pb_ledger.specs.Picker.{PicksLine, PutsAll, passed, put}
 use Rattle.pb_ledger.specs.declared.games.Picker.{Picker}
 
@@ -35,7 +37,7 @@ module _ {K W : Type 0} (state : K → SinkState) where
 
   -- lines that were taken
   pub record Taken (s t : Picker K W) (ls : List (List ℕ)) : Type 0 where
-    pub picks : Picks (Sink s) (Sink t) ls
+    pub picks : Puts (from_to (Sink s) (Sink t)) (text_of_games ls)
     pub awaits : AwaitsFlush (Sink s) (Sink t)
     pub lent : t.sink.ghost_name ≡ s.sink.ghost_name
 
@@ -62,7 +64,7 @@ module _ {K W : Type 0} (state : K → SinkState) where
   -- a line that stopped the picker
   pub record Stopped (s t : Picker K W) (ls : List (List ℕ)) (e : Fault) : Type 0 where
     pub is : e ≡ fault.Write
-    pub picks : PicksButOne (Sink s) (Sink t) ls
+    pub picks : PicksButOne (from_to (Sink s) (Sink t)) ls
     pub fails : (Sink t).failed ≡ true
     pub flushes : (Sink t).flushes ≡ (Sink s).flushes
     pub lent : t.sink.ghost_name ≡ s.sink.ghost_name
@@ -71,7 +73,7 @@ module _ {K W : Type 0} (state : K → SinkState) where
       → PicksLine state m line (Err e) t → Stopped s t ls e
   stopped_by s m t before line ls e are first (put shape one stops lent) = record {
     is = stops;
-    picks = record { before = before; line = line; are = are; shape = shape; count = one.front.0; put = Appends-trans _ _ _ _ _ first.picks one.front.1 };
+    picks = record { before = before; line = line; are = are; done = (shape, one.front.0, Appends-trans _ _ _ _ _ first.picks one.front.1) };
     fails = one.failed;
     flushes = one.flushes ∙ not_flushed (Sink s) (Sink m) first.awaits;
     lent = lent ∙ first.lent;
@@ -85,7 +87,7 @@ module _ {K W : Type 0} (state : K → SinkState) where
 
   module _ (fills : ℕ) (old new : SourceState) (s t : Picker K W) where
     abbrev Ends : Fault → Type 0
-    Ends e = PicksUntil fills old new (Sink s) (Sink t) e × (t.sink.ghost_name ≡ s.sink.ghost_name)
+    Ends e = PicksUntil fills (from_to old new) (from_to (Sink s) (Sink t)) e × (t.sink.ghost_name ≡ s.sink.ghost_name)
 
     -- by a fault of reading
     unread : (e : ReadFault) → ReadUntil (PicksLine state) fills old new s t e → Ends (fault_of_read e)
@@ -103,31 +105,33 @@ module _ {K W : Type 0} (state : K → SinkState) where
     until e (inr k) =
         let last = stopped s t (ended_lines k.came) e k.done in
         let at_line = AtEndedLine-weaker fills old new _ _ (λ ls few h. (stopped s t ls e h).picks) k in
-        subst Ends (sym last.is) ((inl at_line, last.fails, last.flushes), last.lent)
+        subst Ends (sym last.is) ((inl at_line, (last.fails, last.flushes)), last.lent)
 
     -- to its end
     pub put_all : (torn : Bool) → TakesEnded (PicksLine state) fills old new s t torn
-        → PutsAll fills old new (Sink s) (Sink t) torn × (t.sink.ghost_name ≡ s.sink.ghost_name)
+        → PutsAll fills (from_to old new) (from_to (Sink s) (Sink t)) torn × (t.sink.ghost_name ≡ s.sink.ghost_name)
     put_all torn h =
         let all = taken s t (ended_lines h.came) h.taken in
-        ((record { came = h.came; reads = h.reads; done = all.picks }, h.left, all.awaits), all.lent)
+        ((record { came = h.came; reads = h.reads; done = (all.picks, h.left) }, all.awaits), all.lent)
 
     -- how the call ends
     pub ends_of : (result : Result Bool Fault) → IfOk result (TakesEnded (PicksLine state) fills old new s t)
         → IfErr result (TakesEndedUntil (λ read gives. gives ≡ fault_of_read read) (PicksLine state) fills old new s t)
-        → IfOk result (PutsAll fills old new (Sink s) (Sink t)) × IfErr result (PicksUntil fills old new (Sink s) (Sink t))
+        → IfOk result (PutsAll fills (from_to old new) (from_to (Sink s) (Sink t))) × IfErr result (PicksUntil fills (from_to old new) (from_to (Sink s) (Sink t)))
         × (t.sink.ghost_name ≡ s.sink.ghost_name)
     ends_of (Ok torn) h k = let all = put_all torn h in (all.0, tt, all.1)
     ends_of (Err e) h k = let ends = until e k in (tt, ends.0, ends.1)
 
 -- and then a flush
-module _ {E : Type 0} (fills : ℕ) (old new : SourceState) (sink mid sink' : SinkState) (torn : Bool) (h : PutsAll fills old new sink mid torn) where
-  ended_then : (answer : Result (Unit {0}) E) → Flush mid sink' answer → PicksEnded fills old new sink sink'
-  ended_then answer flush = record { came = h.0.came; reads = h.0.reads; done = Appends-kept _ _ _ _ h.0.done flush.bytes }
+module _ {E : Type 0} (fills : ℕ) (old new : SourceState) (sink mid sink' : SinkState) (torn : Bool) (h : PutsAll fills (from_to old new) (from_to sink mid) torn) where
+  pub picked : (u : Unit {0}) → Flush {E = E} mid sink' (Ok u) → PicksAll fills (from_to old new) (from_to sink sink') torn
+  picked u flush = (
+    record { came = h.0.came; reads = h.0.reads; done = (Appends-kept _ _ _ _ h.0.done.0 flush.bytes, h.0.done.1) },
+    ((flush.failed, flush.flushed), flush.flushes ∙ ap next_count (not_flushed sink mid h.1)),
+  )
 
-  pub picked : (u : Unit {0}) → Flush {E = E} mid sink' (Ok u) → PicksAll fills old new sink sink' torn
-  unfolding ended_then
-  picked u flush = (ended_then (Ok u) flush, h.1, (flush.failed, flush.flushed), flush.flushes ∙ ap next_count (not_flushed sink mid h.2))
-
-  pub unflushed : (e : E) → Flush mid sink' (Err e) → PicksUntil fills old new sink sink' fault.Write
-  unflushed e flush = (inr (ended_then (Err e) flush), flush.failed, flush.flushes ∙ not_flushed sink mid h.2)
+  pub unflushed : (e : E) → Flush mid sink' (Err e) → PicksUntil fills (from_to old new) (from_to sink sink') fault.Write
+  unflushed e flush = (
+    inr (record { came = h.0.came; reads = h.0.reads; done = Appends-kept _ _ _ _ h.0.done.0 flush.bytes }),
+    (flush.failed, flush.flushes ∙ not_flushed sink mid h.1),
+  )

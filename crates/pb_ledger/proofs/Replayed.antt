@@ -1,13 +1,14 @@
 -- From the lines that the replayer took to what was replayed.
-use Rattle.std.proofs.Common.{◌≡◌, ◌≢◌, ℕ, Bool, List, [], ◌∷◌, Result, Ok, Err, All, IfErr, IfOk, ap, inl, inr, refl, subst, sym}
+use Rattle.std.proofs.Common.{◌≡◌, ◌≢◌, ℕ, Bool, true, false, List, [], ◌∷◌, Result, Ok, Err, All, IfErr, IfOk, ap, inl, inr, refl, subst, sym}
 use Rattle.std.proofs.lemmas.List.Elements.{All-cons, All-nil}
 use Rattle.pb_io.specs.Sink.{SinkState}
 use Rattle.pb_io.specs.Source.{SourceState}
-use Rattle.pb_io.specs.Lines.{ended_lines, is_torn}
-use Rattle.pb_io.specs.Reads.{ReadsAll, chunk_len}
+use Rattle.pb_io.specs.Lines.{ended_lines}
 use Rattle.pb_io.specs.LineTask.{ReadUntil, StopsAtLast, TakesAll, TakesEnded, TakesEndedUntil}
+use Rattle.pb_io.specs.Writes.{Writes}
 use Rattle.pb_io.specs.Fault.{fault_of_read}
 use Rattle.pb_io.specs.declared.fault.Fault.{Fault}
+use Rattle.pb_io.specs.declared.fault.Fault.TheVariants as fault
 use Rattle.pb_io.specs.declared.fault.ReadFault.{ReadFault}
 use Rattle.pb_io.specs.declared.fault.ReadFault.TheVariants as read
 use Rattle.pb_io.proofs.EndLemmas.{AtEndedLine-weaker, AtFault-weaker, AtNoEnd-weaker}
@@ -15,19 +16,14 @@ use Rattle.pb_games.specs.declared.refusal.Refusal.TheVariants as refusal
 use Rattle.pb_accepted.specs.Accepting.{Answer, Run, Step}
 use Rattle.pb_accepted.specs.Ledger.{LedgerState}
 use Rattle.pb_accepted.proofs.Steps.{refusal_step}
-use Rattle.pb_ledger.specs.Journal.{Journals, Replays}
+use Rattle.pb_ledger.specs.Journal.{Replays, seal}
+use Rattle.pb_ledger.specs.Making.{Wants}
 use Rattle.pb_ledger.specs.Lending.{SameLedger}
 use Rattle.pb_ledger.specs.declared.replaying.Replayer.{Replayer}
 use Rattle.pb_ledger.specs.Replayer.{ReplaysLine}
-use Rattle.pb_ledger.specs.Replaying.{ReplaysUntil, WantsMemoryFor}
+use Rattle.pb_ledger.specs.Replaying.{HoldsAll, ReplaysAll, ReplaysUntil}
+use Rattle.pb_ledger.proofs.Changes.{from_to}
 use Rattle.pb_ledger.proofs.Loaded.{SameLedger-refl, SameLedger-then}
-
--- all bytes of the journal came, the ledger holds its games, and this is whether its end is torn
-pub record HoldsGames (fills : ℕ) (source source' : SourceState) (old new : LedgerState) (torn : Bool) : Type 0 where
-  pub came : List ℕ
-  pub reads : ReadsAll chunk_len fills source source' came
-  pub holds : Journals old.cap came new.accepted
-  pub left : torn ≡ is_torn came
 
 module _ {T W : Type 0} where
   -- lines that were submitted, none of them refused for want of memory
@@ -65,7 +61,7 @@ module _ {T W : Type 0} where
 
   -- the line that stopped the replayer brings a new game, and no memory was left for it
   module _ (s t : Replayer T W) (fresh : s.ledger.now.accepted ≡ []) (ls : List (List ℕ)) (e : Fault) (h : StopsAtLast ReplaysLine s ls e t) where
-    stopped : WantsMemoryFor s.ledger.now.cap t.ledger.now.accepted ls
+    stopped : Wants Replays (from_to s.ledger.now t.ledger.now) ls
     stopped =
         let m = h.2 in
         let line = h.1 in
@@ -77,8 +73,10 @@ module _ {T W : Type 0} where
           before = h.0;
           line = line;
           are = h.3;
-          replays = subst (λ B. Replays s.ledger.now.cap h.0 B) (sym same) (replayed s m fresh h.0 h.4);
-          wants = subst (λ B. Step s.ledger.now.cap B line (Err refusal.Memory) t.ledger.now.accepted) (sym same) here;
+          done = (
+            subst (λ B. Replays s.ledger.now.cap h.0 B) (sym same) (replayed s m fresh h.0 h.4),
+            subst (λ B. Step s.ledger.now.cap B line (Err refusal.Memory) t.ledger.now.accepted) (sym same) here,
+          );
         }
 
     stopped_keeps : SameLedger s.ledger t.ledger
@@ -88,10 +86,10 @@ module _ {T W : Type 0} where
 
   module _ (fills : ℕ) (old new : SourceState) (s t : Replayer T W) (fresh : s.ledger.now.accepted ≡ []) where
     abbrev gives : ReadFault → Fault → Type 0
-    gives read fault = fault ≡ fault_of_read read
+    gives read e = e ≡ fault_of_read read
 
     abbrev Ends : Fault → Type 0
-    Ends fault = (j : SinkState) → ReplaysUntil fills old new j j s.ledger.now t.ledger.now fault
+    Ends e = (j : SinkState) → ReplaysUntil fills (from_to old new) (from_to j j) (from_to s.ledger.now t.ledger.now) e
 
     -- by a fault of reading
     unread : (read : ReadFault) → ReadUntil ReplaysLine fills old new s t read
@@ -113,17 +111,52 @@ module _ {T W : Type 0} where
     pub ends_of : (result : Result Bool Fault)
         → IfOk result (TakesEnded ReplaysLine fills old new s t)
         → IfErr result (TakesEndedUntil gives ReplaysLine fills old new s t)
-        → IfOk result (HoldsGames fills old new s.ledger.now t.ledger.now)
+        → IfOk result (HoldsAll fills (from_to old new) (from_to s.ledger.now t.ledger.now))
         × IfErr result Ends × SameLedger s.ledger t.ledger
     ends_of (Ok torn) h k =
         let all = taken s t (ended_lines h.came) h.taken in
         let holds = replayed s t fresh (ended_lines h.came) h.taken in
-        (record { came = h.came; reads = h.reads; holds = holds; left = h.left }, tt, all.keeps)
-    ends_of (Err fault) h (inl k) =
+        (record { came = h.came; reads = h.reads; done = (holds, h.left) }, tt, all.keeps)
+    ends_of (Err e) h (inl k) =
         let ends = unread k.0 k.2 in (tt, subst Ends (sym k.1) ends.0, ends.1)
-    ends_of (Err fault) h (inr k) =
-        let wants = AtEndedLine-weaker fills old new _ _ (λ ls few. stopped s t fresh ls fault) k in (
+    ends_of (Err e) h (inr k) =
+        let wants = AtEndedLine-weaker fills old new _ _ (λ ls few. stopped s t fresh ls e) k in (
           tt,
           subst Ends (sym k.done.5.stops.1) (λ j. (inr wants, refl)),
-          stopped_keeps s t fresh (ended_lines k.came) fault k.done,
+          stopped_keeps s t fresh (ended_lines k.came) e k.done,
         )
+
+-- ---- the end of the journal
+
+module _ (fills : ℕ) (source source' : SourceState) (ledger ledger' : LedgerState) (torn : Bool) (holds : HoldsAll fills (from_to source source') (from_to ledger ledger') torn) where
+  -- it isn't torn
+  pub stays : (journal : SinkState) → torn ≡ false → ReplaysAll fills (from_to source source') (from_to journal journal) (from_to ledger ledger')
+  stays journal whole = inl (subst (HoldsAll fills (from_to source source') (from_to ledger ledger')) whole holds, refl)
+
+  -- it was sealed
+  pub seals : {E : Type 0} (journal journal' : SinkState) (u : Unit {0}) → torn ≡ true → Writes {E = E} journal journal' (Ok u) seal
+      → ReplaysAll fills (from_to source source') (from_to journal journal') (from_to ledger ledger')
+  seals journal journal' u is h = inr (subst (HoldsAll fills (from_to source source') (from_to ledger ledger')) is holds, record {
+    all = h.all;
+    front = h.front;
+    failed = h.failed;
+    stays_failed = h.stays_failed;
+    lasts = h.lasts;
+    all_lasts = h.all_lasts;
+    flushed = h.flushed;
+    flushes = h.flushes;
+  })
+
+  -- it couldn't be sealed
+  pub seals_not : {E : Type 0} (journal journal' : SinkState) (e : E) → torn ≡ true → Writes journal journal' (Err e) seal
+      → ReplaysUntil fills (from_to source source') (from_to journal journal') (from_to ledger ledger') fault.Write
+  seals_not journal journal' e is h = (subst (HoldsAll fills (from_to source source') (from_to ledger ledger')) is holds, record {
+    all = h.all;
+    front = h.front;
+    failed = h.failed;
+    stays_failed = h.stays_failed;
+    lasts = h.lasts;
+    all_lasts = h.all_lasts;
+    flushed = h.flushed;
+    flushes = h.flushes;
+  })

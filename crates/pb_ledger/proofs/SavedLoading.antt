@@ -3,11 +3,12 @@ use Rattle.std.proofs.Common.{◌≡◌, ◌≢◌, ◌∙◌, ℕ, ◌+◌, ◌
 use Rattle.std.specs.List.{flat_map}
 use Rattle.std.proofs.Math.Seq.{get_or-append_seam}
 use Rattle.std.proofs.lemmas.Bool.{eqb-true, false_from_ne_true}
-use Rattle.std.proofs.lemmas.List.{get_or_append_left, get_or_default, length-append, length-map, length_push}
-use Rattle.std.proofs.lemmas.List.Elements.{All-cons, All-from_recursion, All-head, All-map, All-nil, All-tail, All-weaker}
+use Rattle.std.proofs.lemmas.List.{get_or_append_left, get_or_default, length-append, length-map, length_push, map-append}
+use Rattle.std.proofs.lemmas.List.Elements.{All-append, All-cons, All-from_recursion, All-head, All-map, All-nil, All-tail, All-weaker}
 use Rattle.pb_board.specs.LineEnd.{with_end}
 use Rattle.pb_io.specs.Source.{SourceState}
 use Rattle.pb_io.specs.Lines.{ended_lines, lines}
+use Rattle.pb_io.specs.LineTask.{AtEnd}
 use Rattle.pb_io.specs.Reads.{chunk_len}
 use Rattle.pb_io.proofs.LineLemmas.{IsQuiet, is_line_feed, lines-begin, lines-ended}
 use Rattle.pb_poly.specs.Reading.{Tells}
@@ -22,14 +23,11 @@ use Rattle.pb_accepted.specs.Ledger.{LedgerState}
 use Rattle.pb_accepted.proofs.Replies.{id_of, one_submission}
 use Rattle.pb_accepted.proofs.Steps.{one_step, step_to}
 use Rattle.pb_ledger.specs.Saving.{Saved, header}
-use Rattle.pb_ledger.specs.Loading.{EndsAtLine, Loads, LoadsStream, LoadsUntil, is_header}
+use Rattle.pb_ledger.specs.Making.{Makes}
+use Rattle.pb_ledger.specs.Loading.{Breaks, Loads, LoadsUntil, is_header}
+use Rattle.pb_ledger.proofs.Changes.{from_to}
 use Rattle.pb_ledger.specs.declared.loading.LoadError.{LoadError}
 use Rattle.pb_ledger.specs.declared.loading.LoadError.TheVariants.{Line, Read, Endless, Memory}
-
--- ---- no submission has two saved forms
-
-pub saved_is_one : (A : List Submission) (a b : List ℕ) → Saved A a → Saved A b → a ≡ b
-saved_is_one A a b h k = h ∙ sym k
 
 -- ---- the lines of a saved form
 
@@ -150,14 +148,18 @@ cut_at (s ∷ S) (x ∷ xs) ys y games is =
       here = rest.here;
     }
 
+-- a header and the texts of submissions make these
+pub loads_texts : (cap : ℕ) (S : List Submission) → All IsSubmission S → HaveOwnIds S → length S ≤ cap → Loads cap (header ∷ texts_of S) S
+loads_texts cap S games own room = by (given cap [] S games own (omega (arith, room)))
+  where
+    by : Given cap [] S (texts_of S) → Loads cap (header ∷ texts_of S) S
+    by h = record { answers = h.answers; run = h.run; taken = h.taken; new = λ _. sym (length-map S submission_text) }
+
 -- ---- what is loaded of a saved form
 
 module _ (cap : ℕ) (A : List Submission) (bytes : List ℕ) (games : All IsSubmission A) (own : HaveOwnIds A) (room : length A ≤ cap) (saved : Saved A bytes) where
   pub loads_saved : Loads cap (lines bytes) A
-  loads_saved = subst (λ (xs : List (List ℕ)). Loads cap xs A) (sym (lines_of_saved A bytes games saved)) (by (given cap [] A games own (omega (arith, room))))
-    where
-      by : Given cap [] A (texts_of A) → Loads cap (header ∷ texts_of A) A
-      by h = record { answers = h.answers; run = h.run; taken = h.taken; new = λ _. sym (length-map A submission_text) }
+  loads_saved = subst (λ (xs : List (List ℕ)). Loads cap xs A) (sym (lines_of_saved A bytes games saved)) (loads_texts cap A games own room)
 
   pub loads_only : (B : List Submission) → Loads cap (lines bytes) B → B ≡ A
   loads_only B h = by (subst (λ (xs : List (List ℕ)). Loads cap xs B) (lines_of_saved A bytes games saved) h)
@@ -167,47 +169,46 @@ module _ (cap : ℕ) (A : List Submission) (bytes : List ℕ) (games : All IsSub
 
   -- ---- no line of it breaks the loading
 
-  no_break : (n : ℕ) (B : List Submission) (ls later : List (List ℕ)) → EndsAtLine cap n B ls → lines bytes ≡ ls ++ later → ⊥
-  no_break n B ls later h is = by h.but_one.before refl (sym (lines_of_saved A bytes games saved) ∙ is ∙ ap (λ (xs : List (List ℕ)). xs ++ later) h.but_one.are ∙ append_assoc h.but_one.before (h.but_one.line ∷ []) later)
-    where
-      next : (before : List (List ℕ)) → h.but_one.before ≡ header ∷ before → Cut A before h.but_one.line → ⊥
-      next before is cut =
-          let own_front : HaveOwnIds (cut.front ++ cut.this ∷ cut.back) = subst HaveOwnIds cut.are own in
-          let own_first = HaveOwnIds-front cut.front (cut.this ∷ cut.back) own_front in
-          let long : length A ≡ length (cut.front ++ cut.this ∷ cut.back) = ap length cut.are in
-          let loads : Loads cap (header ∷ before) B = subst (λ (xs : List (List ℕ)). Loads cap xs B) is h.but_one.loads in
-          let same : B ≡ cut.front = only cap [] cut.front B loads.answers cut.games own_first loads.taken (subst (λ (ts : List (List ℕ)). Run cap [] ts loads.answers B) cut.before loads.run) in
-          let law = subst (λ l. IsLawful l cut.this) (sym cut.here) (lawful_text cut.this cut.lawful) in
-          let fresh = new_after cut.front cut.back cut.this own_front in
-          let room_for : length cut.front < cap = omega (arith, room, long, length-append cut.front (cut.this ∷ cut.back)) in
-          let due : Step cap cut.front h.but_one.line (Ok (length cut.front + 1)) (cut.front ++ cut.this ∷ []) = steps.new cut.this law fresh room_for refl refl in
-          let made = subst (λ S. Step cap S h.but_one.line h.answer S) same h.step in
-          let one = one_step cap cut.front h.but_one.line h.answer (Ok (length cut.front + 1)) cut.front (cut.front ++ cut.this ∷ []) own_first made due h.other (λ q. (cc)) in
-          absurd (omega (arith, ap length one.1, length_push cut.front cut.this))
+  -- the first lines of it make the first submissions
+  loads_first : (before later : List (List ℕ)) (line : List ℕ) → header ∷ texts_of A ≡ before ++ line ∷ later → (B : List Submission) × Loads cap (before ++ line ∷ []) B
+  loads_first [] later line are =
+      let same : header ≡ line = cc in
+      ([], subst (λ l. Loads cap (l ∷ []) []) same (record { answers = []; run = refl; taken = All-nil IsOk; new = λ _. refl }))
+  loads_first (x ∷ before) later line are =
+      let head : header ≡ x = cc in
+      let tail : texts_of A ≡ before ++ line ∷ later = cc in
+      let cut = cut_at A before later line games tail in
+      let front : List Submission = cut.front ++ cut.this ∷ [] in
+      let whole : A ≡ front ++ cut.back = cut.are ∙ sym (append_assoc cut.front (cut.this ∷ []) cut.back) in
+      let games_first : All IsSubmission front = All-append IsSubmission cut.front (cut.this ∷ []) cut.games (All-cons IsSubmission cut.this [] cut.lawful (All-nil IsSubmission)) in
+      let own_first = HaveOwnIds-front front cut.back (subst HaveOwnIds whole own) in
+      let long : length A ≡ length (front ++ cut.back) = ap length whole in
+      let loads = loads_texts cap front games_first own_first (omega (arith, room, long, length-append front cut.back)) in
+      let texts : texts_of front ≡ before ++ line ∷ [] =
+      map-append submission_text cut.front (cut.this ∷ []) ∙ ap (λ ts. ts ++ submission_text cut.this ∷ []) (sym cut.before) ∙ ap (λ t. before ++ t ∷ []) (sym cut.here) in
+      (front, subst (λ h. Loads cap (h ∷ before ++ line ∷ []) front) head (subst (λ ts. Loads cap (header ∷ ts) front) texts loads))
 
-      by : (before : List (List ℕ)) → h.but_one.before ≡ before → header ∷ texts_of A ≡ before ++ h.but_one.line ∷ later → ⊥
-      by [] none are = let line : header ≡ h.but_one.line = cc in let no : false ≡ true = sym (h.but_one.no_header none) ∙ sym (ap is_header line) ∙ header_is in cc
-      by (x ∷ before) is are =
-          let head : x ≡ header = cc in
-          let tail : texts_of A ≡ before ++ h.but_one.line ∷ later = cc in
-          next before (is ∙ ap (λ (y : List ℕ). y ∷ before) head) (cut_at A before later h.but_one.line games tail)
+  no_break : (ledger ledger' : LedgerState) (ls later : List (List ℕ)) → ledger.cap ≡ cap → Breaks (from_to ledger ledger') ls → lines bytes ≡ ls ++ later → ⊥
+  no_break ledger ledger' ls later fits h is =
+      let last = h.0 in
+      let loads = loads_first last.before later last.line
+      (sym (lines_of_saved A bytes games saved) ∙ is ∙ ap (λ (xs : List (List ℕ)). xs ++ later) last.are ∙ append_assoc last.before (last.line ∷ []) later) in
+      h.1 loads.0 (subst (λ c. Loads c ls loads.0) (sym fits) (subst (λ xs. Loads cap xs loads.0) (sym last.are) loads.1))
 
   module _ (fills : ℕ) (source source' : SourceState) (tells : Tells fills source source' bytes) (old new : LedgerState) (fits : old.cap ≡ cap) where
-    pub only_memory : (e : LoadError) → LoadsUntil fills source source' old new e → e ≡ Memory
+    pub only_memory : (e : LoadError) → LoadsUntil fills (from_to source source') (from_to old new) e → e ≡ Memory
     only_memory Memory h = refl
     only_memory Read h = absurd (no_fault chunk_len fills source source' bytes tells h.came h.reads)
     only_memory Endless h = absurd (no_endless chunk_len fills source source' bytes tells h.came h.reads)
     only_memory (Line n) (inl h) =
         let told = came_first chunk_len fills source source' bytes tells.told (h.came ++ h.reads.0) h.reads.1.reads in
         let begins = lines-begin h.came (h.reads.0 ++ told.0) in
-        absurd (no_break n new.accepted (ended_lines h.came) begins.0 (subst (λ c. EndsAtLine c n new.accepted (ended_lines h.came)) fits h.done)
-        (ap lines (told.1 ∙ append_assoc h.came h.reads.0 told.0) ∙ begins.1))
+        absurd (no_break old new (ended_lines h.came) begins.0 fits h.done.1 (ap lines (told.1 ∙ append_assoc h.came h.reads.0 told.0) ∙ begins.1))
     only_memory (Line n) (inr h) =
         let told = all_came chunk_len fills source source' bytes tells.told h.came h.reads in
-        absurd (no_break n new.accepted (lines h.came) [] (subst (λ c. EndsAtLine c n new.accepted (lines h.came)) fits h.done) (ap lines told ∙ sym (append-nil (lines h.came))))
+        absurd (no_break old new (lines h.came) [] fits h.done.1 (ap lines told ∙ sym (append-nil (lines h.came))))
 
-    pub loaded_whole : (n : ℕ) → LoadsStream fills source source' old new n → (n ≡ length A) × (new.accepted ≡ A)
-    loaded_whole n h =
-        let told = all_came chunk_len fills source source' bytes tells.told h.0.came h.0.reads in
-        let same = loads_only new.accepted (subst (λ (xs : List (List ℕ)). Loads cap xs new.accepted) (ap lines (sym told)) (subst (λ c. Loads c (lines h.0.came) new.accepted) fits h.0.done)) in
-        (h.1 ∙ ap length same, same)
+    pub loaded_whole : AtEnd fills source source' (Makes Loads (from_to old new)) → new.accepted ≡ A
+    loaded_whole h =
+        let told = all_came chunk_len fills source source' bytes tells.told h.came h.reads in
+        loads_only new.accepted (subst (λ (xs : List (List ℕ)). Loads cap xs new.accepted) (ap lines (sym told)) (subst (λ c. Loads c (lines h.came) new.accepted) fits h.done))

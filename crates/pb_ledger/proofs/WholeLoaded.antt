@@ -12,13 +12,15 @@ use Rattle.pb_io.proofs.LineLemmas.{length-lines}
 use Rattle.pb_ledger.specs.declared.loading.Loader.{Loader}
 use Rattle.pb_ledger.specs.declared.loading.LoadError.{LoadError}
 use Rattle.pb_ledger.specs.declared.loading.LoadError.TheVariants.{Line, Read, Endless, Memory}
-use Rattle.pb_ledger.specs.declared.whole.NotWhole.TheVariants.{Cut, Load}
+use Rattle.pb_ledger.specs.declared.whole.NotWhole.TheVariants.{Cut}
 use Rattle.pb_ledger.specs.Ending.{feeds, through}
 use Rattle.pb_ledger.specs.Lending.{SameLedger}
-use Rattle.pb_ledger.specs.Loader.{LoadsLine, load_error}
-use Rattle.pb_ledger.specs.Loading.{LoadsUntil, has_header}
-use Rattle.pb_ledger.specs.Whole.{CutAt, LoadsBytes, LoadsCut, LoadsWholeUntil, TellsCut, is_cut, load_error_of, not_whole_by}
-use Rattle.pb_ledger.proofs.Loaded.{IsFresh, LastLine, Whole, last_line, whole}
+use Rattle.pb_ledger.specs.Loader.{LoadsLine, load_error, not_whole_by}
+use Rattle.pb_ledger.specs.Streams.{AllCame}
+use Rattle.pb_ledger.specs.Loading.{Breaks, LoadsUntil, has_header}
+use Rattle.pb_ledger.specs.Whole.{LoadsWhole, LoadsWholeUntil, is_cut, load_error_of}
+use Rattle.pb_ledger.proofs.Changes.{from_to}
+use Rattle.pb_ledger.proofs.Loaded.{IsFresh, LastLine, Whole, last_line, stopped, whole}
 use Rattle.pb_poly.specs.Reading.{Tells}
 use Rattle.pb_poly.proofs.ToldReads.{all_came}
 use Rattle.pb_games.specs.Submissions.{IsSubmission, Submission}
@@ -32,29 +34,16 @@ torn_of : (a b : Bool) → (a && b) ≡ true → b ≡ true
 torn_of true b h = h
 torn_of false b h = let no : false ≡ true = h in cc
 
--- ---- what is told of a cut
+-- all bytes came, and the stream was cut at its last line, the n-th from 1
+abbrev pub CutAt : ℕ → SourceState → SourceState → ℕ → Type 0
+CutAt fills source source' n = AllCame fills (from_to source source') (λ bytes. (is_cut bytes ≡ true) × (n ≡ length (lines bytes)))
 
-module _ (fills : ℕ) (source source' : SourceState) where
-  tells_load : (e : LoadError) → ((n : ℕ) → e ≡ Line n → CutAt fills source source' n → ⊥) → TellsCut fills source source' (Err (Load e))
-  tells_load e whole = record {
-    so = λ n (is : Err (Load e) ≡ Err (Cut n)). absurd (cc);
-    no_line = λ n k (is : Err (Load e) ≡ Err (Load (Line n))). let same : e ≡ Line n = cc in whole n same k;
-  }
+-- and what its lines made
+abbrev pub CutSo : ℕ → SourceState → SourceState → LedgerState → LedgerState → ℕ → Type 0
+CutSo fills source source' old new n = LoadsWholeUntil fills (from_to source source') (from_to old new) (Cut n)
 
-  pub cut_of : (cap : ℕ) (B : List Submission) (n : ℕ) → LoadsCut cap fills source source' B n → CutAt fills source source' n
-  cut_of cap B n h = record { came = h.came; reads = h.reads; cut = h.cut; number = h.number }
-
-  pub tells_cut : (n : ℕ) → CutAt fills source source' n → TellsCut fills source source' (Err (Cut n))
-  tells_cut n at = record {
-    so = λ m (is : Err (Cut n) ≡ Err (Cut m)). let same : n ≡ m = cc in subst (λ k. CutAt fills source source' k) same at;
-    no_line = λ m k (is : Err (Cut n) ≡ Err (Load (Line m))). cc;
-  }
-
-  pub tells_none : (n : ℕ) → TellsCut fills source source' (Ok n)
-  tells_none n = record {
-    so = λ m (is : Ok n ≡ Err (Cut m)). absurd (cc);
-    no_line = λ m k (is : Ok n ≡ Err (Load (Line m))). cc;
-  }
+pub cut_of : (fills : ℕ) (source source' : SourceState) (old new : LedgerState) (n : ℕ) → CutSo fills source source' old new n → CutAt fills source source' n
+cut_of fills source source' old new n h = record { came = h.came; reads = h.reads; done = (h.done.0, h.done.1) }
 
 -- it stands for the error of loading
 pub stands_for : (e : LoadError) (is_cut : Bool) → load_error_of (not_whole_by e is_cut) ≡ e
@@ -116,21 +105,18 @@ module _ {T : Type 0} (fills name name' count : ℕ) (source source' : SourceSta
     numbered : t.lines ≡ length (lines h.came)
     numbered = all.lines (omega (arith, few, small, length-lines h.came))
 
-    pub cut_at : t.is_saved ≡ true → count < t.lines → LoadsCut s.ledger.now.cap fills source source' t.ledger.now.accepted t.lines
+    pub cut_at : t.is_saved ≡ true → count < t.lines → CutSo fills source source' s.ledger.now t.ledger.now t.lines
     cut_at is more = record {
       came = h.came;
       reads = all_of name name' count source source' 65536 fills h.came h.reads;
-      cut = cut_so h.came counted all.saved numbered is more;
-      number = numbered;
-      loads = all.loads;
+      done = (cut_so h.came counted all.saved numbered is more, numbered, inl all.loads);
     }
 
-    pub loads_bytes : (t.is_saved ≡ false) ⊎ (t.lines ≤ count) → LoadsBytes s.ledger.now.cap fills source source' t.ledger.now.accepted
+    pub loads_bytes : (t.is_saved ≡ false) ⊎ (t.lines ≤ count) → LoadsWhole fills (from_to source source') (from_to s.ledger.now t.ledger.now)
     loads_bytes is = record {
       came = h.came;
       reads = all_of name name' count source source' 65536 fills h.came h.reads;
-      whole = whole_so h.came counted all.saved numbered is;
-      loads = all.loads;
+      done = (whole_so h.came counted all.saved numbered is, all.loads);
     }
 
   -- a line stopped the loader
@@ -166,65 +152,67 @@ module _ {T : Type 0} (fills name name' count : ℕ) (source source' : SourceSta
       all_counted : count ≡ feeds h.came
       all_counted = count_is name name' count source source' fills h.came small inside h.reads.some.reads.handed few_came
 
+      few_lines : length (lines h.came) < 2 ^ 64
+      few_lines = omega (arith, few_came, small, length-lines h.came)
+
       last : LastLine n t (lines h.came)
-      last = last_line s t (lines h.came) fresh (omega (arith, few_came, small, length-lines h.came)) n h.done
+      last = last_line s t (lines h.came) fresh few_lines n h.done
+
+      breaks : Breaks (from_to s.ledger.now t.ledger.now) (lines h.came)
+      breaks = (stopped s t (lines h.came) fresh few_lines (Line n) h.done).0.1
 
     pub number_is : AtLine fills Old New Stops → n ≡ t.lines
     number_is (inl h) = (front h).number
     number_is (inr h) = (last h).number
 
-    pub stops_cut : AtLine fills Old New Stops → t.is_saved ≡ true → count < t.lines → CutAt fills source source' t.lines
+    pub stops_cut : AtLine fills Old New Stops → t.is_saved ≡ true → count < t.lines → CutSo fills source source' s.ledger.now t.ledger.now t.lines
     stops_cut (inl h) is more = absurd (omega (arith, more, none_more h, front_counted h))
     stops_cut (inr h) is more = record {
       came = h.came;
       reads = all_of name name' count source source' 65536 fills h.came h.reads;
-      cut = cut_so h.came (all_counted h) (last h).saved (last h).lines is more;
-      number = (last h).lines;
+      done = (cut_so h.came (all_counted h) (last h).saved (last h).lines is more, (last h).lines, inr (breaks h));
     }
 
     pub stops_whole : AtLine fills Old New Stops → (t.is_saved ≡ false) ⊎ (t.lines ≤ count) → CutAt fills source source' t.lines → ⊥
     stops_whole (inl h) is k =
         let same : k.came ≡ h.came ++ h.reads.0 = came_same (h.came ++ h.reads.0) k.came h.reads.1.reads.handed k.reads.some.reads.handed in
-        omega (arith, none_more h, ap feeds same, k.number, lines_torn k.came (torn_of (has_header (lines k.came)) (is_torn k.came) k.cut))
+        omega (arith, none_more h, ap feeds same, k.done.1, lines_torn k.came (torn_of (has_header (lines k.came)) (is_torn k.came) k.done.0))
     stops_whole (inr h) is k =
         let same : k.came ≡ h.came = came_same h.came k.came h.reads.some.reads.handed k.reads.some.reads.handed in
-        let no : true ≡ false = sym k.cut ∙ ap is_cut same ∙ whole_so h.came (all_counted h) (last h).saved (last h).lines is in
+        let no : true ≡ false = sym k.done.0 ∙ ap is_cut same ∙ whole_so h.came (all_counted h) (last h).saved (last h).lines is in
         cc
 
-  -- ---- what is told of a cut, by whether the lines are
+  -- ---- how it ended with an error, by whether the lines are cut
 
   abbrev Until : LoadError → Type 0
   Until = TakesUntil (λ fault e. e ≡ load_error fault) LoadsLine fills Old New s t
 
-  tells_line : (n : ℕ) (is_cut : Bool) → Until (Line n) → is_cut ≡ (t.is_saved && nat_lt count t.lines) → TellsCut fills source source' (Err (not_whole_by (Line n) is_cut))
-  tells_line n true until is =
+  abbrev LoadsSo : LoadError → Type 0
+  LoadsSo = LoadsUntil fills (from_to source source') (from_to s.ledger.now t.ledger.now)
+
+  abbrev WholeSo : LoadError → Bool → Type 0
+  WholeSo e is_cut = LoadsWholeUntil fills (from_to source source') (from_to s.ledger.now t.ledger.now) (not_whole_by e is_cut)
+
+  line_so : (n : ℕ) (is_cut : Bool) → Until (Line n) → LoadsSo (Line n) → is_cut ≡ (t.is_saved && nat_lt count t.lines) → WholeSo (Line n) is_cut
+  line_so n true until loads is =
       let so = is_cut_so t.is_saved count t.lines (sym is) in
       let here = at_line n until in
-      tells_cut fills source source' n (subst (λ k. CutAt fills source source' k) (sym (number_is n here)) (stops_cut n here so.0 so.1))
-  tells_line n false until is =
+      subst (λ k. CutSo fills source source' s.ledger.now t.ledger.now k) (sym (number_is n here)) (stops_cut n here so.0 so.1)
+  line_so n false until loads is =
       let so = is_whole_so t.is_saved count t.lines (sym is) in
       let here = at_line n until in
-      tells_load fills source source' (Line n) (λ m same k.
-      let equal : n ≡ m = cc in stops_whole n here so (subst (λ k. CutAt fills source source' k) (sym equal ∙ number_is n here) k))
+      (loads, λ k. stops_whole n here so (subst (λ m. CutAt fills source source' m) (number_is n here) k))
 
-  pub tells_by : (e : LoadError) (is_cut : Bool) → Until e → is_cut ≡ (t.is_saved && nat_lt count t.lines) → TellsCut fills source source' (Err (not_whole_by e is_cut))
-  tells_by (Line n) is_cut until is = tells_line n is_cut until is
-  tells_by Read is_cut until is = tells_load fills source source' Read (λ n (same : Read ≡ Line n) k. cc)
-  tells_by Endless is_cut until is = tells_load fills source source' Endless (λ n (same : Endless ≡ Line n) k. cc)
-  tells_by Memory is_cut until is = tells_load fills source source' Memory (λ n (same : Memory ≡ Line n) k. cc)
-
--- how it ended with an error
-pub whole_until : (fills : ℕ) (source source' : SourceState) (old new : LedgerState) (e : LoadError) → LoadsUntil fills source source' old new e
-    → LoadsWholeUntil fills source source' old new e
-whole_until fills source source' old new (Line n) h = inl h
-whole_until fills source source' old new Read h = h
-whole_until fills source source' old new Endless h = h
-whole_until fills source source' old new Memory h = h
+  pub until_so : (e : LoadError) (is_cut : Bool) → Until e → LoadsSo e → is_cut ≡ (t.is_saved && nat_lt count t.lines) → WholeSo e is_cut
+  until_so (Line n) is_cut until loads is = line_so n is_cut until loads is
+  until_so Read is_cut until loads is = loads
+  until_so Endless is_cut until loads is = loads
+  until_so Memory is_cut until loads is = loads
 
 -- what was saved isn't cut
 pub saved_not_cut : (fills : ℕ) (source source' : SourceState) (A : List Submission) (bytes : List ℕ) → All IsSubmission A → Saved A bytes
     → Tells fills source source' bytes → (n : ℕ) → CutAt fills source source' n → ⊥
 saved_not_cut fills source source' A bytes games saved tells n h =
     let told = all_came 65536 fills source source' bytes tells.told h.came h.reads in
-    let no : true ≡ false = sym h.cut ∙ ap is_cut (sym told) ∙ saved_is_whole A bytes games saved in
+    let no : true ≡ false = sym h.done.0 ∙ ap is_cut (sym told) ∙ saved_is_whole A bytes games saved in
     cc

@@ -1,12 +1,14 @@
 -- The book of a ledger as the bytes of a file, which are put part by part.
-use Rattle.std.specs.Prelude.{◌≡◌, ℕ, ◌-◌, ◌^◌, min, true, List, length, take, Result, Ok, Err, IfOk}
-use Rattle.std.specs.Io.KnownBytes.{Appends}
+use Rattle.std.specs.Prelude.{◌≡◌, ℕ, ◌-◌, ◌^◌, min, true, List, length, take, Result, Err, IfOk}
+use Rattle.std.specs.Result.{result_map_both}
 use Rattle.pb_io.specs.Sink.{AwaitsFlush, Lasts, SinkState}
 use Rattle.pb_io.specs.Writes.{Writes}
 use Rattle.pb_poly.specs.Book.{BookBytes}
 use Rattle.pb_poly.specs.declared.entry.Entry.{Entry}
 use Rattle.pb_accepted.specs.Counting.{IsBook, counted}
 use Rattle.pb_accepted.specs.Ledger.{LedgerState}
+use Rattle.pb_ledger.specs.Change.{Change, across}
+use Rattle.pb_ledger.specs.Streams.{Puts}
 use Rattle.pb_ledger.specs.declared.booking.WriteFault.{WriteFault}
 use Rattle.pb_ledger.specs.declared.booking.WriteFault.TheVariants as fault
 
@@ -18,23 +20,22 @@ BookText ledger bytes count = (book : List Entry)
     × BookBytes book bytes × (count ≡ min (length book) (2 ^ 64 - 1))
 
 -- These bytes were put, and nothing was handed on.
-pub record PutsOn (old new : SinkState) (bytes : List ℕ) : Type 0 where
-  pub put : Appends old.bytes new.bytes bytes
-  pub awaits : AwaitsFlush old new
+pub record PutsOn (sink : Change SinkState) (bytes : List ℕ) : Type 0 where
+  pub put : Puts sink bytes
+  pub awaits : across AwaitsFlush sink
   -- a sink that had failed still has
-  pub stays_failed : old.failed ≡ true → new.failed ≡ true
-  pub lasts : Lasts old.lasting new.lasting
+  pub stays_failed : sink.old.failed ≡ true → sink.new.failed ≡ true
+  pub lasts : Lasts sink.old.lasting sink.new.lasting
 
 -- What a call does that puts bytes and then flushes once, and may want memory on the way: all of
 -- these bytes were put and then handed on; or the sink has failed, or memory was wanting, and of
 -- these bytes a front was put.
-abbrev pub WritesOrWants : {A : Type 0} → SinkState → SinkState → Result A WriteFault → List ℕ
-    → Type 0
-WritesOrWants old new (Ok done) bytes = Writes {E = WriteFault} old new (Ok tt) bytes
-WritesOrWants old new (Err fault.Write) bytes = Writes old new (Err fault.Write) bytes
-WritesOrWants old new (Err fault.Memory) bytes = (count : ℕ) × PutsOn old new (take count bytes)
+abbrev pub WritesOrWants : {A : Type 0} → Change SinkState → Result A WriteFault → List ℕ → Type 0
+WritesOrWants sink (Err fault.Memory) bytes = (count : ℕ) × PutsOn sink (take count bytes)
+WritesOrWants sink answer bytes =
+    across Writes sink (result_map_both (λ _. tt) (λ e. e) answer) bytes
 
 -- what a call does that writes the book, and answers how many entries it has
-abbrev pub WritesBook : LedgerState → SinkState → SinkState → Result ℕ WriteFault → Type 0
-WritesBook ledger old new answer = (bytes : List ℕ) × (count : ℕ) × BookText ledger bytes count
-    × WritesOrWants old new answer bytes × IfOk answer (λ n. n ≡ count)
+abbrev pub WritesBook : LedgerState → Change SinkState → Result ℕ WriteFault → Type 0
+WritesBook ledger sink answer = (bytes : List ℕ) × (count : ℕ) × BookText ledger bytes count
+    × WritesOrWants sink answer bytes × IfOk answer (λ n. n ≡ count)

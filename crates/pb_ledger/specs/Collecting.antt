@@ -1,17 +1,17 @@
 -- What taking the lines of a stream does to a ledger and a sink, and how it ends.
-use Rattle.std.specs.Prelude.{◌≡◌, ℕ, ◌+◌, ◌⊎◌, true, List, [], ◌∷◌}
+use Rattle.std.specs.Prelude.{◌≡◌, ℕ, ◌+◌, ◌⊎◌, List, [], ◌∷◌}
 use Rattle.std.specs.Prelude.{◌++◌, length, take, count_by, is_err}
-use Rattle.std.specs.Io.KnownBytes.{Appends}
-use Rattle.pb_io.specs.Count.{next_count}
 use Rattle.pb_io.specs.Source.{SourceState}
-use Rattle.pb_io.specs.Sink.{AwaitsFlush, HandedOn, SinkState}
-use Rattle.pb_io.specs.LineTask.{AtEnd, AtFault, AtLine, AtNoEnd, IfTold}
+use Rattle.pb_io.specs.Sink.{AwaitsFlush, SinkState}
+use Rattle.pb_io.specs.LineTask.{AtEnd, AtFault, AtLine, AtNoEnd}
 use Rattle.pb_accepted.specs.Accepting.{Answer, Run}
 use Rattle.pb_accepted.specs.Ledger.{LedgerState}
+use Rattle.pb_accepted.specs.Replies.{replies, reply_line}
+use Rattle.pb_ledger.specs.Change.{Change, IsSame, across}
+use Rattle.pb_ledger.specs.Streams.{AtLast, Fails, HandsOn, Puts}
 use Rattle.pb_ledger.specs.declared.totals.Totals.{Totals}
 use Rattle.pb_io.specs.declared.fault.Fault.{Fault}
 use Rattle.pb_io.specs.declared.fault.Fault.TheVariants.{Read, Write, Endless, Memory}
-use Rattle.pb_accepted.specs.Replies.{replies, reply_line}
 
 -- the answers to these lines lead from one ledger to the other, which has the same basis and cap
 pub record Leads (ledger ledger' : LedgerState) (L : List (List ℕ)) (R : List Answer) : Type 0 where
@@ -19,64 +19,45 @@ pub record Leads (ledger ledger' : LedgerState) (L : List (List ℕ)) (R : List 
   pub basis : ledger'.basis ≡ ledger.basis
   pub cap : ledger'.cap ≡ ledger.cap
 
--- how many answers there are, and how many of them are new games, repeats and refusals
-pub record Counts (ledger ledger' : LedgerState) (R : List Answer) (totals : Totals) : Type 0 where
-  pub all : totals.lines ≡ length R
-  pub refusals : totals.refused ≡ count_by is_err R
-  pub new_games : length ledger'.accepted ≡ length ledger.accepted + totals.new
-  pub others : totals.lines ≡ totals.new + totals.repeats + totals.refused
-
 -- each line was taken, and each reply was put
-pub record Collects (sink sink' : SinkState) (ledger ledger' : LedgerState)
-    (L : List (List ℕ)) : Type 0 where
+pub record Collects (sink : Change SinkState) (ledger : Change LedgerState) (L : List (List ℕ))
+    : Type 0 where
   pub answers : List Answer
-  pub leads : Leads ledger ledger' L answers
-  pub put : Appends sink.bytes sink'.bytes (replies L answers)
+  pub leads : across Leads ledger L answers
+  pub put : Puts sink (replies L answers)
 
--- the same, and the answers are counted
-abbrev pub CollectsCounted : SinkState → SinkState → LedgerState → LedgerState → Totals
-    → List (List ℕ) → Type 0
-CollectsCounted sink sink' ledger ledger' totals L =
-    (h : Collects sink sink' ledger ledger' L) × Counts ledger ledger' h.answers totals
+-- the same, and these are how many lines they are, and how many answers are new games, repeats and
+-- refusals
+pub record CollectsCounted (sink : Change SinkState) (ledger : Change LedgerState) (totals : Totals)
+    (L : List (List ℕ)) : Type 0 where
+  pub collects : Collects sink ledger L
+  pub all : totals.lines ≡ length L
+  pub refusals : totals.refused ≡ count_by is_err collects.answers
+  pub new_games : length ledger.new.accepted ≡ length ledger.old.accepted + totals.new
+  pub others : totals.lines ≡ totals.new + totals.repeats + totals.refused
 
 -- each line was taken, the reply to each but the last was put, and a front of the reply to the last
 -- one
-pub record CollectsButOne (sink sink' : SinkState) (ledger ledger' : LedgerState)
-    (L : List (List ℕ)) : Type 0 where
-  pub before : List (List ℕ)
-  pub line : List ℕ
-  pub are : L ≡ before ++ line ∷ []
-  pub answers : List Answer
-  pub answer : Answer
-  pub leads : Leads ledger ledger' L (answers ++ answer ∷ [])
-  pub count : ℕ
-  pub put : Appends sink.bytes sink'.bytes (replies before answers
-      ++ take count (reply_line line answer))
+abbrev pub CollectsButOne : Change SinkState → Change LedgerState → List (List ℕ) → Type 0
+CollectsButOne sink ledger = AtLast (λ before line. (answers : List Answer) × (answer : Answer)
+    × across Leads ledger (before ++ line ∷ []) (answers ++ answer ∷ []) × (count : ℕ)
+    × Puts sink (replies before answers ++ take count (reply_line line answer)))
 
 -- all lines of the stream were taken and counted, and their replies were put and handed on, once
-abbrev pub CollectsStream : ℕ → SourceState → SourceState → SinkState → SinkState → LedgerState
-    → LedgerState → Totals → Type 0
-CollectsStream fills source source' sink sink' ledger ledger' totals =
-    AtEnd fills source source' (CollectsCounted sink sink' ledger ledger' totals) × HandedOn sink'
-    × (sink'.flushes ≡ next_count sink.flushes)
-
--- the same of all bytes that were to come, where the source tells them
-abbrev pub CollectsTold : SourceState → SourceState → SinkState → SinkState → LedgerState
-    → LedgerState → Totals → Type 0
-CollectsTold source source' sink sink' ledger ledger' totals =
-    IfTold source source' (CollectsCounted sink sink' ledger ledger' totals)
+abbrev pub CollectsStream : ℕ → Change SourceState → Change SinkState → Change LedgerState → Totals
+    → Type 0
+CollectsStream fills source sink ledger totals =
+    across (AtEnd fills) source (CollectsCounted sink ledger totals) × HandsOn sink
 
 -- how collecting ends with each fault: the replies that were put await a flush; or the sink fails,
 -- at a reply or where the replies to all lines were to be handed on, and none was
-abbrev pub CollectsUntil : ℕ → SourceState → SourceState → SinkState → SinkState → LedgerState
-    → LedgerState → Fault → Type 0
-CollectsUntil fills source source' sink sink' ledger ledger' Read =
-    AtFault fills source source' (Collects sink sink' ledger ledger') × AwaitsFlush sink sink'
-CollectsUntil fills source source' sink sink' ledger ledger' Endless =
-    AtNoEnd fills source source' (Collects sink sink' ledger ledger') × AwaitsFlush sink sink'
-CollectsUntil fills source source' sink sink' ledger ledger' Write =
-    (AtLine fills source source' (CollectsButOne sink sink' ledger ledger')
-    ⊎ AtEnd fills source source' (Collects sink sink' ledger ledger')) × (sink'.failed ≡ true)
-    × (sink'.flushes ≡ sink.flushes)
-CollectsUntil fills source source' sink sink' ledger ledger' Memory =
-    (source' ≡ source) × (sink' ≡ sink) × (ledger' ≡ ledger)
+abbrev pub CollectsUntil : ℕ → Change SourceState → Change SinkState → Change LedgerState → Fault
+    → Type 0
+CollectsUntil fills source sink ledger Read =
+    across (AtFault fills) source (Collects sink ledger) × across AwaitsFlush sink
+CollectsUntil fills source sink ledger Endless =
+    across (AtNoEnd fills) source (Collects sink ledger) × across AwaitsFlush sink
+CollectsUntil fills source sink ledger Write =
+    (across (AtLine fills) source (CollectsButOne sink ledger)
+    ⊎ across (AtEnd fills) source (Collects sink ledger)) × Fails sink
+CollectsUntil fills source sink ledger Memory = IsSame source × IsSame sink × IsSame ledger

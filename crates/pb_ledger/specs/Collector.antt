@@ -1,14 +1,15 @@
 -- What the collector does with a line.
 use Rattle.std.specs.Prelude.{◌≡◌, ℕ, Bool, true, false, List, [], ◌∷◌}
-use Rattle.std.specs.Prelude.{◌++◌, length, nat_lt, take, Result, Ok, Err}
-use Rattle.std.specs.Io.KnownBytes.{Appends}
+use Rattle.std.specs.Prelude.{◌++◌, length, nat_lt, Result, Ok, Err}
 use Rattle.pb_board.specs.LineEnd.{with_end}
 use Rattle.pb_io.specs.Count.{next_count}
-use Rattle.pb_io.specs.Sink.{Lasts, Put, SinkState}
+use Rattle.pb_io.specs.Sink.{Put, SinkState}
+use Rattle.pb_io.specs.Writes.{Writes}
 use Rattle.pb_io.specs.declared.fault.Fault.TheVariants as fault
 use Rattle.pb_games.specs.Submissions.{Submission, submission_text}
 use Rattle.pb_accepted.specs.Accepting.{Answer}
 use Rattle.pb_accepted.specs.Replies.{reply_line}
+use Rattle.pb_ledger.specs.Change.{between}
 use Rattle.pb_ledger.specs.Collecting.{Leads}
 use Rattle.pb_ledger.specs.Journaling.{Gains}
 use Rattle.pb_ledger.specs.declared.collector.Collector.{Collector}
@@ -41,26 +42,19 @@ pub record Answered {T K J W : Type 0} (state : K → SinkState) (kept : J → S
   pub counted : t.totals ≡ with_answer s.totals answer
       (nat_lt (length s.ledger.now.accepted) (length t.ledger.now.accepted))
   pub put : Put (state s.sink.now) (state t.sink.now) result (reply_line line answer)
-  pub gains : Gains (kept s.journal.now)
-      (kept t.journal.now) s.ledger.now.accepted t.ledger.now.accepted
+  pub gains : Gains (between kept s.journal.now t.journal.now)
+      (record { old = s.ledger.now; new = t.ledger.now })
   pub same : KeepsLent s t
 
--- The line brought a game, of whose line a front was put before the journal failed, and not handed
--- on; and no reply was put.
+-- The line brought a game, whose line wasn't written to the journal; and no reply was put.
 pub record Unkept {T K J W : Type 0} (kept : J → SinkState) (s : Collector T K J W) (line : List ℕ)
     (t : Collector T K J W) : Type 0 where
   pub number : ℕ
   pub leads : Leads s.ledger.now t.ledger.now (line ∷ []) (Ok number ∷ [])
   pub game : Submission
-  pub games : t.ledger.now.accepted ≡ s.ledger.now.accepted ++ game ∷ []
-  pub text : List ℕ
-  pub spells : text ≡ submission_text game
-  pub count : ℕ
-  pub put : Appends (kept s.journal.now).bytes (kept t.journal.now).bytes
-      (take count (with_end text))
-  pub lasts : Lasts (kept s.journal.now).lasting (kept t.journal.now).lasting
-  pub fails : (kept t.journal.now).failed ≡ true
-  pub flushes : (kept t.journal.now).flushes ≡ (kept s.journal.now).flushes
+  pub brings : t.ledger.now.accepted ≡ s.ledger.now.accepted ++ game ∷ []
+  pub breaks : Writes (kept s.journal.now) (kept t.journal.now) (Err Journal)
+      (with_end (submission_text game))
   pub same_sink : t.sink ≡ s.sink
   pub same : KeepsLent s t
 

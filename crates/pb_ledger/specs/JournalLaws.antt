@@ -29,9 +29,8 @@ JournalGrows = (cap : ℕ) (bytes text : List ℕ) (A G : List Submission) → J
 
 -- and where a front of one more line comes after them, that game is there as a whole or not at all
 abbrev pub JournalMayTear : Type 0
-JournalMayTear = (cap : ℕ) (bytes text line : List ℕ) (A G : List Submission) (g : Submission)
-    (n : ℕ) → Journals cap bytes A
-    → All IsSubmission (G ++ g ∷ []) → HaveOwnIds (A ++ G ++ g ∷ [])
-    → length (A ++ G ++ g ∷ []) ≤ cap → GameLines G text → line ≡ submission_text g
-    → Journals cap (bytes ++ mending bytes ++ text ++ take n (with_end line)) (A ++ G)
-    ⊎ Journals cap (bytes ++ mending bytes ++ text ++ take n (with_end line)) (A ++ G ++ g ∷ [])
+JournalMayTear = (cap : ℕ) (bytes text : List ℕ) (A G : List Submission) (g : Submission) (n : ℕ)
+    → Journals cap bytes A → All IsSubmission (G ++ g ∷ []) → HaveOwnIds (A ++ G ++ g ∷ [])
+    → length (A ++ G ++ g ∷ []) ≤ cap → GameLines G text
+    → let front = bytes ++ mending bytes ++ text ++ take n (with_end (submission_text g)) in
+    Journals cap front (A ++ G) ⊎ Journals cap front (A ++ G ++ g ∷ [])

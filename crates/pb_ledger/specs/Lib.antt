@@ -1,4 +1,5 @@
 pub mod Booking
+pub mod Change
 pub mod Collecting
 pub mod Collector
 pub mod Ending
@@ -10,11 +11,13 @@ pub mod Journaling
 pub mod Lending
 pub mod Loader
 pub mod Loading
+pub mod Making
 pub mod Picker
 pub mod Replayer
 pub mod Replaying
 pub mod SavedLaws
 pub mod Saving
+pub mod Streams
 pub mod Whole
 pub use Rattle.pb_accepted.specs.Accepting
 pub use Rattle.pb_accepted.specs.Arriving

@@ -7,7 +7,9 @@ use Rattle.pb_io.specs.Sink.{AwaitsFlush, Put, SinkState}
 use Rattle.pb_io.specs.Source.{SourceState}
 use Rattle.pb_io.specs.declared.fault.Fault.{Fault}
 use Rattle.pb_io.specs.declared.fault.Fault.TheVariants.{Write}
-use Rattle.pb_ledger.specs.Games.{PicksEnded, has_shape}
+use Rattle.pb_ledger.specs.Change.{Change, across}
+use Rattle.pb_ledger.specs.Streams.{AllCame, Puts}
+use Rattle.pb_ledger.specs.Games.{games_text, has_shape}
 use Rattle.pb_ledger.specs.declared.games.Picker.{Picker}
 
 -- a line of a submission's shape was put, which stops the picker where the sink fails; and any
@@ -21,8 +23,8 @@ pub data PicksLine {K W : Type 0} (state : K → SinkState) (s : Picker K W) (li
   passed : has_shape line ≡ false → result ≡ Ok tt → t.sink ≡ s.sink
       → PicksLine state s line result t
 
--- all bytes came, what is of games was put and awaits a flush, and this is whether bytes were left
--- behind the last LF
-abbrev pub PutsAll : ℕ → SourceState → SourceState → SinkState → SinkState → Bool → Type 0
-PutsAll fills source source' sink sink' torn = (h : PicksEnded fills source source' sink sink')
-    × (torn ≡ is_torn h.came) × AwaitsFlush sink sink'
+-- all bytes came, the games that they hold were put and await a flush, and this is whether bytes
+-- were left behind the last LF
+abbrev pub PutsAll : ℕ → Change SourceState → Change SinkState → Bool → Type 0
+PutsAll fills source sink torn = AllCame fills source
+    (λ bytes. Puts sink (games_text bytes) × (torn ≡ is_torn bytes)) × across AwaitsFlush sink

@@ -1,5 +1,5 @@
 -- Laws of saved ledgers, over the definitions alone.
-use Rattle.std.specs.Prelude.{◌≡◌, ℕ, ◌≤◌, true, false, List, [], ◌++◌, length, All}
+use Rattle.std.specs.Prelude.{◌≡◌, ◌↔◌, ℕ, ◌≤◌, true, false, List, [], ◌++◌, length, All}
 use Rattle.pb_io.specs.Lines.{is_torn, lines}
 use Rattle.pb_games.specs.Submissions.{Submission, IsSubmission}
 use Rattle.pb_accepted.specs.Accepting.{Answer, Run}
@@ -9,15 +9,10 @@ use Rattle.pb_ledger.specs.Saving.{Saved, header}
 use Rattle.pb_ledger.specs.Loading.{Loads}
 use Rattle.pb_ledger.specs.Whole.{is_cut}
 
--- no list of submissions has two saved forms
-abbrev pub SavedIsOne : Type 0
-SavedIsOne = (A : List Submission) (a b : List ℕ) → Saved A a → Saved A b → a ≡ b
-
 -- the lines of a saved form make the list that was saved, where it fits, and no other
 abbrev pub SavedLoads : Type 0
-SavedLoads = (cap : ℕ) (A : List Submission) (bytes : List ℕ) → All IsSubmission A → HaveOwnIds A
-    → length A ≤ cap → Saved A bytes
-    → Loads cap (lines bytes) A × ((B : List Submission) → Loads cap (lines bytes) B → B ≡ A)
+SavedLoads = (cap : ℕ) (A B : List Submission) (bytes : List ℕ) → All IsSubmission A → HaveOwnIds A
+    → length A ≤ cap → Saved A bytes → (Loads cap (lines bytes) B ↔ (B ≡ A))
 
 -- a saved form isn't cut
 abbrev pub SavedIsWhole : Type 0

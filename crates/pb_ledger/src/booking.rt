@@ -4,6 +4,7 @@ ghost use Rattle.std.specs.Prelude.{◌≡◌, ◌-◌, ◌^◌, ℕ, List, IfOk
 ghost use Rattle.pb_io.specs.Sink.{Put};
 ghost use Rattle.pb_poly.specs.Book.{book_bytes};
 ghost use Rattle.pb_ledger.specs.Booking.{PutsOn, WritesBook};
+ghost use Rattle.pb_ledger.specs.Change.{between};
 ghost use Rattle.pb_ledger.specs.declared.booking.WriteFault.TheVariants as fault;
 
 use pb_accepted::Ledger;
@@ -53,7 +54,7 @@ pub fn save_book<T: Tally, K: Sink>(
     ledger: &Ledger<T>,
     sink: &mut K,
 ) -> Result<u64, WriteFault>
-    ensures { WritesBook ledger.now (K.state sink.old) (K.state sink.new) result }
+    ensures { WritesBook ledger.now (between K.state sink.old sink.new) result }
 {
     let mut entries = Vec::new(alloc);
     let mut count: u64 = 0;
@@ -70,8 +71,7 @@ pub fn save_book<T: Tally, K: Sink>(
 
 /// Puts the bytes of the entries in order.
 fn put_entries<K: Sink>(sink: &mut K, entries: &[Entry]) -> Result<(), Failed>
-    ensures ok { OnOk result (PutsOn (K.state sink.old) (K.state sink.new)
-        (book_bytes entries.now)) }
+    ensures ok { OnOk result (PutsOn (between K.state sink.old sink.new) (book_bytes entries.now)) }
     ensures err { OnErr result (Put (K.state sink.old) (K.state sink.new) result
         (book_bytes entries.now)) }
 {

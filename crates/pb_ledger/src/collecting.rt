@@ -1,7 +1,9 @@
 //! Submissions in, replies out.
 
 ghost use Rattle.std.specs.Prelude.{IfErr, IfOk};
-ghost use Rattle.pb_ledger.specs.Collecting.{CollectsStream, CollectsTold, CollectsUntil};
+ghost use Rattle.pb_io.specs.LineTask.{IfTold};
+ghost use Rattle.pb_ledger.specs.Change.{across, between};
+ghost use Rattle.pb_ledger.specs.Collecting.{CollectsCounted, CollectsStream, CollectsUntil};
 
 use crate::journaling::{JournalFault, collect_journaled};
 use crate::totals::Totals;
@@ -32,14 +34,15 @@ pub fn collect<T: Tally, In: Source, Out: Sink>(
     fills: u32,
 ) -> Result<Totals, CollectFault>
     // All lines were taken and answered, and the replies were handed on, once.
-    ensures ok { IfOk result (CollectsStream fills (In.state source.old) (In.state source.new)
-        (Out.state sink.old) (Out.state sink.new) ledger.old ledger.new) }
+    ensures ok { IfOk result (CollectsStream fills (between In.state source.old source.new)
+        (between Out.state sink.old sink.new) (record { old = ledger.old; new = ledger.new })) }
     // They are the lines of all bytes that the source tells.
-    ensures told { IfOk result (CollectsTold (In.state source.old) (In.state source.new)
-        (Out.state sink.old) (Out.state sink.new) ledger.old ledger.new) }
+    ensures told { IfOk result (λ totals. across IfTold (between In.state source.old source.new)
+        (CollectsCounted (between Out.state sink.old sink.new)
+        (record { old = ledger.old; new = ledger.new }) totals)) }
     // The lines taken before a fault, and where the fault lies.
-    ensures fault { IfErr result (CollectsUntil fills (In.state source.old) (In.state source.new)
-        (Out.state sink.old) (Out.state sink.new) ledger.old ledger.new) }
+    ensures fault { IfErr result (CollectsUntil fills (between In.state source.old source.new)
+        (between Out.state sink.old sink.new) (record { old = ledger.old; new = ledger.new })) }
 {
     collect_watched(alloc, source, sink, ledger, &mut (), fills)
 }
@@ -57,12 +60,13 @@ pub fn collect_watched<T: Tally, In: Source, Out: Sink, Watch: Watcher>(
     watcher: &mut Watch,
     fills: u32,
 ) -> Result<Totals, CollectFault>
-    ensures ok { IfOk result (CollectsStream fills (In.state source.old) (In.state source.new)
-        (Out.state sink.old) (Out.state sink.new) ledger.old ledger.new) }
-    ensures told { IfOk result (CollectsTold (In.state source.old) (In.state source.new)
-        (Out.state sink.old) (Out.state sink.new) ledger.old ledger.new) }
-    ensures fault { IfErr result (CollectsUntil fills (In.state source.old) (In.state source.new)
-        (Out.state sink.old) (Out.state sink.new) ledger.old ledger.new) }
+    ensures ok { IfOk result (CollectsStream fills (between In.state source.old source.new)
+        (between Out.state sink.old sink.new) (record { old = ledger.old; new = ledger.new })) }
+    ensures told { IfOk result (λ totals. across IfTold (between In.state source.old source.new)
+        (CollectsCounted (between Out.state sink.old sink.new)
+        (record { old = ledger.old; new = ledger.new }) totals)) }
+    ensures fault { IfErr result (CollectsUntil fills (between In.state source.old source.new)
+        (between Out.state sink.old sink.new) (record { old = ledger.old; new = ledger.new })) }
 {
     let mut no_journal = NullSink::default();
     match collect_journaled(alloc, source, sink, &mut no_journal, ledger, watcher, fills) {

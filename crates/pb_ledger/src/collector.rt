@@ -8,8 +8,10 @@ ghost use Rattle.pb_board.specs.LineEnd.{with_end};
 ghost use Rattle.pb_io.specs.Sink.{Put};
 ghost use Rattle.pb_io.specs.Writes.{Writes};
 ghost use Rattle.pb_io.specs.declared.fault.Fault.TheVariants.{Write};
+ghost use Rattle.pb_ledger.specs.Change.{between};
+ghost use Rattle.pb_ledger.specs.Collecting.{CollectsStream};
 ghost use Rattle.pb_ledger.specs.Collector.{KeepsLent, with_answer};
-ghost use Rattle.pb_ledger.specs.Journaling.{JournalsStream, JournalsUntil};
+ghost use Rattle.pb_ledger.specs.Journaling.{Gains, JournalsUntil};
 ghost use Rattle.pb_ledger.specs.declared.journaling.JournalFault.TheVariants.{Journal, Lines};
 
 use crate::journaling::JournalFault;
@@ -83,14 +85,15 @@ impl<T: Tally, K: Sink, J: Sink, W: Watcher> Collector<'_, '_, '_, '_, T, K, J, 
         fills: u32,
     ) -> Result<(), JournalFault>
         requires { self.old.totals ≡ record { lines = 0; new = 0; repeats = 0; refused = 0 } }
-        ensures ok { OnOk result (JournalsStream fills (S.state source.old) (S.state source.new)
-            (K.state self.old.sink.now) (K.state self.new.sink.now) (J.state self.old.journal.now)
-            (J.state self.new.journal.now)
-            self.old.ledger.now self.new.ledger.now self.new.totals) }
-        ensures err { IfErr result (JournalsUntil fills (S.state source.old) (S.state source.new)
-            (K.state self.old.sink.now) (K.state self.new.sink.now) (J.state self.old.journal.now)
-            (J.state self.new.journal.now)
-            self.old.ledger.now self.new.ledger.now) }
+        ensures ok { OnOk result (CollectsStream fills (between S.state source.old source.new)
+            (between K.state self.old.sink.now self.new.sink.now)
+            (record { old = self.old.ledger.now; new = self.new.ledger.now }) self.new.totals
+            × Gains (between J.state self.old.journal.now self.new.journal.now)
+            (record { old = self.old.ledger.now; new = self.new.ledger.now })) }
+        ensures err { IfErr result (JournalsUntil fills (between S.state source.old source.new)
+            (between K.state self.old.sink.now self.new.sink.now)
+            (between J.state self.old.journal.now self.new.journal.now)
+            (record { old = self.old.ledger.now; new = self.new.ledger.now })) }
         ensures same { KeepsLent self.old self.new }
     {
         take_lines(alloc, source, self, fills)?;

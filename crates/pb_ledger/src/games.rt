@@ -3,6 +3,7 @@
 ghost use Rattle.std.specs.Prelude.{◌≡◌, ◌≤◌, ◌==◌, IfErr, IfOk, count_by, length};
 ghost use Rattle.pb_board.specs.Fields.{tab};
 ghost use Rattle.pb_io.specs.Lines.{line_limit};
+ghost use Rattle.pb_ledger.specs.Change.{between};
 ghost use Rattle.pb_ledger.specs.Games.{PicksAll, PicksUntil, has_shape};
 ghost use Rattle.pb_ledger.specs.Picker.{PutsAll};
 
@@ -90,11 +91,11 @@ pub fn pick_games<In: Source, Out: Sink, Watch: Watcher>(
     fills: u32,
 ) -> Result<bool, Fault>
     // All bytes came, and just the lines of games were put, and handed on once.
-    ensures ok { IfOk result (PicksAll fills (In.state source.old) (In.state source.new)
-        (Out.state sink.old) (Out.state sink.new)) }
+    ensures ok { IfOk result (PicksAll fills (between In.state source.old source.new)
+        (between Out.state sink.old sink.new)) }
     // The lines of games before the fault were put, and where the fault lies.
-    ensures fault { IfErr result (PicksUntil fills (In.state source.old) (In.state source.new)
-        (Out.state sink.old) (Out.state sink.new)) }
+    ensures fault { IfErr result (PicksUntil fills (between In.state source.old source.new)
+        (between Out.state sink.old sink.new)) }
 {
     let is_torn = put_games(alloc, source, sink, watcher, fills)?;
     sink.flush()?;
@@ -109,10 +110,10 @@ fn put_games<In: Source, Out: Sink, Watch: Watcher>(
     watcher: &mut Watch,
     fills: u32,
 ) -> Result<bool, Fault>
-    ensures ok { IfOk result (PutsAll fills (In.state source.old) (In.state source.new)
-        (Out.state sink.old) (Out.state sink.new)) }
-    ensures fault { IfErr result (PicksUntil fills (In.state source.old) (In.state source.new)
-        (Out.state sink.old) (Out.state sink.new)) }
+    ensures ok { IfOk result (PutsAll fills (between In.state source.old source.new)
+        (between Out.state sink.old sink.new)) }
+    ensures fault { IfErr result (PicksUntil fills (between In.state source.old source.new)
+        (between Out.state sink.old sink.new)) }
 {
     let mut picker = Picker {
         sink,

@@ -3,7 +3,9 @@
 ghost use Rattle.std.specs.Prelude.{◌≡◌, IfErr, IfOk};
 ghost use Rattle.pb_io.specs.Fault.{fault_of_read};
 ghost use Rattle.pb_io.specs.declared.fault.Fault.TheVariants.{Write};
-ghost use Rattle.pb_ledger.specs.Journaling.{JournalsStream, JournalsUntil, fault_of_journal};
+ghost use Rattle.pb_ledger.specs.Change.{between};
+ghost use Rattle.pb_ledger.specs.Collecting.{CollectsStream};
+ghost use Rattle.pb_ledger.specs.Journaling.{Gains, JournalsUntil, fault_of_journal};
 ghost use Rattle.pb_ledger.specs.declared.journaling.JournalFault.TheVariants.{Lines};
 
 use crate::collector::Collector;
@@ -80,14 +82,16 @@ pub fn collect_journaled<T: Tally, In: Source, Out: Sink, Journal: Sink, Watch: 
 ) -> Result<Totals, JournalFault>
     // All lines were taken and answered, and the new games are on the journal, each handed on by
     // itself.
-    ensures ok { IfOk result (JournalsStream fills (In.state source.old) (In.state source.new)
-        (Out.state sink.old) (Out.state sink.new)
-        (Journal.state journal.old) (Journal.state journal.new) ledger.old ledger.new) }
+    ensures ok { IfOk result (λ totals. CollectsStream fills
+        (between In.state source.old source.new) (between Out.state sink.old sink.new)
+        (record { old = ledger.old; new = ledger.new }) totals
+        × Gains (between Journal.state journal.old journal.new)
+        (record { old = ledger.old; new = ledger.new })) }
     // The lines taken before a fault, what of their games is on the journal, and where the fault
     // lies.
-    ensures fault { IfErr result (JournalsUntil fills (In.state source.old) (In.state source.new)
-        (Out.state sink.old) (Out.state sink.new)
-        (Journal.state journal.old) (Journal.state journal.new) ledger.old ledger.new) }
+    ensures fault { IfErr result (JournalsUntil fills (between In.state source.old source.new)
+        (between Out.state sink.old sink.new) (between Journal.state journal.old journal.new)
+        (record { old = ledger.old; new = ledger.new })) }
 {
     let mut collector = Collector {
         ledger,

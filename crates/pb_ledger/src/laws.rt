@@ -8,7 +8,7 @@ ghost use Rattle.pb_ledger.specs.GamesLaws.{GameLinesArePicked, GamesAreHeld, Me
 ghost use Rattle.pb_ledger.specs.GamesLaws.{SavedGamesArePicked, TornAddsNoGame};
 ghost use Rattle.pb_ledger.specs.JournalLaws.{JournalGoesOn, JournalGrows, JournalIsOne};
 ghost use Rattle.pb_ledger.specs.JournalLaws.{JournalMayTear, JournalMendingMayTear};
-ghost use Rattle.pb_ledger.specs.SavedLaws.{ContinuedIsOneRun, SavedFrontIsCut, SavedIsOne};
+ghost use Rattle.pb_ledger.specs.SavedLaws.{ContinuedIsOneRun, SavedFrontIsCut};
 ghost use Rattle.pb_ledger.specs.SavedLaws.{SavedIsWhole, SavedLoads};
 ghost use Rattle.pb_ledger.specs.declared.journaling.JournalFault.{JournalFault};
 ghost use Rattle.pb_ledger.specs.declared.loading.LoadError.{LoadError};
@@ -22,10 +22,9 @@ use crate::whole::NotWhole;
 pub use pb_accepted::laws::{books, distinct, numbers, one_game, one_line, runs};
 pub use pb_export::laws::exports;
 
-/// The games that are held have one saved form, and what is saved loads as these games and as no
-/// others. It isn't cut, and a front of it is that has the header and ends within a line.
+/// What is saved of games loads as these games and as no others. It isn't cut, and a front of it is
+/// that has the header and ends within a line.
 pub fn saved()
-    ensures one { SavedIsOne }
     ensures loads { SavedLoads }
     ensures whole { SavedIsWhole }
     ensures cut { SavedFrontIsCut }

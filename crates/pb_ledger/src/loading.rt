@@ -1,8 +1,11 @@
 //! A ledger from the lines of a file.
 
-ghost use Rattle.std.specs.Prelude.{◌≡◌, [], IfErr, IfOk};
+ghost use Rattle.std.specs.Prelude.{◌≡◌, [], IfErr, IfOk, length};
+ghost use Rattle.pb_io.specs.LineTask.{AtEnd};
+ghost use Rattle.pb_ledger.specs.Change.{across, between};
 ghost use Rattle.pb_ledger.specs.Loader.{Submits, error_at, load_error};
-ghost use Rattle.pb_ledger.specs.Loading.{LoadsSaved, LoadsStream, LoadsUntil};
+ghost use Rattle.pb_ledger.specs.Loading.{Loads, LoadsSaved, LoadsUntil};
+ghost use Rattle.pb_ledger.specs.Making.{Makes};
 
 use crate::saving::HEADER;
 use pb_accepted::Ledger;
@@ -118,15 +121,16 @@ pub fn load<T: Tally, S: Source>(
     fills: u32,
 ) -> Result<u32, LoadError>
     requires { ledger.old.accepted ≡ [] }
-    // The games of all lines were taken.
-    ensures ok { IfOk result (LoadsStream fills (S.state source.old) (S.state source.new) ledger.old
-        ledger.new) }
+    // The games of all lines were taken, and are so many.
+    ensures ok { IfOk result (λ n. across (AtEnd fills) (between S.state source.old source.new)
+        (Makes Loads (record { old = ledger.old; new = ledger.new }))
+        × (n ≡ length ledger.new.accepted)) }
     // The games of the lines before the fault were taken, and where the fault lies.
-    ensures fault { IfErr result (LoadsUntil fills (S.state source.old) (S.state source.new)
-        ledger.old ledger.new) }
+    ensures fault { IfErr result (LoadsUntil fills (between S.state source.old source.new)
+        (record { old = ledger.old; new = ledger.new })) }
     // What was saved is loaded, where it fits.
-    ensures saved { LoadsSaved fills (S.state source.old) (S.state source.new) ledger.old ledger.new
-        result }
+    ensures saved { LoadsSaved fills (between S.state source.old source.new)
+        (record { old = ledger.old; new = ledger.new }) result }
     ensures basis { ledger.new.basis ≡ ledger.old.basis }
     ensures cap { ledger.new.cap ≡ ledger.old.cap }
 {

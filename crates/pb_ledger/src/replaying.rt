@@ -2,6 +2,7 @@
 
 ghost use Rattle.std.specs.Prelude.{◌≡◌, [], Err, IfErr, OnOk};
 ghost use Rattle.pb_io.specs.Writes.{Writes};
+ghost use Rattle.pb_ledger.specs.Change.{between};
 ghost use Rattle.pb_ledger.specs.Journal.{seal};
 ghost use Rattle.pb_ledger.specs.Replayer.{Stops};
 ghost use Rattle.pb_ledger.specs.Replaying.{ReplaysAll, ReplaysUntil};
@@ -99,11 +100,13 @@ pub fn replay<T: Tally, In: Source, Journal: Sink, Watch: Watcher>(
 ) -> Result<(), Fault>
     requires { ledger.old.accepted ≡ [] }
     // The games of all lines that an LF ended were taken, and the end was mended.
-    ensures ok { OnOk result (ReplaysAll fills (In.state source.old) (In.state source.new)
-        (Journal.state journal.old) (Journal.state journal.new) ledger.old ledger.new) }
+    ensures ok { OnOk result (ReplaysAll fills (between In.state source.old source.new)
+        (between Journal.state journal.old journal.new)
+        (record { old = ledger.old; new = ledger.new })) }
     // The games of the lines before the fault were taken, and where the fault lies.
-    ensures fault { IfErr result (ReplaysUntil fills (In.state source.old) (In.state source.new)
-        (Journal.state journal.old) (Journal.state journal.new) ledger.old ledger.new) }
+    ensures fault { IfErr result (ReplaysUntil fills (between In.state source.old source.new)
+        (between Journal.state journal.old journal.new)
+        (record { old = ledger.old; new = ledger.new })) }
     ensures basis { ledger.new.basis ≡ ledger.old.basis }
     ensures cap { ledger.new.cap ≡ ledger.old.cap }
 {

@@ -1,10 +1,11 @@
 //! A ledger from the lines of a file that wasn't cut short.
 
-ghost use Rattle.std.specs.Prelude.{◌≡◌, ◌&&◌, [], IfErr, IfOk, nat_lt};
+ghost use Rattle.std.specs.Prelude.{◌≡◌, ◌&&◌, [], IfErr, IfOk, length, nat_lt};
 ghost use Rattle.std.specs.Result.{result_map_both};
+ghost use Rattle.pb_ledger.specs.Change.{between};
+ghost use Rattle.pb_ledger.specs.Loader.{not_whole_by};
 ghost use Rattle.pb_ledger.specs.Loading.{LoadsSaved};
-ghost use Rattle.pb_ledger.specs.Whole.{LoadsWhole, LoadsWholeUntil, TellsCut, load_error_of};
-ghost use Rattle.pb_ledger.specs.Whole.{not_whole_by};
+ghost use Rattle.pb_ledger.specs.Whole.{LoadsWhole, LoadsWholeUntil, load_error_of};
 
 use crate::ending::Ending;
 use crate::loading::{LoadError, Loader};
@@ -42,16 +43,15 @@ pub fn load_whole<T: Tally, S: Source>(
     fills: u32,
 ) -> Result<u32, NotWhole>
     requires { ledger.old.accepted ≡ [] }
-    // The games of all lines were taken, and no saved ledger was cut.
-    ensures ok { IfOk result (LoadsWhole fills (S.state source.old) (S.state source.new) ledger.old
-        ledger.new) }
+    // The games of all lines were taken, and are so many, and no saved ledger was cut.
+    ensures ok { IfOk result (λ n. LoadsWhole fills (between S.state source.old source.new)
+        (record { old = ledger.old; new = ledger.new }) × (n ≡ length ledger.new.accepted)) }
     // It ended as `load` does, or the saved ledger was cut.
-    ensures fault { IfErr result (λ e. LoadsWholeUntil fills (S.state source.old)
-        (S.state source.new) ledger.old ledger.new (load_error_of e)) }
-    // And which of the two.
-    ensures cut { TellsCut fills (S.state source.old) (S.state source.new) result }
+    ensures fault { IfErr result (LoadsWholeUntil fills (between S.state source.old source.new)
+        (record { old = ledger.old; new = ledger.new })) }
     // What was saved is loaded, where it fits.
-    ensures saved { LoadsSaved fills (S.state source.old) (S.state source.new) ledger.old ledger.new
+    ensures saved { LoadsSaved fills (between S.state source.old source.new)
+        (record { old = ledger.old; new = ledger.new })
         (result_map_both (λ n. n) load_error_of result) }
     ensures basis { ledger.new.basis ≡ ledger.old.basis }
     ensures cap { ledger.new.cap ≡ ledger.old.cap }

@@ -3,6 +3,7 @@ use Rattle.std.proofs.lemmas.Result.{err_from_is_err_and}
 use Rattle.pb_poly.specs.Book.{book_bytes}
 use Rattle.pb_poly.specs.Entry.{entry_bytes}
 use Rattle.pb_poly.specs.declared.entry.Entry.{Entry}
+use Rattle.pb_ledger.proofs.Changes.{from_to}
 use Rattle.pb_ledger.specs.Booking.{PutsOn}
 use Rattle.pb_ledger.proofs.Booked.{cut_at, more_at, puts_one, puts_stopped, puts_then}
 use Rattle.pb_ledger.proofs.booking.put_entries.Goals as goal
@@ -22,5 +23,5 @@ loop-entry-preserved g c =
     let entries : List Entry = c.args.entries.now in
     let i = c.loop-entry.entry-index in
     let none : Entry = record { key = 0; code = 0; weight = 0; learn = 0 } in
-    subst (PutsOn (state c.args.sink.now) (state c.write_entry.new.sink)) (more_at entries i none c.loop-entry-test.true)
+    subst (PutsOn (from_to (state c.args.sink.now) (state c.write_entry.new.sink))) (more_at entries i none c.loop-entry-test.true)
     (puts_then _ _ _ (book_bytes (take i entries)) (entry_bytes (get_or entries i none)) c.loop-entry.invariant (puts_one _ _ c.in_ok-write_entry.field-0 _ c.in_ok-write_entry.ensures))

@@ -31,8 +31,7 @@ returns g c =
       ok = search rules;
       fault = tt;
       saved = λ A bytes games own room saved tells.
-          let whole = loaded_whole _ A bytes games own room saved _ _ _ tells old made.ledger.now refl
-          c.len.result (ends.0, c.len.ensures.value) in
+          let whole = loaded_whole _ A bytes games own room saved _ _ _ tells old made.ledger.now refl ends.0 in
           search rules;
       basis = search rules;
       cap = search rules;
