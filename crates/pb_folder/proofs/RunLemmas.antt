@@ -1,7 +1,7 @@
 -- What a run holds it goes on holding, whatever other runs do.
 use Rattle.std.proofs.Common.{◌≡◌, ◌∙◌, ℕ, ◌==◌, Bool, true, false, if◌then◌else◌, List, [], ◌∷◌, Option, None, Some, ap, refl, rules, sym}
 use Rattle.std.specs.Option.{option_and_then, option_or}
-use Rattle.std.proofs.lemmas.List.Elements.{All-cons, All-head, All-tail}
+use Rattle.std.proofs.lemmas.List.Elements.{All-head, All-tail}
 use Rattle.pb_folder.specs.File.{FileState, locked}
 use Rattle.pb_folder.specs.declared.folder.Hold.{Hold}
 use Rattle.pb_folder.specs.declared.folder.Lock.TheVariants.{Held}
@@ -13,9 +13,6 @@ same_of x y same = search (rules, same)
 
 pub one_run : (run other : ℕ) (names : NameState) → holder names ≡ Some run → holder names ≡ Some other → run ≡ other
 one_run run other names h k = same_of _ _ (sym h ∙ k)
-
-pub of_others : (run : ℕ) (step : Step) (steps : List Step) → run == step.0 ≡ false → OfOthers run steps → OfOthers run (step ∷ steps)
-of_others run step steps apart others = All-cons (λ (s : Step). run == s.0 ≡ false) step steps apart others
 
 -- the file that the name leads to, whose lock the run has
 record Holds (run : ℕ) (names : NameState) : Type 0 where
