@@ -5,7 +5,7 @@ ghost use Rattle.std.specs.Prelude.{◌≡◌, [], ◌∷◌, Some, IfOk, IfSome
 ghost use Rattle.std.specs.Prelude.{nat_lt};
 ghost use Rattle.pb_folder.specs.File.{locked};
 ghost use Rattle.pb_folder.specs.Parts.{is_journal};
-ghost use Rattle.pb_folder.specs.Shelf.{Settles};
+ghost use Rattle.pb_folder.specs.Shelf.{settled};
 ghost use Rattle.mem_files.specs.MemFolder.{shelf_of};
 
 use crate::mem_file::{MemDraft, MemFile};
@@ -123,7 +123,7 @@ impl MemFolder {
     /// Puts the name on the disk, unless that has failed before: then it does nothing.
     fn settle(&mut self) -> io::Result<()>
         ensures settled { OnOk result (self.old.has_failed ≡ false
-            → Settles self.old.shelf self.new.shelf) }
+            → self.new.shelf ≡ settled self.old.shelf) }
         ensures same { OnErr result (self.new.shelf ≡ self.old.shelf) }
         ensures rests { self.new ≡ record self.old { shelf = self.new.shelf } }
     {

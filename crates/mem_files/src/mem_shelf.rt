@@ -3,7 +3,7 @@
 ghost use Rattle.std.specs.Option.{option_copied, option_map};
 ghost use Rattle.std.specs.Prelude.{◌≡◌, ◌++◌, ◌≤◌, [], ◌∷◌, Some, IfOk, OnErr, OnOk};
 ghost use Rattle.std.specs.Prelude.{false, length, nat_lt};
-ghost use Rattle.pb_folder.specs.Shelf.{Empties, Names, Settles};
+ghost use Rattle.pb_folder.specs.Shelf.{Empties, renamed, settled};
 ghost use Rattle.mem_files.specs.MemFolder.{shelf_of};
 
 use std::alloc::{AllocError, Global};
@@ -139,7 +139,7 @@ impl MemShelf {
 
     /// Has the name lead to these bytes.
     pub(crate) fn name(&mut self, bytes: &[u8]) -> Result<(), AllocError>
-        ensures named { OnOk result (Names (Some bytes.now) self.old self.new) }
+        ensures named { OnOk result (self.new ≡ renamed (Some bytes.now) self.old) }
         ensures same { OnErr result (self.new ≡ self.old) }
     {
         let found = MemContent::of(self.alloc, bytes)?;
@@ -160,7 +160,7 @@ impl MemShelf {
 
     /// Puts the name on the disk.
     pub(crate) fn settle(&mut self) -> Result<(), AllocError>
-        ensures settled { OnOk result (Settles self.old self.new) }
+        ensures settled { OnOk result (self.new ≡ settled self.old) }
         ensures same { OnErr result (self.new ≡ self.old) }
     {
         self.leaves = self.found.alone(self.alloc)?;

@@ -1,5 +1,5 @@
 -- Lemmas on the lines that come first in what a kill and a crash leave.
-use Rattle.std.proofs.Common.{◌≡◌, ◌∙◌, ℕ, ◌≤◌, List, [], ◌∷◌, ◌++◌, ap, append-nil, arith, length, length-append, length-take, subst, sym}
+use Rattle.std.proofs.Common.{◌≡◌, ◌∙◌, ℕ, ◌≤◌, true, List, [], ◌∷◌, ◌++◌, ap, append-nil, arith, length, length-append, length-take, subst, sym}
 use Rattle.pb_io.specs.Lines.{ended_lines}
 use Rattle.pb_io.proofs.LineLemmas.{ended-first}
 use Rattle.pb_files.specs.Begins.{BeginsWith}
@@ -12,10 +12,10 @@ begins-lines all first (rest, is) = subst (λ bytes. BeginsWith (ended_lines byt
 pub lines_outlive_kills : (now later : Disk) → Grows now later → BeginsWith (ended_lines later.found) (ended_lines now.found)
 lines_outlive_kills now later (bytes, adds) = begins-lines later.found now.found (bytes, adds.found)
 
-pub lines_on_disk_outlive_crashes : (now later : Disk) → Grows now later → (left : List ℕ) → Leaves later left → BeginsWith (ended_lines left) (ended_lines (on_disk now))
+pub lines_on_disk_outlive_crashes : (now later : Disk) → Grows now later → (left : List ℕ) → Leaves true later left → BeginsWith (ended_lines left) (ended_lines (on_disk now))
 lines_on_disk_outlive_crashes now later grows left leaves = begins-lines left (on_disk now) (crash-first now later grows left leaves)
 
-pub synced_lines_outlive_crashes : (now later : Disk) → OutlivesCrash now → Grows now later → (left : List ℕ) → Leaves later left → BeginsWith (ended_lines left) (ended_lines now.found)
+pub synced_lines_outlive_crashes : (now later : Disk) → OutlivesCrash now → Grows now later → (left : List ℕ) → Leaves true later left → BeginsWith (ended_lines left) (ended_lines now.found)
 synced_lines_outlive_crashes now later outlives grows left leaves = begins-lines left now.found (outlives later grows left leaves)
 
 -- A crash may leave what is on the disk and no more, so that is all where all outlives it.

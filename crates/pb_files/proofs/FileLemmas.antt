@@ -1,6 +1,6 @@
 -- Lemmas on the steps of a file that is added to, and on what they leave.
-use Rattle.std.proofs.Common.{◌||◌, ◌≡◌, ◌∙◌, ℕ, Bool, true, false, ◌+◌, ◌-◌, min, List, [], ◌++◌, Option, None, Some, Ok, Err, length, take, drop, refl, sym, ap, subst, append_assoc, append-nil, arith, take-append-drop}
-use Rattle.std.specs.Option.{ForSome}
+use Rattle.std.proofs.Common.{if◌then◌else◌, ◌||◌, ◌≡◌, ◌∙◌, ℕ, Bool, true, false, ◌+◌, ◌-◌, min, List, [], ◌++◌, Option, None, Some, Ok, Err, length, take, drop, refl, sym, ap, subst, append_assoc, append-nil, arith, take-append-drop}
+use Rattle.std.specs.Option.{ForSome, option_map}
 use Rattle.std.specs.Prelude.{IfSome}
 use Rattle.std.proofs.lemmas.List.{take-append-le, take_min, take_rest}
 use Rattle.std.proofs.Math.Seq.{take-add}
@@ -9,7 +9,7 @@ use Rattle.pb_io.specs.Count.{next_count}
 use Rattle.pb_io.specs.Sink.{AllLasts, Flush, Lasts}
 use Rattle.pb_files.specs.Begins.{BeginsWith}
 use Rattle.pb_files.specs.Disk.{Adds, Disk, Grows, IsOnDisk, IsSound, Leaves, OutlivesCrash, StaysSound, Syncs, on_disk}
-use Rattle.pb_files.specs.JournalSink.{EndState, WritesFront, bytes_lasting, bytes_put, sink_state}
+use Rattle.pb_files.specs.JournalSink.{EndState, WritesFront, sink_state}
 use Rattle.pb_folder.specs.Steps.{Steps}
 
 -- no byte, and bytes in two steps
@@ -24,10 +24,7 @@ adds-then a b c old mid new is first second = record {
 }
 
 adds-sync : (bytes : List ℕ) (old mid new : Disk) → Adds bytes old mid → Syncs mid new → Adds bytes old new
-adds-sync bytes old mid new adds syncs = record {
-  found = syncs.found ∙ adds.found;
-  kept = omega (arith, adds.kept, syncs.kept);
-}
+adds-sync bytes old mid new adds syncs = adds-then bytes [] bytes old mid new (append-nil bytes) adds syncs.none
 
 -- What is on the disk stays there.
 pub kept-first : (disk later : Disk) → Grows disk later → BeginsWith (on_disk later) (on_disk disk)
@@ -41,7 +38,7 @@ kept-first disk later (bytes, adds) =
           ∙ ap (λ bs. bs ++ take n (drop k (disk.found ++ bytes))) front,
     )
 
-pub crash-first : (disk later : Disk) → Grows disk later → (left : List ℕ) → Leaves later left → BeginsWith left (on_disk disk)
+pub crash-first : (disk later : Disk) → Grows disk later → (left : List ℕ) → Leaves true later left → BeginsWith left (on_disk disk)
 crash-first disk later grows left (rest, is) =
     let stays = kept-first disk later grows in
     (stays.0 ++ rest, is ∙ ap (λ bs. bs ++ rest) stays.1 ∙ append_assoc (on_disk disk) stays.0 rest)
@@ -142,7 +139,13 @@ pub told_on_disk_outlives : (told : Option Disk) → ForSome told IsOnDisk → I
 told_on_disk_outlives None on_disk = tt
 told_on_disk_outlives (Some disk) on_disk = outlives disk (on_disk disk refl)
 
--- ---- what lasts of a sink at the end of a file
+-- ---- what was put on a sink at the end of a file, and what lasts of it
+
+abbrev pub bytes_put : Option Disk → List ℕ → Option (List ℕ)
+bytes_put told waits = option_map (λ (disk : Disk). disk.found ++ waits) told
+
+abbrev pub bytes_lasting : Bool → Option Disk → Option (List ℕ)
+bytes_lasting sync told = option_map (λ (disk : Disk). if sync then on_disk disk else disk.found) told
 
 pub lasting_grows : (sync : Bool) (old new : Option Disk) → Steps Grows old new → Lasts (bytes_lasting sync old) (bytes_lasting sync new)
 lasting_grows sync None None grows = refl

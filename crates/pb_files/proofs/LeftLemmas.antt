@@ -7,10 +7,10 @@ use Rattle.pb_io.specs.Source.{HandsOut, SourceState}
 use Rattle.pb_collecting.specs.Ends.{Change, EndStates, IsSame}
 use Rattle.pb_collecting.specs.JournalHeadline.{HoldsAnswered, LosesNone, LosesNoneLater, Outlives}
 use Rattle.pb_files.specs.Begins.{BeginsWith}
-use Rattle.pb_files.specs.Disk.{Disk, Grows, IsOnDisk}
-use Rattle.pb_files.specs.Journaling.{BeginsEmpty, HandsOnAnswered, IsStarted, LeavesAnswered, MayBeLeft, journal_over}
-use Rattle.pb_files.specs.JournalSink.{EndState, bytes_lasting, bytes_put, sink_state}
-use Rattle.pb_files.proofs.FileLemmas.{all_last, crash-first, lasting_all}
+use Rattle.pb_files.specs.Disk.{Disk, Grows, IsOnDisk, Leaves}
+use Rattle.pb_files.specs.Journaling.{BeginsEmpty, HandsOnAnswered, IsStarted, LeavesAnswered, journal_over}
+use Rattle.pb_files.specs.JournalSink.{EndState, sink_state}
+use Rattle.pb_files.proofs.FileLemmas.{all_last, bytes_lasting, bytes_put, crash-first, lasting_all}
 
 -- what comes first of what comes first
 begins-first : (all part first rest : List ℕ) → BeginsWith all part → part ≡ first ++ rest → BeginsWith all first
@@ -35,7 +35,7 @@ module _ (sync : Bool) (disk : Disk) (reader : Change SourceState) (end : Change
 
   -- what lasts begins with what it did, and so does what is left
   left_first : (now : Disk) (gained : List ℕ) (mode : Bool) → LastBehind (bytes_lasting mode (Some now)) gained
-      → (later : Disk) → Grows now later → (left : List ℕ) → MayBeLeft mode later left → BeginsWith left (disk.found ++ gained)
+      → (later : Disk) → Grows now later → (left : List ℕ) → Leaves mode later left → BeginsWith left (disk.found ++ gained)
   left_first now gained true lasts later grows left leaves =
       begins-first left _ (disk.found ++ gained) lasts.0 (crash-first now later grows left leaves) (lasts.1 ∙ sym (append_assoc disk.found gained lasts.0))
   left_first now gained false lasts later grows left leaves =

@@ -1,5 +1,5 @@
 -- What is known of a file that is only added to, and what a kill and a crash leave of it.
-use Rattle.std.specs.Prelude.{◌≡◌, ℕ, ◌≤◌, Bool, true, false, List, ◌++◌, length, take}
+use Rattle.std.specs.Prelude.{◌≡◌, ℕ, ◌≤◌, Bool, true, false, List, [], ◌++◌, length, take}
 use Rattle.std.specs.Prelude.{Option, None}
 use Rattle.std.specs.Option.{ForSome}
 use Rattle.pb_io.specs.declared.fault.Fault.{Fault}
@@ -39,10 +39,6 @@ StaysSound old new = IsSound old → IsSound new
 abbrev pub SyncsAll : Bool → JournalState → Type 0
 SyncsAll sync file = sync ≡ true → file.fault ≡ None → ForSome file.told IsSound
 
--- A crash leaves what is on the disk, and behind it anything at all.
-abbrev pub Leaves : Disk → List ℕ → Type 0
-Leaves disk left = BeginsWith left (on_disk disk)
-
 -- These bytes were added at the end, and what is on the disk stays there.
 pub record Adds (bytes : List ℕ) (old new : Disk) : Type 0 where
   pub found : new.found ≡ old.found ++ bytes
@@ -55,13 +51,22 @@ Grows old new = (bytes : List ℕ) × Adds bytes old new
 -- No byte was added, and all are on the disk but those that the system called clean before. No more
 -- bytes are there than are found.
 pub record Syncs (old new : Disk) : Type 0 where
-  pub found : new.found ≡ old.found
+  pub none : Adds [] old new
   pub all : IsSound old → IsOnDisk new
-  pub kept : old.kept ≤ new.kept
   pub within : new.kept ≤ length new.found
   pub sound : StaysSound old new
 
--- whatever is added later, a crash leaves these bytes first
+-- What may be left of a file whose lines are synced: a crash leaves what is on the disk, and behind
+-- it anything at all. Of another a kill leaves all that is found.
+abbrev pub Leaves : Bool → Disk → List ℕ → Type 0
+Leaves true disk left = BeginsWith left (on_disk disk)
+Leaves false disk left = left ≡ disk.found
+
+-- whatever is added later, what may be left then begins with these bytes
+abbrev pub StaysFirst : Bool → Disk → List ℕ → Type 0
+StaysFirst sync disk bytes = (later : Disk) → Grows disk later → (left : List ℕ)
+    → Leaves sync later left → BeginsWith left bytes
+
+-- so does what a crash leaves with all that is found
 abbrev pub OutlivesCrash : Disk → Type 0
-OutlivesCrash disk = (later : Disk) → Grows disk later → (left : List ℕ) → Leaves later left
-    → BeginsWith left disk.found
+OutlivesCrash disk = StaysFirst true disk disk.found

@@ -1,7 +1,7 @@
 -- What is known of a sink at the end of a journal's file.
-use Rattle.std.specs.Prelude.{◌≡◌, ◌==◌, Bool, false, true, if◌then◌else◌, List, [], ℕ, ◌++◌}
-use Rattle.std.specs.Prelude.{Option, None, Some, IfSome, Result, OnErr, OnOk, is_err, is_some}
-use Rattle.std.specs.Option.{ForSome}
+use Rattle.std.specs.Prelude.{◌≡◌, ◌==◌, Bool, true, if◌then◌else◌, List, [], ℕ, ◌++◌}
+use Rattle.std.specs.Prelude.{Option, Some, IfSome, Result, OnErr, OnOk, is_err, is_some}
+use Rattle.std.specs.Option.{ForSome, option_map}
 use Rattle.pb_io.specs.Sink.{SinkState}
 use Rattle.pb_files.specs.Disk.{Adds, Disk, JournalState, Grows, IsOnDisk, OutlivesCrash, SyncsAll}
 use Rattle.pb_files.specs.Disk.{on_disk}
@@ -24,24 +24,16 @@ pub record EndState : Type 0 where
 abbrev pub syncs : ℕ → Bool
 syncs mode = mode == 1
 
--- what was put: what a reader finds, and then what waits
-abbrev pub bytes_put : Option Disk → List ℕ → Option (List ℕ)
-bytes_put None waits = None
-bytes_put (Some disk) waits = Some (disk.found ++ waits)
-
--- what lasts of it: where a flush syncs what is on the disk, which a crash leaves, and else what a
--- reader finds, which a kill leaves
-abbrev pub bytes_lasting : Bool → Option Disk → Option (List ℕ)
-bytes_lasting sync None = None
-bytes_lasting true (Some disk) = Some (on_disk disk)
-bytes_lasting false (Some disk) = Some disk.found
-
--- The end as a sink. Of a file that tells nothing what was put is what it has taken, and then what
--- waits, and what lasts of it is what was handed on.
+-- The end as a sink. What was put is what a reader finds, and then what waits. What lasts of it is
+-- what is on the disk, which a crash leaves, where a flush syncs, and else what a reader finds,
+-- which a kill leaves. Of a file that tells nothing what was put is what it has taken, and then
+-- what waits, and what lasts of it is what was handed on.
 abbrev pub sink_state : Bool → Bool → EndState → SinkState
 sink_state tells sync end = record {
-  bytes = if tells then bytes_put end.told end.waits else Some (end.taken ++ end.waits);
-  lasting = if tells then bytes_lasting sync end.told else Some end.handed_on;
+  bytes = if tells then option_map (λ disk. disk.found ++ end.waits) end.told
+      else Some (end.taken ++ end.waits);
+  lasting = if tells then option_map (λ disk. if sync then on_disk disk else disk.found) end.told
+      else Some end.handed_on;
   failed = end.failed;
   flushed = end.flushed;
   flushes = end.flushes;

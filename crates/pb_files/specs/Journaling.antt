@@ -1,10 +1,10 @@
 -- What is left of a journal's file once a run has ended, and whatever comes then.
-use Rattle.std.specs.Prelude.{◌≡◌, Bool, true, false, List, [], ◌++◌, ℕ, Some}
+use Rattle.std.specs.Prelude.{◌≡◌, Bool, true, List, [], ◌++◌, ℕ, Some}
 use Rattle.pb_io.specs.Source.{SourceState}
 use Rattle.pb_collecting.specs.Ends.{Change, EndStates, JournalStates, between}
 use Rattle.pb_collecting.specs.JournalHeadline.{HoldsAnswered}
 use Rattle.pb_files.specs.Begins.{BeginsWith}
-use Rattle.pb_files.specs.Disk.{Disk, Grows, IsOnDisk, Leaves}
+use Rattle.pb_files.specs.Disk.{Disk, IsOnDisk, StaysFirst}
 use Rattle.pb_files.specs.JournalSink.{EndState, sink_state}
 
 -- A journal that a run has come to: it is read from its first byte, nothing waits, and where a
@@ -23,11 +23,6 @@ journal_over tells sync reader end = record {
   journal = between (sink_state tells sync) end.old end.new;
 }
 
--- what a crash may leave, where a flush syncs; else what a kill leaves, which is all that is found
-abbrev pub MayBeLeft : Bool → Disk → List ℕ → Type 0
-MayBeLeft true disk left = Leaves disk left
-MayBeLeft false disk left = left ≡ disk.found
-
 -- Whatever is added later, what may be left then begins with the journal as it was and what it
 -- gained: this holds each game that a reply calls `ok`.
 pub record LeavesAnswered (sync : Bool) (before : Disk) (end : EndState)
@@ -36,8 +31,7 @@ pub record LeavesAnswered (sync : Bool) (before : Disk) (end : EndState)
   pub told : end.told ≡ Some disk
   pub gained : List ℕ
   pub holds : HoldsAnswered (before.found ++ gained) e
-  pub first : (later : Disk) → Grows disk later → (left : List ℕ) → MayBeLeft sync later left
-      → BeginsWith left (before.found ++ gained)
+  pub first : StaysFirst sync disk (before.found ++ gained)
 
 -- The end of a file where nothing was put yet.
 pub record BeginsEmpty (end : EndState) : Type 0 where

@@ -1,8 +1,9 @@
 //! The files of one run, which have to be different ones.
 
-ghost use Rattle.std.specs.Prelude.{◌≡◌, ℕ, All, AllPairs, IfNone, IfSome, List};
+ghost use Rattle.std.specs.Prelude.{◌≡◌, ◌≢◌, ℕ, All, AllPairs, IfNone, IfSome, List};
 ghost use Rattle.std.specs.Prelude.{false, true, ⊤};
-ghost use Rattle.pb_files.specs.Apart.{Clashes, IsAmong, IsNoOutput};
+ghost use Rattle.pb_files.specs.Apart.{Clashes, IsAmong, output};
+ghost use Rattle.pb_messages.specs.declared.part.Part.TheVariants.{Book};
 
 use crate::one_file::{OUTPUT, is_one_file};
 use crate::stop::Stop;
@@ -46,7 +47,8 @@ pub enum Clash {
 pub fn clash_among<P: Places>(places: &P, files: &[(Part, &str)]) -> Option<Clash>
     ensures apart { IfNone result
         (AllPairs (λ a b. P.apart places.now a.1.now b.1.now) files.now) }
-    ensures no_output { IfNone result (All (IsNoOutput (P.apart places.now)) files.now) }
+    ensures no_output { IfNone result (All (λ file. file.0 ≢ Book
+        → P.apart places.now file.1.now output) files.now) }
     ensures clash { IfSome result (Clashes (P.one places.now) files.now) }
 {
     let ((part, path), rest) = files.split_first()?;

@@ -12,7 +12,7 @@ ghost use Rattle.pb_files.specs.Disk.{on_disk};
 ghost use Rattle.pb_files.specs.Begins.{BeginsWith};
 ghost use Rattle.pb_files.specs.JournalSink.{EndState, sink_state, syncs};
 ghost use Rattle.pb_files.specs.Journaling.{BeginsEmpty, HandsOnAnswered, IsStarted};
-ghost use Rattle.pb_files.specs.Journaling.{LeavesAnswered, MayBeLeft, journal_over};
+ghost use Rattle.pb_files.specs.Journaling.{LeavesAnswered, journal_over};
 
 use crate::journal_sink::{SYNCED, WRITTEN};
 
@@ -27,14 +27,14 @@ pub fn lines_outlive_kills()
 /// Lines that are on the disk outlive every later crash: whatever is added later, and whatever
 /// bytes a crash leaves behind them, they are the first.
 pub fn lines_on_disk_outlive_crashes()
-    ensures { (now later : Disk) → Grows now later → (left : List ℕ) → Leaves later left
+    ensures { (now later : Disk) → Grows now later → (left : List ℕ) → Leaves true later left
         → BeginsWith (ended_lines left) (ended_lines (on_disk now)) }
 {}
 
 /// Where all that is found outlives crashes, its lines are the first after every later crash.
 pub fn synced_lines_outlive_crashes()
     ensures { (now later : Disk) → OutlivesCrash now → Grows now later → (left : List ℕ)
-        → Leaves later left → BeginsWith (ended_lines left) (ended_lines now.found) }
+        → Leaves true later left → BeginsWith (ended_lines left) (ended_lines now.found) }
 {}
 
 /// All that is found outlives crashes just where it is on the disk.
@@ -44,13 +44,12 @@ pub fn on_disk_is_what_outlives_crashes()
     ensures on_disk { (disk : Disk) → OutlivesCrash disk → IsOnDisk disk }
 {}
 
-/// A crash may leave any bytes behind those that are on the disk, and with `sync` that may be left
-/// of a journal. Without, all that is found may be, and a run has come to a journal as soon as it
-/// reads all of it and nothing waits.
+/// With `sync` a crash may leave any bytes behind those that are on the disk. Without, all that is
+/// found may be left, and a run has come to a journal as soon as it reads all of it and nothing
+/// waits.
 pub fn what_may_be_left()
-    ensures crash { (disk : Disk) (behind : List ℕ) → Leaves disk (on_disk disk ++ behind) }
-    ensures synced { (disk : Disk) (left : List ℕ) → Leaves disk left → MayBeLeft true disk left }
-    ensures killed { (disk : Disk) → MayBeLeft false disk disk.found }
+    ensures crash { (disk : Disk) (behind : List ℕ) → Leaves true disk (on_disk disk ++ behind) }
+    ensures killed { (disk : Disk) → Leaves false disk disk.found }
     ensures started { (disk : Disk) (end : EndState) (reader : SourceState)
         → end.told ≡ Some disk → reader.to_come ≡ Some disk.found → end.waits ≡ []
         → IsStarted false disk end reader }

@@ -1,7 +1,7 @@
 -- What a run knows of a file that it has open, by what the system has answered, and what the run may
 -- do with it.
-use Rattle.std.specs.Prelude.{◌≡◌, ◌≢◌, ◌⊎◌, ◌≤◌, ◌<◌, ◌+◌, ◌-◌, if◌then◌else◌, Bool, false, true}
-use Rattle.std.specs.Prelude.{List, [], ℕ, Option, None, Some}
+use Rattle.std.specs.Prelude.{◌≡◌, ◌≢◌, ◌⊎◌, ◌≤◌, ◌<◌, ◌-◌, ◌&&◌, if◌then◌else◌, not, Bool, false}
+use Rattle.std.specs.Prelude.{true, List, [], ℕ, Option, None, Some, IsSomeAnd}
 use Rattle.std.specs.Option.{option_map}
 use Rattle.pb_folder.specs.declared.folder.Entry.{Entry}
 use Rattle.pb_folder.specs.declared.folder.Entry.TheVariants.{Target, Draft}
@@ -36,19 +36,19 @@ pub record FileState : Type 0 where
   -- a write or a sync has failed, after which the system calls bytes clean that aren't on the disk
   pub lost : Bool
 
--- only the file of the name is added to
-abbrev pub appends_at : Entry → Bool → Bool
-appends_at Target appends = appends
-appends_at (Draft number) appends = false
+-- whether it is the name of a draft
+abbrev pub is_draft : Entry → Bool
+is_draft Target = false
+is_draft entry = true
 
--- a file that was opened, and one that was made
+-- a file that was opened, of which only that of the name is added to; and one that was made
 abbrev pub opened : Entry → Bool → FileState
 opened entry appends = record {
   entry = entry;
   named = false;
   made = false;
   in_place = false;
-  appends = appends_at entry appends;
+  appends = not (is_draft entry) && appends;
   hold = Nothing;
   status = None;
   handed = [];
@@ -82,16 +82,13 @@ IsJustOpened appends s = s ≡ record (opened Target appends) { status = s.statu
 -- locks, no run takes any for that
 abbrev pub is_held : Hold → Bool
 is_held Nothing = false
-is_held Shared = true
-is_held Alone = true
-is_held Unlockable = true
+is_held hold = true
 
 -- whether it keeps other runs out, as far as there are locks
 abbrev pub is_alone : Hold → Bool
 is_alone Nothing = false
 is_alone Shared = false
-is_alone Alone = true
-is_alone Unlockable = true
+is_alone hold = true
 
 -- what a run has that asked for a lock
 abbrev pub hold_by : Hold → Lock → Hold
@@ -109,11 +106,6 @@ locked hold lock s = record s { hold = hold_by hold lock; named = false }
 abbrev pub IsUntouched : FileState → Type 0
 IsUntouched s = (s.handed ≡ []) × (s.lost ≡ false)
 
--- whether it is the name of a draft
-abbrev pub is_draft : Entry → Bool
-is_draft Target = false
-is_draft (Draft number) = true
-
 -- the name of a draft was seen to lead to it once it was locked
 abbrev pub IsNamedDraft : FileState → Type 0
 IsNamedDraft s = (is_draft s.entry ≡ true) × (s.named ≡ true)
@@ -126,12 +118,10 @@ IsOwnDraft s = IsNamedDraft s × (s.made ≡ true) × (is_held s.hold ≡ true)
 abbrev pub IsNewDraft : Bool → FileState → Type 0
 IsNewDraft ledger s = IsOwnDraft s × (ledger ≡ true → is_alone s.hold ≡ true) × IsUntouched s
 
--- a draft that is left over: no run has a lock of it, so that this one got its own
-abbrev pub IsLeftOver : FileState → Type 0
-IsLeftOver s = IsNamedDraft s × (s.hold ≡ Alone)
-
+-- a draft of this run, or one that is left over: no run has a lock of it, so that this one got its
+-- own
 abbrev pub MayRemove : FileState → Type 0
-MayRemove s = IsOwnDraft s ⊎ IsLeftOver s
+MayRemove s = IsOwnDraft s ⊎ (IsNamedDraft s × (s.hold ≡ Alone))
 
 -- a draft that this run made, and that another run has, or has removed
 abbrev pub IsOfOther : FileState → Type 0
@@ -145,14 +135,13 @@ MayShare s = is_draft s.entry ≡ true → s.made ≡ true
 abbrev pub without : FileState → ℕ → ℕ
 without s drafts = if s.made then drafts - 1 else drafts
 
--- and with one that it has made, if it has
-abbrev pub with_draft : {X : Type 0} → Option X → ℕ → ℕ
-with_draft None drafts = drafts
-with_draft (Some draft) drafts = drafts + 1
+-- the file of the name, which was seen to lead to it once it was locked
+abbrev pub HasName : FileState → Type 0
+HasName s = (s.entry ≡ Target) × (s.named ≡ true)
 
--- the file of the name, which this run alone holds
+-- this run alone holds it
 abbrev pub IsHeldAlone : FileState → Type 0
-IsHeldAlone s = (s.entry ≡ Target) × (s.named ≡ true) × (is_alone s.hold ≡ true)
+IsHeldAlone s = HasName s × (is_alone s.hold ≡ true)
 
 -- so does whoever goes on from a ledger, of whose file this is known
 abbrev pub IsHolder : FileState → Status → Type 0
@@ -179,61 +168,42 @@ Bars Mount old new = new.device ≢ old.device
 Bars Owner old new = (new.user ≢ old.user) ⊎ (new.group ≢ old.group)
 Bars why old new = ⊥
 
--- the new file takes after one of this status
-abbrev pub Fits : Status → FileState → Type 0
-Fits old s = (new : Status) × (s.status ≡ Some new) × TakesAfter old new
+-- it is so of what was told of the two
+abbrev pub ToldOfBoth : (Status → Status → Type 0) → FileState → FileState → Type 0
+ToldOfBoth R one other = IsSomeAnd one.status (λ status. IsSomeAnd other.status (R status))
 
--- it can't, for this reason
-abbrev pub FitsNot : Unreplaceable → Status → FileState → Type 0
-FitsNot why old s = (new : Status) × (s.status ≡ Some new) × Bars why old new
+-- A draft may take its place: the name leads to it, and no other run holds it; a ledger is held by
+-- this run under another handle.
+abbrev pub MayReplace : Bool → FileState → Type 0
+MayReplace ledger s = HasName s × (ledger ≡ false → is_held s.hold ≡ true)
 
--- The draft can take the place of this file: the name leads to it, and no other run holds it; a
--- ledger is held by this run under another handle.
-pub record CanReplace (ledger : Bool) (old draft : FileState) : Type 0 where
-  pub entry : old.entry ≡ Target
-  pub named : old.named ≡ true
-  pub held : ledger ≡ false → is_held old.hold ≡ true
-  pub status : Status
-  pub told : old.status ≡ Some status
-  pub fits : Fits status draft
+-- this draft can
+abbrev pub CanReplace : Bool → FileState → FileState → Type 0
+CanReplace ledger old draft = MayReplace ledger old × ToldOfBoth TakesAfter old draft
 
 -- an ordinary file of one name
 abbrev pub IsPlain : Status → Type 0
 IsPlain status = (status.is_file ≡ true) × (status.names ≤ 1)
 
 -- what stands under the name, which a draft may replace as far as that is known before there is one
-pub record IsOld (ledger : Bool) (status : Status) (s : FileState) : Type 0 where
-  pub entry : s.entry ≡ Target
-  pub named : s.named ≡ true
-  pub held : ledger ≡ false → is_held s.hold ≡ true
-  pub told : s.status ≡ Some status
-  pub untouched : IsUntouched s
+abbrev pub IsOld : Bool → Status → FileState → Type 0
+IsOld ledger status s = MayReplace ledger s × (s.status ≡ Some status) × IsUntouched s
 
 -- both tell of one ordinary file
 abbrev pub IsOfOne : Status → Status → Type 0
 IsOfOne one other =
     (one.is_file ≡ true) × (one.device ≡ other.device) × (one.inode ≡ other.inode)
 
--- what was told of the two is of one file
-pub record IsOneFile (one other : FileState) : Type 0 where
-  pub status : Status
-  pub other_status : Status
-  pub told : one.status ≡ Some status
-  pub other_told : other.status ≡ Some other_status
-  pub same : IsOfOne status other_status
-
 -- A ledger is replaced by a run that holds it alone, and only that file is.
 abbrev pub IsOfHolder : Option FileState → Option FileState → Type 0
-IsOfHolder (Some held) (Some old) = IsHeldAlone held × IsOneFile held old
+IsOfHolder (Some held) (Some old) = IsHeldAlone held × ToldOfBoth IsOfOne held old
 IsOfHolder held old = ⊥
 
--- the system told that it is a device or a pipe, which keeps nothing
-abbrev pub IsDevice : FileState → Type 0
-IsDevice s = (status : Status) × (s.status ≡ Some status) × (status.is_file ≡ false)
-
--- It may be emptied: this run has written nothing into it, and no other run has it.
+-- It may be emptied: this run has written nothing into it, and no other run has it; or it is a
+-- device or a pipe, which keeps nothing.
 abbrev pub MayEmpty : FileState → Type 0
-MayEmpty s = IsUntouched s × ((is_held s.hold ≡ true) ⊎ IsDevice s)
+MayEmpty s = IsUntouched s
+    × ((is_held s.hold ≡ true) ⊎ IsSomeAnd s.status (λ status. status.is_file ≡ false))
 
 -- it is written in place from now on
 abbrev pub IsInPlace : FileState → Type 0
@@ -241,12 +211,10 @@ IsInPlace s = (s.in_place ≡ true) × IsUntouched s
 
 -- The file has the name, was made by this run, took just these bytes, and they are on the disk.
 abbrev pub IsPut : List ℕ → FileState → Type 0
-IsPut bytes s = (s.entry ≡ Target) × (s.named ≡ true) × (s.made ≡ true) × (is_held s.hold ≡ true)
-    × (s.handed ≡ bytes) × (s.synced ≡ true)
+IsPut bytes s = HasName s × (s.made ≡ true) × (is_held s.hold ≡ true) × (s.handed ≡ bytes)
+    × (s.synced ≡ true)
 
 -- whether nothing was seen under the name
 abbrev pub is_nothing : Seen → Bool
 is_nothing Seen.Nothing = true
-is_nothing Seen.File = false
-is_nothing Seen.Folder = false
-is_nothing Seen.Other = false
+is_nothing seen = false

@@ -1,12 +1,13 @@
 -- What a store knows that is a name in a folder.
 use Rattle.std.specs.Prelude.{◌≡◌, ◌⊎◌, Bool, false, true, List, ℕ, take, Option, None, Some}
-use Rattle.std.specs.Prelude.{Result, IfErr, IfSome, OnErr, OnOk, is_err}
+use Rattle.std.specs.Prelude.{Result, IfErr, IfSome, IsSomeAnd, OnErr, OnOk, is_err}
 use Rattle.std.specs.Option.{is_some, option_map}
 use Rattle.pb_io.specs.Sink.{SinkState}
 use Rattle.pb_collecting.specs.declared.store.StoreError.{StoreError}
 use Rattle.pb_collecting.specs.declared.store.StoreError.TheVariants.{Open}
 use Rattle.pb_folder.specs.File.{FileState, IsPut}
-use Rattle.pb_folder.specs.Shelf.{OldOrNew, Saved, Shelf}
+use Rattle.pb_folder.specs.Saving.{NamesBytes}
+use Rattle.pb_folder.specs.Shelf.{OldOrNew, Shelf}
 use Rattle.pb_folder.specs.Steps.{Steps}
 
 -- what the file that has the name was handed: by the end that writes it in place, or else as the
@@ -15,19 +16,14 @@ abbrev pub handed_at : Option SinkState → Option FileState → Option (List �
 handed_at None named = option_map (λ file. file.handed) named
 handed_at (Some end) named = end.bytes
 
--- the name was given to this file, which this run made of just these bytes
-abbrev pub IsPutAs : List ℕ → Option FileState → Type 0
-IsPutAs bytes None = ⊥
-IsPutAs bytes (Some file) = IsPut bytes file
-
 -- How a text is kept by a draft: the name was given to a file of just these bytes, which no crash can
 -- undo; or it wasn't given, or a crash may undo it. At each moment so far a crash left the old file
 -- or these bytes.
 pub record KeepsByDraft {A E : Type 0} (answer : Result A E) (bytes : List ℕ)
     (before after : Option FileState) (old new : Option Shelf) : Type 0 where
-  pub put : OnOk answer (IsPutAs bytes after × Steps (Saved bytes) old new)
-  pub held : OnErr answer ((after ≡ before) ⊎ IsPutAs bytes after)
-  pub whole : OldOrNew bytes old new
+  pub put : OnOk answer (IsSomeAnd after (IsPut bytes) × NamesBytes true bytes old new)
+  pub held : OnErr answer ((after ≡ before) ⊎ IsSomeAnd after (IsPut bytes))
+  pub whole : Steps (OldOrNew (Some bytes)) old new
 
 -- what may be handed, when these bytes aren't kept, in the place of what was there: a front of them,
 -- unless the file couldn't be opened
@@ -59,4 +55,4 @@ WritesInPlace answer bytes place place' shelf shelf' =
 -- made of just these bytes, which are on the disk.
 abbrev pub LeadsToHanded : Option SinkState → Option FileState → Type 0
 LeadsToHanded place named =
-    is_some place ≡ false → IfSome (handed_at place named) (λ bytes. IsPutAs bytes named)
+    is_some place ≡ false → IfSome (handed_at place named) (λ bytes. IsSomeAnd named (IsPut bytes))

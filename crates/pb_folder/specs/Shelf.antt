@@ -2,7 +2,6 @@
 -- a crash leaves under it.
 use Rattle.std.specs.Prelude.{◌≡◌, ◌⊎◌, ℕ, Bool, false, true, List, [], ◌∷◌, ◌++◌, Option, Some}
 use Rattle.pb_io.specs.Sink.{SinkState}
-use Rattle.pb_folder.specs.Steps.{Steps}
 
 -- What stands under a name: bytes, or no file.
 abbrev pub Content : Type 0
@@ -22,54 +21,33 @@ pub record Begins (end : SinkState) : Type 0 where
   pub empty : end.bytes ≡ Some []
   pub works : end.failed ≡ false
 
--- A reader finds this content. A crash may leave it, or what it may have left before, and so it
--- might up to now: no part of it.
-pub record Names (content : Content) (old new : Shelf) : Type 0 where
-  pub found : new.found ≡ content
-  pub leaves : new.leaves ≡ old.leaves ++ content ∷ []
-  pub left : new.left ≡ old.left ++ content ∷ []
-  pub torn : new.torn ≡ old.torn
-
--- A crash might have left this content, or what it might have left before: no part of it.
-pub record MayHaveLeft (content : Content) (old new : Shelf) : Type 0 where
-  pub left : (new.left ≡ old.left) ⊎ (new.left ≡ old.left ++ content ∷ [])
-  pub torn : new.torn ≡ old.torn
-
--- The name wasn't given, as far as a reader sees.
-pub record NamesNot (content : Content) (old new : Shelf) : Type 0 where
-  pub found : new.found ≡ old.found
-  pub leaves : (new.leaves ≡ old.leaves) ⊎ (new.leaves ≡ old.leaves ++ content ∷ [])
-  pub crash : MayHaveLeft content old new
+-- The name was given to this content: a reader finds it. A crash may leave it, or what it may have
+-- left before, and so it might up to now: no part of it.
+abbrev pub renamed : Content → Shelf → Shelf
+renamed content s = record s {
+  found = content;
+  leaves = s.leaves ++ content ∷ [];
+  left = s.left ++ content ∷ [];
+}
 
 -- The folder's names are on the disk: a crash leaves what a reader finds.
-pub record Settles (old new : Shelf) : Type 0 where
-  pub found : new.found ≡ old.found
-  pub leaves : new.leaves ≡ old.found ∷ []
-  pub left : new.left ≡ old.left
-  pub torn : new.torn ≡ old.torn
+abbrev pub settled : Shelf → Shelf
+settled s = record s { leaves = s.found ∷ [] }
 
--- They may be there or not.
-pub record SettlesNot (old new : Shelf) : Type 0 where
-  pub found : new.found ≡ old.found
-  pub leaves : new.leaves ≡ old.leaves
-  pub left : new.left ≡ old.left
-  pub torn : new.torn ≡ old.torn
+-- this content is one more of them, or none is
+abbrev pub MayGain : Content → List Content → List Content → Type 0
+MayGain content old new = (new ≡ old) ⊎ (new ≡ old ++ content ∷ [])
+
+-- A crash at any moment so far left this content, or what it would have left before: no part of it.
+abbrev pub OldOrNew : Content → Shelf → Shelf → Type 0
+OldOrNew content old new = MayGain content old.left new.left × (new.torn ≡ old.torn)
+
+-- The name wasn't given to this content, as far as a reader sees. A crash may leave that all the
+-- same.
+abbrev pub NamesNot : Content → Shelf → Shelf → Type 0
+NamesNot content old new = (new.found ≡ old.found) × MayGain content old.leaves new.leaves
+    × OldOrNew content old new
 
 -- The file under the name is empty. From now on a crash may leave a part of what is put there.
-pub record Empties (old new : Shelf) : Type 0 where
-  pub found : new.found ≡ Some []
-  pub torn : new.torn ≡ true
-
--- ---- a file that is made anew whole
-
--- A reader finds these bytes, and a crash leaves them from now on. Up to now it left these bytes,
--- or what it would have left before.
-pub record Saved (bytes : List ℕ) (old new : Shelf) : Type 0 where
-  pub found : new.found ≡ Some bytes
-  pub leaves : new.leaves ≡ Some bytes ∷ []
-  pub left : new.left ≡ old.left ++ Some bytes ∷ []
-  pub torn : new.torn ≡ old.torn
-
--- A crash at any moment so far left these bytes, or what it would have left before.
-abbrev pub OldOrNew : List ℕ → Option Shelf → Option Shelf → Type 0
-OldOrNew bytes old new = Steps (MayHaveLeft (Some bytes)) old new
+abbrev pub Empties : Shelf → Shelf → Type 0
+Empties old new = (new.found ≡ Some []) × (new.torn ≡ true)

@@ -1,8 +1,10 @@
 //! Drafts, which stand beside the file that they are to replace.
 
-ghost use Rattle.std.specs.Prelude.{◌≡◌, ◌-◌, IfOk, IfSome, IsNone, OnErr, false, true};
-ghost use Rattle.pb_folder.specs.File.{Fits, FitsNot, IsNewDraft, IsOwnDraft, is_alone};
-ghost use Rattle.pb_folder.specs.File.{is_held, new_draft, with_draft};
+ghost use Rattle.std.specs.Prelude.{◌≡◌, ◌+◌, ◌-◌, IfOk, IfSome, IsNone, IsSomeAnd, OnErr, false};
+ghost use Rattle.std.specs.Prelude.{true};
+ghost use Rattle.std.specs.Option.{option_len};
+ghost use Rattle.pb_folder.specs.File.{Bars, IsNewDraft, IsOwnDraft, TakesAfter, is_alone, is_held};
+ghost use Rattle.pb_folder.specs.File.{new_draft};
 
 use crate::folder::{Entry, Folder, Lock};
 use crate::status::{Status, why_not};
@@ -45,7 +47,7 @@ pub fn make_draft<F: Folder>(
 ) -> io::Result<Option<F::File>>
     ensures new { IfOk result (λ made. IfSome made (λ draft. IsNewDraft is_ledger (F.file draft))) }
     ensures drafts { IfOk result (λ made. F.drafts folder.new
-        ≡ with_draft made (F.drafts folder.old)) }
+        ≡ F.drafts folder.old + option_len made) }
     ensures none { OnErr result (F.drafts folder.new ≡ F.drafts folder.old) }
     ensures free { F.free folder.new ≡ F.free folder.old }
     ensures same { F.shelf folder.new ≡ F.shelf folder.old }
@@ -75,7 +77,7 @@ pub fn make_draft<F: Folder>(
 pub fn make_first_draft<F: Folder>(folder: &mut F) -> io::Result<Option<F::File>>
     ensures new { IfOk result (λ made. IfSome made (λ draft. IsNewDraft false (F.file draft))) }
     ensures drafts { IfOk result (λ made. F.drafts folder.new
-        ≡ with_draft made (F.drafts folder.old)) }
+        ≡ F.drafts folder.old + option_len made) }
     ensures none { OnErr result (F.drafts folder.new ≡ F.drafts folder.old) }
     ensures free { F.free folder.new ≡ F.free folder.old }
     ensures same { F.shelf folder.new ≡ F.shelf folder.old }
@@ -142,8 +144,10 @@ pub fn take_after<F: Folder>(
     old: &Status,
 ) -> io::Result<Option<Unreplaceable>>
     requires { IsOwnDraft (F.file draft.old) }
-    ensures fits { IfOk result (λ why. IsNone why → Fits old.now (F.file draft.new)) }
-    ensures bars { IfOk result (λ why. IfSome why (λ w. FitsNot w old.now (F.file draft.new))) }
+    ensures fits { IfOk result (λ why. IsNone why
+        → IsSomeAnd (F.file draft.new).status (TakesAfter old.now)) }
+    ensures bars { IfOk result (λ why. IfSome why (λ w.
+        IsSomeAnd (F.file draft.new).status (Bars w old.now))) }
     ensures same { F.file draft.new ≡ record (F.file draft.old) {
       status = (F.file draft.new).status;
     } }

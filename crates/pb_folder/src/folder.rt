@@ -8,7 +8,7 @@ ghost use Rattle.pb_folder.specs.File.{CanReplace, FileState, IsNewDraft, IsOfHo
 ghost use Rattle.pb_folder.specs.File.{IsOwnDraft, MayEmpty, MayRemove, MayShare, emptied};
 ghost use Rattle.pb_folder.specs.File.{is_nothing, locked, new_draft, opened, with_mode, without};
 ghost use Rattle.pb_folder.specs.Parts.{is_journal, is_ledger, is_made_anew};
-ghost use Rattle.pb_folder.specs.Shelf.{Begins, Empties, Names, NamesNot, Settles, SettlesNot, Shelf};
+ghost use Rattle.pb_folder.specs.Shelf.{Begins, Empties, NamesNot, Shelf, renamed, settled};
 ghost use Rattle.pb_folder.specs.Steps.{Steps};
 ghost use Rattle.pb_folder.specs.declared.folder.Entry.TheVariants.{Draft, Target};
 ghost use Rattle.pb_folder.specs.declared.folder.Hold.TheVariants.{Alone, Shared};
@@ -220,8 +220,8 @@ pub trait Folder {
             (option_map (λ o. file o.now) old) }
         ensures name { OnOk result (file draft.new ≡ record (file draft.old) { entry = Target }) }
         ensures same { OnErr result (file draft.new ≡ file draft.old) }
-        ensures named { OnOk result (Steps (Names (Some (file draft.old).handed))
-            (shelf self.old) (shelf self.new)) }
+        ensures named { OnOk result (shelf self.new
+            ≡ option_map (renamed (Some (file draft.old).handed)) (shelf self.old)) }
         ensures not_named { OnErr result (Steps (NamesNot (Some (file draft.old).handed))
             (shelf self.old) (shelf self.new)) }
         ensures drafts { OnOk result (drafts self.new ≡ drafts self.old - 1) }
@@ -232,9 +232,9 @@ pub trait Folder {
     /// Puts the folder's names on the disk.
     fn sync_names(&mut self) -> io::Result<()>
         ensures settled { OnOk result (unsettled self.old ≡ false
-            → Steps Settles (shelf self.old) (shelf self.new)) }
+            → shelf self.new ≡ option_map settled (shelf self.old)) }
         ensures noted { unsettled self.new ≡ (unsettled self.old || is_err result) }
-        ensures not_settled { OnErr result (Steps SettlesNot (shelf self.old) (shelf self.new)) }
+        ensures not_settled { OnErr result (shelf self.new ≡ shelf self.old) }
         ensures drafts { drafts self.new ≡ drafts self.old }
         ensures part { part self.new ≡ part self.old };
 

@@ -3,9 +3,8 @@
 
 ghost use Rattle.std.specs.Prelude.{◌≡◌, ◌==◌, ◌++◌, ◌∷◌, [], List, None, Some, false, true, ℕ};
 ghost use Rattle.pb_folder.specs.File.{FileState, IsOwnDraft, MayRemove, locked};
-ghost use Rattle.pb_folder.specs.Runs.{HoldsDraft, NameState, OfOthers, Step, after, run_of};
-ghost use Rattle.pb_folder.specs.Runs.{Claims, IsLocked, unnamed};
-ghost use Rattle.pb_folder.specs.Runs.Step.{Ends, Locks, Makes, Unnames};
+ghost use Rattle.pb_folder.specs.Runs.{Claims, IsLocked, NameState, OfOthers, Step, after, holder};
+ghost use Rattle.pb_folder.specs.Runs.Act.{Ends, Locks, Makes, Unnames};
 ghost use Rattle.pb_folder.specs.Shelf.{Content, NamesNot, OldOrNew, Shelf};
 ghost use Rattle.pb_folder.specs.declared.folder.Hold.{Hold};
 ghost use Rattle.pb_folder.specs.declared.folder.Lock.TheVariants.{Held, InUse, Unsupported};
@@ -16,49 +15,49 @@ pub fn what_a_name_may_lead_to()
     ensures given { (content : Content) (old new : Shelf) → new.found ≡ old.found
         → new.leaves ≡ old.leaves ++ content ∷ [] → new.left ≡ old.left ++ content ∷ []
         → new.torn ≡ old.torn → NamesNot content old new }
-    ensures whole { (bytes : List ℕ) (old new : Shelf) → OldOrNew bytes (Some old) (Some new)
+    ensures whole { (content : Content) (old new : Shelf) → OldOrNew content old new
         → new.torn ≡ old.torn }
 {}
 
 /// Two runs never hold the draft of one name, in a model of their steps.
 #[tactic(auto, using(crate::proofs::RunLemmas::one_run))]
 pub fn one_run_holds_a_draft()
-    ensures { (run other : ℕ) (names : NameState) → HoldsDraft run names → HoldsDraft other names
-        → run ≡ other }
+    ensures { (run other : ℕ) (names : NameState) → holder names ≡ Some run
+        → holder names ≡ Some other → run ≡ other }
 {}
 
 /// What others do in a model of runs: steps that are none of a run's are those of others. Who holds
 /// a draft may take its name, and a run that ends lets its locks go.
 pub fn what_steps_do()
-    ensures others { (run : ℕ) (step : Step) (steps : List Step) → (run == run_of step ≡ false)
+    ensures others { (run : ℕ) (step : Step) (steps : List Step) → (run == step.0 ≡ false)
         → OfOthers run steps → OfOthers run (step ∷ steps) }
-    ensures unnamed { (run : ℕ) (names : NameState) → HoldsDraft run names
-        → (after names (Unnames run ∷ [])).leads ≡ None }
+    ensures unnamed { (run : ℕ) (names : NameState) → holder names ≡ Some run
+        → (after names ((run, Unnames) ∷ [])).leads ≡ None }
     ensures ended { (run file : ℕ) (names : NameState) → names.locked file ≡ Some run
-        → (after names (Ends run ∷ [])).locked file ≡ None }
+        → (after names ((run, Ends) ∷ [])).locked file ≡ None }
 {}
 
 /// A run that makes a draft of a free name, and locks it, holds it.
 pub fn a_locked_draft_is_held()
     ensures { (run : ℕ) (names : NameState) → names.leads ≡ None → names.locked names.next ≡ None
-        → HoldsDraft run (after names (Makes run ∷ Locks run names.next ∷ [])) }
+        → holder (after names ((run, Makes) ∷ (run, Locks names.next) ∷ [])) ≡ Some run }
 {}
 
 /// A run that holds a draft holds it on, whatever other runs do and in whatever order: so a run
 /// that has seen that it does may write the draft.
 #[tactic(auto, using(crate::proofs::RunLemmas::still_held))]
 pub fn a_held_draft_stays_held()
-    ensures { (run : ℕ) (names : NameState) (steps : List Step) → HoldsDraft run names
-        → OfOthers run steps → HoldsDraft run (after names steps) }
+    ensures { (run : ℕ) (names : NameState) (steps : List Step) → holder names ≡ Some run
+        → OfOthers run steps → holder (after names steps) ≡ Some run }
 {}
 
 /// What the system has answered of a draft is so in the model, from the moment of the answer on:
 /// other runs' steps leave it so, and so never make what a call requires a thing of the past.
-#[tactic(auto, using(crate::proofs::RunLemmas::claims_new, crate::proofs::RunLemmas::claims_on))]
+#[tactic(auto, using(crate::proofs::RunLemmas::claims_new))]
 pub fn what_is_known_stays_known()
     ensures locked { (run file : ℕ) (hold : Hold) (s : FileState) (names : NameState)
         → names.locked file ≡ None
-        → Claims run file (locked hold Held s) (after names (Locks run file ∷ [])) }
+        → Claims run file (locked hold Held s) (after names ((run, Locks file) ∷ [])) }
     ensures unlocked { (run file : ℕ) (hold : Hold) (s : FileState) (names : NameState)
         → Claims run file (locked hold InUse s) names
         × Claims run file (locked hold Unsupported s) names }
@@ -74,9 +73,9 @@ pub fn what_is_known_stays_known()
 #[tactic(auto, using(crate::proofs::RunLemmas::holds_by, crate::proofs::RunLemmas::unnames))]
 pub fn only_a_held_draft_loses_its_name()
     ensures remove { (run file : ℕ) (s : FileState) (names : NameState) → Claims run file s names
-        → IsLocked s → MayRemove s → HoldsDraft run names }
+        → IsLocked s → MayRemove s → holder names ≡ Some run }
     ensures rename { (run file : ℕ) (s : FileState) (names : NameState) → Claims run file s names
-        → IsLocked s → IsOwnDraft s → HoldsDraft run names }
-    ensures step { (run : ℕ) (names : NameState) → HoldsDraft run names
-        → after names (Unnames run ∷ []) ≡ unnamed names }
+        → IsLocked s → IsOwnDraft s → holder names ≡ Some run }
+    ensures step { (run : ℕ) (names : NameState) → holder names ≡ Some run
+        → after names ((run, Unnames) ∷ []) ≡ record names { leads = None } }
 {}

@@ -1,11 +1,11 @@
 //! What stands under a name whose file is to be made anew.
 
-ghost use Rattle.std.specs.Prelude.{◌≡◌, ◌≤◌, IfOk, IfSome, Err, IsNone, OnOk, false, true};
+ghost use Rattle.std.specs.Prelude.{◌≡◌, ◌≤◌, IfErr, IfOk, IfSome, IsNone, OnOk, false, true};
 ghost use Rattle.std.specs.Option.{is_some, option_map};
-ghost use Rattle.pb_folder.specs.File.{IsHolder, IsOfHolder, IsOld, IsOneFile, IsPlain, IsUntouched};
-ghost use Rattle.pb_folder.specs.File.{MayEmpty, is_held};
+ghost use Rattle.pb_folder.specs.File.{IsHolder, IsOfHolder, IsOfOne, IsOld, IsPlain, IsUntouched};
+ghost use Rattle.pb_folder.specs.File.{MayEmpty, ToldOfBoth, is_held};
 ghost use Rattle.pb_folder.specs.Parts.{is_ledger};
-ghost use Rattle.pb_folder.specs.Saving.{IfRefused, is_refused};
+ghost use Rattle.pb_folder.specs.Saving.{IfRefused};
 ghost use Rattle.pb_folder.specs.declared.folder.Entry.TheVariants.{Target};
 
 use crate::folder::{Entry, Folder, Lock, Seen};
@@ -55,8 +55,10 @@ pub fn look_at<F: Folder>(
     ensures held { IfOk result (λ old. is_ledger (F.part folder.new) ≡ true
         → IsOfHolder (option_map (λ l. F.file l.now.file) ledger.entry)
         (option_map (λ o. F.file o.file) old)) }
-    ensures refused { is_refused result ≡ true → is_ledger (F.part folder.new) ≡ false }
-    ensures refused_file { IfRefused result (λ f. MayEmpty (F.file f)) }
+    ensures refused { IfErr result (λ why. IfRefused why (λ _.
+        is_ledger (F.part folder.new) ≡ false)) }
+    ensures refused_file { IfErr result (λ why. IfRefused why (λ file.
+        IfSome file (λ f. MayEmpty (F.file f)))) }
     ensures drafts { F.drafts folder.new ≡ F.drafts folder.old }
     ensures part { F.part folder.new ≡ F.part folder.old }
     ensures same { F.shelf folder.new ≡ F.shelf folder.old }
@@ -78,8 +80,10 @@ fn look_at_none<F: Folder>(
     ensures none { IfOk result (λ old. IsNone old) }
     ensures free { OnOk result (F.free folder.new ≡ true) }
     ensures book { OnOk result (is_ledger (F.part folder.new) ≡ false) }
-    ensures refused { is_refused result ≡ true → is_ledger (F.part folder.new) ≡ false }
-    ensures refused_file { IfRefused result (λ f. MayEmpty (F.file f)) }
+    ensures refused { IfErr result (λ why. IfRefused why (λ _.
+        is_ledger (F.part folder.new) ≡ false)) }
+    ensures refused_file { IfErr result (λ why. IfRefused why (λ file.
+        IfSome file (λ f. MayEmpty (F.file f)))) }
     ensures drafts { F.drafts folder.new ≡ F.drafts folder.old }
     ensures part { F.part folder.new ≡ F.part folder.old }
     ensures same { F.shelf folder.new ≡ F.shelf folder.old }
@@ -115,8 +119,10 @@ fn look_at_file<F: Folder>(
     ensures held { IfOk result (λ old. is_ledger (F.part folder.new) ≡ true
         → IsOfHolder (option_map (λ l. F.file l.now.file) ledger.entry)
         (option_map (λ o. F.file o.file) old)) }
-    ensures refused { is_refused result ≡ true → is_ledger (F.part folder.new) ≡ false }
-    ensures refused_file { IfRefused result (λ f. MayEmpty (F.file f)) }
+    ensures refused { IfErr result (λ why. IfRefused why (λ _.
+        is_ledger (F.part folder.new) ≡ false)) }
+    ensures refused_file { IfErr result (λ why. IfRefused why (λ file.
+        IfSome file (λ f. MayEmpty (F.file f)))) }
     ensures drafts { F.drafts folder.new ≡ F.drafts folder.old }
     ensures part { F.part folder.new ≡ F.part folder.old }
     ensures same { F.shelf folder.new ≡ F.shelf folder.old }
@@ -151,8 +157,8 @@ fn expect_free<F: Folder>(
     requires opened { (F.file file.old).entry ≡ Target }
     requires told { (F.file file.old).status ≡ Some status.now }
     ensures book { OnOk result (is_some ledger.entry ≡ false → is_held (F.file file.new).hold ≡ true) }
-    ensures held { OnOk result (IfSome ledger.entry (λ l. IsOneFile (F.file l.now.file)
-        (F.file file.new))) }
+    ensures held { OnOk result (IfSome ledger.entry (λ l. ToldOfBoth IsOfOne
+        (F.file l.now.file) (F.file file.new))) }
     ensures same { F.file file.new ≡ record (F.file file.old) {
       hold = (F.file file.new).hold;
       named = (F.file file.new).named;
@@ -212,9 +218,8 @@ fn refuse<F: Folder>(
     why: Unreplaceable,
 ) -> NotSaved<F::File>
     requires { is_ledger (F.part folder.now) ≡ false → MayEmpty (F.file file) }
-    ensures refused_file { IfRefused {A = Unit {0}} (Err result) (λ f. MayEmpty (F.file f)) }
-    ensures refused { is_refused {A = Unit {0}} (Err result) ≡ true
-        → is_ledger (F.part folder.now) ≡ false }
+    ensures refused_file { IfRefused result (λ file. IfSome file (λ f. MayEmpty (F.file f))) }
+    ensures refused { IfRefused result (λ _. is_ledger (F.part folder.now) ≡ false) }
 {
     if folder.is_ledger() {
         label

@@ -1,13 +1,15 @@
 //! A file that is made anew whole.
 
-ghost use Rattle.std.specs.Prelude.{◌≡◌, ◌+◌, ◌-◌, ℕ, List, Err, IfOk, IfSome, OnErr, OnOk, Some};
-ghost use Rattle.std.specs.Prelude.{false, true};
+ghost use Rattle.std.specs.Prelude.{◌≡◌, ◌+◌, ◌-◌, ℕ, List, IfErr, IfOk, IfSome, IsSomeAnd, OnErr};
+ghost use Rattle.std.specs.Prelude.{OnOk, Some, false, true};
 ghost use Rattle.std.specs.Option.{is_some, option_map};
-ghost use Rattle.pb_folder.specs.File.{Fits, IsNewDraft, IsOfHolder, IsOld, IsOwnDraft, IsPut};
+ghost use Rattle.pb_folder.specs.File.{IsNewDraft, IsOfHolder, IsOld, IsOwnDraft, IsPut};
+ghost use Rattle.pb_folder.specs.File.{TakesAfter};
 ghost use Rattle.pb_folder.specs.Parts.{is_ledger, is_made_anew};
-ghost use Rattle.pb_folder.specs.Shelf.{Names, NamesNot};
-ghost use Rattle.pb_folder.specs.Saving.{IsWritten, NamesBytes, is_put_refused};
+ghost use Rattle.pb_folder.specs.Shelf.{NamesNot, renamed};
+ghost use Rattle.pb_folder.specs.Saving.{IsWritten, NamesBytes};
 ghost use Rattle.pb_folder.specs.Steps.{Steps};
+ghost use Rattle.pb_folder.specs.declared.saving.NotPut.TheVariants.{Refused};
 
 use crate::draft::{make_draft, take_after};
 use crate::file_end::BUFFER_LEN;
@@ -69,7 +71,7 @@ pub fn put_text<F: Folder, X: Text>(
         × NamesBytes put.settled bytes (F.shelf folder.old) (F.shelf folder.new))
         × OnErr result (Steps (NamesNot (Some bytes)) (F.shelf folder.old)
         (F.shelf folder.new)) }
-    ensures refused { is_put_refused result ≡ true → is_ledger (F.part folder.new) ≡ false }
+    ensures refused { IfErr result (λ why. why ≡ Refused → is_ledger (F.part folder.new) ≡ false) }
     ensures drafts { F.drafts folder.new ≡ F.drafts folder.old }
     ensures part { F.part folder.new ≡ F.part folder.old }
 {
@@ -97,7 +99,7 @@ pub(crate) fn new_draft<F: Folder>(
     old: Option<&Old<F::File>>,
 ) -> Result<F::File, NotPut>
     ensures new { IfOk result (λ draft. IsNewDraft (is_ledger (F.part folder.new)) (F.file draft)) }
-    ensures refused { is_put_refused result ≡ true → is_ledger (F.part folder.new) ≡ false }
+    ensures refused { IfErr result (λ why. why ≡ Refused → is_ledger (F.part folder.new) ≡ false) }
     ensures drafts { OnOk result (F.drafts folder.new ≡ F.drafts folder.old + 1) }
     ensures none { OnErr result (F.drafts folder.new ≡ F.drafts folder.old) }
     ensures free { F.free folder.new ≡ F.free folder.old }
@@ -124,7 +126,7 @@ fn fitted<F: Folder>(
 ) -> Result<F::File, NotPut>
     requires { IsNewDraft (is_ledger (F.part folder.old)) (F.file draft) }
     ensures new { IfOk result (λ fit. IsNewDraft (is_ledger (F.part folder.new)) (F.file fit)) }
-    ensures refused { is_put_refused result ≡ true → is_ledger (F.part folder.new) ≡ false }
+    ensures refused { IfErr result (λ why. why ≡ Refused → is_ledger (F.part folder.new) ≡ false) }
     ensures drafts { OnOk result (F.drafts folder.new ≡ F.drafts folder.old) }
     ensures none { OnErr result (F.drafts folder.new ≡ F.drafts folder.old - 1) }
     ensures free { F.free folder.new ≡ F.free folder.old }
@@ -145,8 +147,7 @@ fn no_draft<F: Folder>(
     old: Option<&Old<F::File>>,
     error: &io::Error,
 ) -> NotPut
-    ensures { is_put_refused {A = Unit {0}} (Err result) ≡ true
-        → is_ledger (F.part folder.now) ≡ false }
+    ensures { result ≡ Refused → is_ledger (F.part folder.now) ≡ false }
 {
     let kind = error.kind();
     if kind == ErrorKind::InvalidInput {
@@ -175,8 +176,7 @@ fn is_of_folder(kind: ErrorKind) -> bool {
 /// Answers that no draft can take the file's place, which is told of a ledger: that isn't written in
 /// place.
 fn refuse<F: Folder>(folder: &F, label: &Label<'_>, why: Unreplaceable) -> NotPut
-    ensures { is_put_refused {A = Unit {0}} (Err result) ≡ true
-        → is_ledger (F.part folder.now) ≡ false }
+    ensures { result ≡ Refused → is_ledger (F.part folder.now) ≡ false }
 {
     if !folder.is_ledger() {
         return NotPut::Refused;
@@ -207,7 +207,7 @@ fn write_draft<F: Folder, X: Text>(
     requires text { (bytes : List ℕ) × (count : ℕ) × X.is_text text.now bytes count }
     ensures written { (bytes : List ℕ) × (count : ℕ) × X.is_text text.now bytes count
         × IfOk result (λ written. IsWritten bytes (F.file written.0) × (written.1 ≡ count)) }
-    ensures refused { is_put_refused result ≡ true → is_ledger (F.part folder.new) ≡ false }
+    ensures refused { IfErr result (λ why. why ≡ Refused → is_ledger (F.part folder.new) ≡ false) }
     ensures drafts { OnOk result (F.drafts folder.new ≡ F.drafts folder.old) }
     ensures none { OnErr result (F.drafts folder.new ≡ F.drafts folder.old - 1) }
     ensures free { F.free folder.new ≡ F.free folder.old }
@@ -238,11 +238,12 @@ fn fit_draft<F: Folder>(
     draft: &mut F::File,
 ) -> Result<(), NotPut>
     requires { IsOwnDraft (F.file draft.old) }
-    ensures fits { OnOk result (IfSome old.entry (λ o. Fits o.now.status (F.file draft.new))) }
+    ensures fits { OnOk result (IfSome old.entry (λ o.
+        IsSomeAnd (F.file draft.new).status (TakesAfter o.now.status))) }
     ensures same { F.file draft.new ≡ record (F.file draft.old) {
       status = (F.file draft.new).status;
     } }
-    ensures refused { is_put_refused result ≡ true → is_ledger (F.part folder.now) ≡ false }
+    ensures refused { IfErr result (λ why. why ≡ Refused → is_ledger (F.part folder.now) ≡ false) }
 {
     let Some(file) = old else {
         return Ok(());
@@ -272,12 +273,12 @@ fn name_draft<F: Folder>(
         → IsOfHolder (option_map (λ l. F.file l.now.file) ledger)
         (option_map (λ o. F.file o.now.file) old) }
     ensures put { IfOk result (λ named. IsPut (F.file file).handed (F.file named)) }
-    ensures named { OnOk result (Steps (Names (Some (F.file file).handed))
-        (F.shelf folder.old) (F.shelf folder.new)) }
+    ensures named { OnOk result (F.shelf folder.new
+        ≡ option_map (renamed (Some (F.file file).handed)) (F.shelf folder.old)) }
     ensures untried { OnOk result (F.unsettled folder.new ≡ false) }
     ensures not_named { OnErr result (Steps (NamesNot (Some (F.file file).handed))
         (F.shelf folder.old) (F.shelf folder.new)) }
-    ensures refused { is_put_refused result ≡ true → is_ledger (F.part folder.new) ≡ false }
+    ensures refused { IfErr result (λ why. why ≡ Refused → is_ledger (F.part folder.new) ≡ false) }
     ensures drafts { F.drafts folder.new ≡ F.drafts folder.old - 1 }
     ensures part { F.part folder.new ≡ F.part folder.old }
 {
@@ -307,12 +308,12 @@ fn rename_draft<F: Folder>(
         (option_map (λ o. F.file o.now.file) old) }
     ensures put { OnOk result (IsPut (F.file draft.old).handed (F.file draft.new)) }
     ensures own { OnErr result (IsOwnDraft (F.file draft.new)) }
-    ensures named { OnOk result (Steps (Names (Some (F.file draft.old).handed))
-        (F.shelf folder.old) (F.shelf folder.new)) }
+    ensures named { OnOk result (F.shelf folder.new
+        ≡ option_map (renamed (Some (F.file draft.old).handed)) (F.shelf folder.old)) }
     ensures untried { OnOk result (F.unsettled folder.new ≡ false) }
     ensures not_named { OnErr result (Steps (NamesNot (Some (F.file draft.old).handed))
         (F.shelf folder.old) (F.shelf folder.new)) }
-    ensures refused { is_put_refused result ≡ true → is_ledger (F.part folder.new) ≡ false }
+    ensures refused { IfErr result (λ why. why ≡ Refused → is_ledger (F.part folder.new) ≡ false) }
     ensures drafts { OnOk result (F.drafts folder.new ≡ F.drafts folder.old - 1) }
     ensures stays { OnErr result (F.drafts folder.new ≡ F.drafts folder.old) }
     ensures part { F.part folder.new ≡ F.part folder.old }
