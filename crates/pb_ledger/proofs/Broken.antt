@@ -1,5 +1,5 @@
 -- Lines of which the last one breaks the loading.
-use Rattle.std.proofs.Common.{◌≡◌, ◌≢◌, ◌∙◌, ℕ, Bool, true, false, if◌then◌else◌, List, [], ◌∷◌, ◌++◌, Ok, Err, All, IsOk, refl, sym, ap, subst}
+use Rattle.std.proofs.Common.{◌≡◌, ◌≢◌, ◌∙◌, ℕ, Bool, true, false, if◌then◌else◌, List, [], ◌∷◌, ◌++◌, Ok, Err, All, IsOk, refl, ap, subst}
 use Rattle.std.specs.Prelude.{IsErr}
 use Rattle.std.proofs.lemmas.List.Elements.{All-head, All-tail}
 use Rattle.pb_games.specs.Submissions.{Submission}

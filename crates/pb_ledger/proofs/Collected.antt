@@ -20,7 +20,6 @@ use Rattle.pb_accepted.specs.Accepting.{Answer, Run}
 use Rattle.pb_accepted.specs.Ledger.{LedgerState}
 use Rattle.pb_accepted.proofs.Steps.{runs_join}
 use Rattle.pb_accepted.specs.Replies.{replies, reply_line}
-use Rattle.pb_games.specs.Submissions.{Submission}
 use Rattle.pb_ledger.specs.Streams.{AtLast}
 use Rattle.pb_ledger.specs.Collecting.{Collects, CollectsButOne, CollectsCounted, CollectsStream, Leads}
 use Rattle.pb_ledger.proofs.Changes.{from_to}

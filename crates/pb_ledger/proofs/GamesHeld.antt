@@ -1,11 +1,10 @@
 -- What the lines of games hold.
-use Rattle.std.proofs.Common.{◌≡◌, ◌≢◌, ◌∙◌, ℕ, ◌+◌, ◌<◌, ◌≤◌, Bool, true, false, cond, ◌&&◌, eqb, List, [], ◌∷◌, ◌++◌, length, map, Ok, Err, refl, sym, ap, subst, inl, inr, arith, append-nil}
+use Rattle.std.proofs.Common.{◌≡◌, ◌≢◌, ◌∙◌, ℕ, ◌+◌, ◌<◌, ◌≤◌, Bool, true, false, cond, ◌&&◌, eqb, List, [], ◌∷◌, ◌++◌, length, map, Err, refl, sym, ap, subst, inl, inr, arith, append-nil}
 use Rattle.std.specs.List.{All, count_by, filter, flat_map}
 use Rattle.std.specs.Prelude.{nat_le, if◌then◌else◌}
-use Rattle.std.specs.Str.{bytes_eq}
 use Rattle.std.specs.Str.Lines.{strip_carriage_return}
 use Rattle.std.proofs.lemmas.Bool.{cases_Bool, eqb-true, le-leb, leb-true, ne_eqb}
-use Rattle.std.proofs.lemmas.List.Elements.{All-cons, All-filter, All-head, All-map, All-nil, All-tail, All-weaker}
+use Rattle.std.proofs.lemmas.List.Elements.{All-cons, All-filter, All-head, All-map, All-tail, All-weaker}
 use Rattle.std.proofs.lemmas.Bool.Decides.{nat_tests}
 use Rattle.std.proofs.lemmas.List.Splits.{length-slice_split}
 use Rattle.std.proofs.lemmas.Slice.Eq.{bytes_eq-Decides}
@@ -24,7 +23,7 @@ use Rattle.pb_accepted.specs.Accepting as steps
 use Rattle.pb_accepted.specs.Accepting.{Answer, Run, Step}
 use Rattle.pb_ledger.specs.Games.{games_text, has_one_end, has_shape, text_of_games}
 use Rattle.pb_ledger.specs.GamesLaws.{GameLinesArePicked, GamesAreHeld, MendingAddsNoGame, SavedGamesArePicked, TornAddsNoGame}
-use Rattle.pb_ledger.specs.Journal.{GameLines, Journals, Replays, mending, seal}
+use Rattle.pb_ledger.specs.Journal.{Replays, seal}
 use Rattle.pb_ledger.specs.Saving.{header}
 use Rattle.pb_ledger.proofs.Journals.{five_fields, tabs, tabs_quiet}
 use Rattle.pb_ledger.proofs.LinesPut.{lines_alone, quiet_ended, quiet_strip}

@@ -5,9 +5,9 @@ use Rattle.std.proofs.lemmas.List.{length-take}
 use Rattle.std.proofs.lemmas.List.Splits.{length-slice_split}
 use Rattle.std.proofs.lemmas.List.Sums.{count_by-le-length, sum_by-append}
 use Rattle.pb_io.specs.Source.{Fill, SourceState}
-use Rattle.pb_io.specs.Reads.{Reads, ReadsAll, ReadsFront, ReadsOn, ReadsSome, ReadsToFault, chunk_len}
+use Rattle.pb_io.specs.Reads.{Reads, ReadsAll, ReadsOn, ReadsSome, ReadsToFault, chunk_len}
 use Rattle.pb_io.specs.Lines.{ended_lines, is_torn, lines, pieces}
-use Rattle.pb_io.specs.LineTask.{AtEnd, AtEndedLine, AtLine}
+use Rattle.pb_io.specs.LineTask.{AtEnd, AtLine}
 use Rattle.pb_io.proofs.LineLemmas.{is_line_feed}
 use Rattle.pb_accepted.specs.Ledger.{LedgerState}
 use Rattle.pb_ledger.specs.Ending.{before, feeds, through}

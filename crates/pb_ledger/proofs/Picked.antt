@@ -1,5 +1,5 @@
 -- From the lines that the picker took to what was put.
-use Rattle.std.proofs.Common.{◌≡◌, ◌∙◌, ℕ, Bool, true, false, cond, List, [], ◌∷◌, ◌++◌, length, map, take, Result, Ok, Err, IfErr, IfOk, OnOk, append-nil, refl, sym, ap, subst, inl, inr}
+use Rattle.std.proofs.Common.{◌≡◌, ◌∙◌, ℕ, Bool, true, false, cond, List, [], ◌∷◌, ◌++◌, map, Result, Ok, Err, IfErr, IfOk, refl, sym, ap, subst, inl, inr}
 use Rattle.std.specs.List.{filter, flat_map}
 use Rattle.std.specs.Io.KnownBytes.{Appends}
 use Rattle.std.specs.Str.Lines.{strip_carriage_return}
@@ -7,8 +7,8 @@ use Rattle.std.proofs.KnownBytes.{Appends-kept, Appends-nil, Appends-trans}
 use Rattle.pb_board.specs.LineEnd.{with_end}
 use Rattle.pb_io.specs.Count.{next_count}
 use Rattle.pb_io.specs.Fault.{fault_of_read}
-use Rattle.pb_io.specs.LineTask.{OfLines, ReadUntil, StopsAtLast, TakesAll, TakesEnded, TakesEndedUntil}
-use Rattle.pb_io.specs.Lines.{ended_lines, is_torn}
+use Rattle.pb_io.specs.LineTask.{ReadUntil, StopsAtLast, TakesAll, TakesEnded, TakesEndedUntil}
+use Rattle.pb_io.specs.Lines.{ended_lines}
 use Rattle.pb_io.specs.Sink.{AwaitsFlush, Flush, SinkState}
 use Rattle.pb_io.specs.Source.{SourceState}
 use Rattle.pb_io.specs.declared.fault.Fault.{Fault}

@@ -1,5 +1,5 @@
 -- A saved ledger loads as what was saved.
-use Rattle.std.proofs.Common.{◌≡◌, ◌≢◌, ◌∙◌, ℕ, ◌+◌, ◌<◌, ◌≤◌, true, false, List, [], ◌∷◌, ◌++◌, Ok, Err, All, IsOk, length, get_or, map, refl, sym, ap, subst, inl, inr, arith, append-nil, append_assoc}
+use Rattle.std.proofs.Common.{◌≡◌, ◌≢◌, ◌∙◌, ℕ, ◌+◌, ◌≤◌, true, false, List, [], ◌∷◌, ◌++◌, Ok, Err, All, IsOk, length, get_or, map, refl, sym, ap, subst, inl, inr, arith, append-nil, append_assoc}
 use Rattle.std.specs.List.{flat_map}
 use Rattle.std.proofs.Math.Seq.{get_or-append_seam}
 use Rattle.std.proofs.lemmas.Bool.{eqb-true, false_from_ne_true}
@@ -21,7 +21,7 @@ use Rattle.pb_accepted.specs.Replying.{IsNewId}
 use Rattle.pb_accepted.specs.Holding.{HaveOwnIds}
 use Rattle.pb_accepted.specs.Ledger.{LedgerState}
 use Rattle.pb_accepted.proofs.Replies.{id_of, one_submission}
-use Rattle.pb_accepted.proofs.Steps.{one_step, step_to}
+use Rattle.pb_accepted.proofs.Steps.{step_to}
 use Rattle.pb_ledger.specs.Saving.{Saved, header}
 use Rattle.pb_ledger.specs.Making.{Makes}
 use Rattle.pb_ledger.specs.Loading.{Breaks, Loads, LoadsUntil, is_header}

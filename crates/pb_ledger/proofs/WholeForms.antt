@@ -1,17 +1,15 @@
 -- A saved form isn't cut, and a front of it that ends within a line is.
-use Rattle.std.proofs.Common.{◌≡◌, ◌∙◌, ℕ, ◌<◌, ◌≤◌, true, false, ◌&&◌, List, [], ◌∷◌, ◌++◌, length, refl, sym, ap, arith, append-nil, append_assoc}
-use Rattle.std.specs.List.{All, flat_map}
+use Rattle.std.proofs.Common.{◌≡◌, ◌∙◌, ℕ, ◌≤◌, true, false, ◌&&◌, List, [], ◌∷◌, ◌++◌, length, refl, ap, arith, append-nil, append_assoc}
+use Rattle.std.specs.List.{flat_map}
 use Rattle.std.specs.Prelude.{codes, nat_lt}
 use Rattle.std.proofs.Math.Bool.{and-false}
 use Rattle.std.proofs.lemmas.List.Elements.{All-cons}
 use Rattle.pb_board.specs.LineEnd.{with_end}
 use Rattle.pb_io.specs.Lines.{is_torn, last_piece, lines}
 use Rattle.pb_io.proofs.LineLemmas.{IsQuiet, lines-ended, lines-quiet}
-use Rattle.pb_games.specs.Submissions.{IsSubmission, Submission, submission_text}
 use Rattle.pb_ledger.specs.Loading.{has_header}
 use Rattle.pb_ledger.specs.SavedLaws.{SavedFrontIsCut, SavedIsWhole}
-use Rattle.pb_ledger.specs.Saving.{Saved, header}
-use Rattle.pb_ledger.specs.Whole.{is_cut}
+use Rattle.pb_ledger.specs.Saving.{header}
 use Rattle.pb_ledger.proofs.LinesPut.{lines_alone}
 use Rattle.pb_ledger.proofs.SavedLoading.{header_quiet, quiet_texts, texts_of}
 

@@ -1,5 +1,5 @@
 -- The lines of games that the bytes of a journal, a saved ledger or a list of submissions hold.
-use Rattle.std.specs.Prelude.{◌≡◌, ℕ, ◌⊎◌, Bool, true, ◌&&◌, ◌==◌, nat_le, List, [], ◌∷◌, ◌++◌}
+use Rattle.std.specs.Prelude.{◌≡◌, ℕ, ◌⊎◌, Bool, true, ◌&&◌, ◌==◌, nat_le, List, ◌++◌}
 use Rattle.std.specs.Prelude.{length, take, map, filter, flat_map}
 use Rattle.std.specs.Str.{bytes_eq}
 use Rattle.std.specs.Str.Lines.{strip_carriage_return}

@@ -1,6 +1,6 @@
 -- How the replay of a journal into a ledger without games ends, over the states of the journal as a
 -- source and as a sink.
-use Rattle.std.specs.Prelude.{◌≡◌, ℕ, ◌⊎◌, Bool, false, true, List, Ok, Err}
+use Rattle.std.specs.Prelude.{◌≡◌, ℕ, ◌⊎◌, Bool, false, true, Ok, Err}
 use Rattle.pb_io.specs.LineTask.{AtEndedLine, AtFault, AtNoEnd}
 use Rattle.pb_io.specs.Lines.{ended_lines, is_torn}
 use Rattle.pb_io.specs.Sink.{SinkState}

@@ -1,4 +1,4 @@
-use Rattle.std.proofs.Common.{arith, ◌∙◌, ◌++◌, ℕ, Option, None, Some, ap, inl, inr, refl, subst}
+use Rattle.std.proofs.Common.{arith, ◌∙◌, ◌++◌, ℕ, Option, ap, inl, inr, refl, subst}
 use Rattle.std.proofs.lemmas.Result.{err_from_is_err_and}
 use Rattle.pb_accepted.specs.Counting.{stretch}
 use Rattle.pb_ledger.proofs.Booked.{Begun, Booking, booking_end, booking_of, breaks, ends, goes_on, unflushed, wants}
