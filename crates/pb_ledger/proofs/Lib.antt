@@ -1,6 +1,6 @@
 pub mod Booked
 mod Broken
-mod Changes
+pub mod Changes
 mod Collected
 mod CollectorLine
 pub mod Continued

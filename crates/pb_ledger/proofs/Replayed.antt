@@ -136,27 +136,33 @@ module _ (fills : ℕ) (source source' : SourceState) (ledger ledger' : LedgerSt
   -- it was sealed
   pub seals : {E : Type 0} (journal journal' : SinkState) (u : Unit {0}) → torn ≡ true → Writes {E = E} journal journal' (Ok u) seal
       → ReplaysAll fills (from_to source source') (from_to journal journal') (from_to ledger ledger')
-  seals journal journal' u is h = inr (subst (HoldsAll fills (from_to source source') (from_to ledger ledger')) is holds, record {
-    all = h.all;
-    front = h.front;
-    failed = h.failed;
-    stays_failed = h.stays_failed;
-    lasts = h.lasts;
-    all_lasts = h.all_lasts;
-    flushed = h.flushed;
-    flushes = h.flushes;
-  })
+  seals journal journal' u is h = inr (
+    subst (HoldsAll fills (from_to source source') (from_to ledger ledger')) is holds,
+    record {
+      all = h.all;
+      front = h.front;
+      failed = h.failed;
+      stays_failed = h.stays_failed;
+      lasts = h.lasts;
+      all_lasts = h.all_lasts;
+      flushed = h.flushed;
+      flushes = h.flushes;
+    },
+  )
 
   -- it couldn't be sealed
   pub seals_not : {E : Type 0} (journal journal' : SinkState) (e : E) → torn ≡ true → Writes journal journal' (Err e) seal
       → ReplaysUntil fills (from_to source source') (from_to journal journal') (from_to ledger ledger') fault.Write
-  seals_not journal journal' e is h = (subst (HoldsAll fills (from_to source source') (from_to ledger ledger')) is holds, record {
-    all = h.all;
-    front = h.front;
-    failed = h.failed;
-    stays_failed = h.stays_failed;
-    lasts = h.lasts;
-    all_lasts = h.all_lasts;
-    flushed = h.flushed;
-    flushes = h.flushes;
-  })
+  seals_not journal journal' e is h = (
+    subst (HoldsAll fills (from_to source source') (from_to ledger ledger')) is holds,
+    record {
+      all = h.all;
+      front = h.front;
+      failed = h.failed;
+      stays_failed = h.stays_failed;
+      lasts = h.lasts;
+      all_lasts = h.all_lasts;
+      flushed = h.flushed;
+      flushes = h.flushes;
+    },
+  )
