@@ -23,16 +23,18 @@ use Rattle.pb_io.specs.declared.fault.Fault.TheVariants.{Read, Write, Endless, M
 use Rattle.pb_accepted.specs.Ledger.{LedgerState}
 use Rattle.pb_poly.proofs.ReadRows.{found_no_table}
 use Rattle.pb_poly.specs.TableReading.{ReadsTable}
+use Rattle.pb_ledger.proofs.Changes.{from_to}
 use Rattle.pb_collecting.specs.Ends.{EndStates}
 use Rattle.pb_io.specs.Lines.{lines}
 use Rattle.pb_collecting.specs.Answered.{IsAnswered, SayAnswers}
 use Rattle.pb_collecting.specs.Headline.{Headline}
 use Rattle.pb_collecting.specs.Reasons.{unread_verdict}
 use Rattle.pb_collecting.specs.Runs as runs
-use Rattle.pb_collecting.specs.Runs.{BreaksOff, Collected, CollectRun}
+use Rattle.pb_collecting.specs.Runs.{Collected, CollectRun, Takes, new_ledger}
 use Rattle.pb_collecting.specs.declared.made.Stopped.{Stopped}
 use Rattle.pb_collecting.specs.declared.made.Stopped.TheVariants as stopped
 use Rattle.pb_collecting.specs.declared.made.Unread.{Unread}
+use Rattle.pb_collecting.specs.declared.made.Unread.TheVariants as reason
 
 all_of : (told : Option (List ℕ)) (bytes all : List ℕ) → told ≡ Some all → IfSome told (λ x. bytes ≡ x) → bytes ≡ all
 all_of None bytes all is h = absurd (cc)
@@ -52,12 +54,12 @@ Answered rules f b p entries book = (h : Headline rules f b p entries book) × S
 pub bytes_headline : (rules : CountingRules) (e : EndStates) (entries : List Entry) (book : List ℕ) → IsAnswered rules e entries book
     → (file bytes put : List ℕ) → e.table.old.to_come ≡ Some file → e.lines.old.to_come ≡ Some bytes → e.replies.old.bytes ≡ Some [] → e.replies.new.bytes ≡ Some put
     → Answered rules file bytes put entries book
-bytes_headline rules e entries book (h, says) file bytes put told_table told_lines empty all =
-    let f = all_of e.table.old.to_come h.0 file told_table h.3.told in
-    let b = all_of e.lines.old.to_come h.1 bytes told_lines h.4.told in
-    let p = put_all e.replies.old.bytes e.replies.new.bytes h.2 put empty all h.5 in
+bytes_headline rules e entries book ((at, h), says) file bytes put told_table told_lines empty all =
+    let f = all_of e.table.old.to_come at.file file told_table at.table.told in
+    let b = all_of e.lines.old.to_come at.bytes bytes told_lines at.lines.told in
+    let p = put_all e.replies.old.bytes e.replies.new.bytes at.put put empty all at.replies in
     let A = Answered rules in
-    subst (λ x. A x bytes put entries book) f (subst (λ x. A h.0 x put entries book) b (subst (λ x. A h.0 h.1 x entries book) p (h.6, says)))
+    subst (λ x. A x bytes put entries book) f (subst (λ x. A at.file x put entries book) b (subst (λ x. A at.file at.bytes x entries book) p (h, says)))
 
 -- bytes that are a table file are never refused
 no_table : (file randoms : List ℕ) (e : TableFault) → IsTableFile randoms file → AsTable file (Err e) → ⊥
@@ -68,12 +70,10 @@ no_table file randoms (table.Fault fault) is h = h
 
 pub never_refused : (rules : CountingRules) (fills : ℕ) (e : EndStates) (file : List ℕ) → e.table.old.to_come ≡ Some file → (why : Unread) × CollectRun rules fills e (Err (stopped.Unread why))
     → (randoms : List ℕ) → IsTableFile randoms file → ⊥
-never_refused rules fills e file told (why, runs.began m (Ok x) first goes same) randoms is = absurd (cc)
-never_refused rules fills e file told (why, runs.began m (Err fault) first goes same) randoms is = absurd (cc)
-never_refused rules fills e file told (why, runs.unread because (Err fault) lacks puts same) randoms is = absurd (cc)
-never_refused rules fills e file told (why, runs.unread because (Ok answer) (lacks, unread) puts same) randoms is =
-    let judged = subst (λ w. Ok (false, puts.0.out) ≡ unread_verdict w) lacks.is puts.0.judged in
-    no_table file randoms lacks.cause is (told_no_table fills e.table.old e.table.new file told lacks.cause (false, puts.0.out) judged lacks.found)
+never_refused rules fills e file told (why, runs.began words read counting (left, end, takes, Ok x, makes, same)) randoms is = absurd (cc same)
+never_refused rules fills e file told (why, runs.began words read counting (left, end, takes, Err fault, makes, same)) randoms is = absurd (cc same)
+never_refused rules fills e file told (why, runs.lacks cause found unread (one, puts)) randoms is =
+    no_table file randoms cause is (told_no_table fills e.table.old e.table.new file told cause (false, puts.0.out) puts.0.judged found)
 
 -- ---- faults of a run whose sources can't fail
 
@@ -97,7 +97,7 @@ abbrev pub MemoryOrMany : ℕ → List ℕ → Fault → Type 0
 MemoryOrMany fills bytes fault = (fault ≡ Memory) ⊎ ((fault ≡ Endless) × (fills ≤ length bytes))
 
 stop_fault : (fills : ℕ) (e : EndStates) (ledger left : LedgerState) (bytes : List ℕ) (fault : Fault) → e.lines.old.to_come ≡ Some bytes → e.lines.new.failed ≡ false → fault ≢ Write
-    → BreaksOff fills e ledger left fault → MemoryOrMany fills bytes fault
+    → Takes fills e (from_to ledger left) (Err fault) → MemoryOrMany fills bytes fault
 stop_fault fills e ledger left bytes Read told works other h = let fails : e.lines.new.failed ≡ true = h.0.reads.fails in absurd (cc)
 stop_fault fills e ledger left bytes Write told works other h = absurd (other refl)
 stop_fault fills e ledger left bytes Endless told works other h =
@@ -119,10 +119,10 @@ module _ (rules : CountingRules) (fills : ℕ) (e : EndStates) (bytes : List ℕ
   same_fault is = cc
 
   pub faults : CollectRun rules fills e (Err (stopped.Fault fault)) → MemoryOrMany fills bytes fault
-  faults (runs.began m (Ok x) first goes is) = absurd (cc)
-  faults (runs.began m (Err f) first (inl (left, until)) is) = stop_fault fills e m left bytes fault told works other (subst (BreaksOff fills e m left) (same_fault is) until)
-  faults (runs.began m (Err f) first (inr (memory, left)) is) = inl (sym (same_fault is) ∙ memory)
-  faults (runs.unread why (Ok answer) lacks puts is) = absurd (cc)
-  faults (runs.unread why (Err f) (lacks, unread) puts is) =
-      let h = line_fault why e.replies.old e.replies.new fault other (subst (PutsUntil (λ verdict. verdict ≡ unread_verdict why) e.replies.old e.replies.new) (same_fault is) puts) in
-      inl (table_fault fills e.table.old e.table.new lacks.cause fault more table lacks.found (subst (λ w. Err fault ≡ unread_verdict w) lacks.is h))
+  faults (runs.began words read counting (left, end, takes, Ok x, makes, is)) = absurd (cc is)
+  faults (runs.began words read counting (left, Ok totals, takes, Err f, memory, is)) = inl (sym (same_fault is) ∙ memory)
+  faults (runs.began words read counting (left, Err f, takes, Err g, one, is)) =
+      let same : f ≡ fault = cc (one, is) in
+      stop_fault fills e (new_ledger rules words) left bytes fault told works other (subst (λ (x : Fault). Takes fills e (from_to (new_ledger rules words) left) (Err x)) same takes)
+  faults (runs.lacks cause found unread puts) =
+      inl (table_fault fills e.table.old e.table.new cause fault more table found (line_fault (reason.Table cause) e.replies.old e.replies.new fault other puts))

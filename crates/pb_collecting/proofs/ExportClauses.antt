@@ -7,22 +7,22 @@ use Rattle.pb_io.specs.declared.fault.Fault.TheVariants.{Read, Write, Endless, M
 use Rattle.pb_io.proofs.FlushLemmas.{still_works}
 use Rattle.pb_accepted.specs.Ledger.{LedgerState}
 use Rattle.pb_accepted.specs.Rules.{CountingRules}
-use Rattle.pb_export.specs.Exporting as exports
 use Rattle.pb_export.specs.Exporting.{ExportsUntil, fault_of_export}
 use Rattle.pb_export.specs.declared.exporting.ExportFault.{ExportFault}
 use Rattle.pb_export.specs.declared.exporting.ExportFault.TheVariants as export
-use Rattle.pb_ledger.specs.declared.totals.Totals.{Totals}
+use Rattle.pb_ledger.proofs.Changes.{from_to}
 use Rattle.pb_commands.specs.Judged.{PutsUntil, Verdict}
 use Rattle.pb_collecting.specs.Ends.{Change, EndStates, IsSame}
 use Rattle.pb_collecting.specs.ExportRun.{BlamesEither, BlamesSink}
 use Rattle.pb_collecting.specs.Into.{Exported}
 use Rattle.pb_collecting.specs.Reasons.{unread_verdict}
 use Rattle.pb_collecting.specs.Runs as runs
-use Rattle.pb_collecting.specs.Runs.{BreaksOff, ExportRun, Takes, TakesTable}
+use Rattle.pb_collecting.specs.Runs.{ExportRun, Takes, new_ledger}
 use Rattle.pb_collecting.specs.declared.made.Made.{Made}
 use Rattle.pb_collecting.specs.declared.made.Report.{Report}
 use Rattle.pb_collecting.specs.declared.made.Stopped.{Stopped}
 use Rattle.pb_collecting.specs.declared.made.Stopped.TheVariants as stopped
+use Rattle.pb_collecting.specs.declared.made.Unread.TheVariants as reason
 
 -- a sink that was left alone isn't blamed
 no_blame : (sink : Change SinkState) (fault : Fault) → fault ≢ Write → IsSame sink → BlamesSink sink fault
@@ -32,9 +32,9 @@ no_blame sink fault other same = record {
 }
 
 -- a sink that has not failed is no reason to end
-not_written : (fills : ℕ) (e : EndStates) (l l' : LedgerState) (fault : Fault) → e.replies.new.failed ≡ false → BreaksOff fills e l l' fault → fault ≢ Write
+not_written : (fills : ℕ) (e : EndStates) (l l' : LedgerState) (fault : Fault) → e.replies.new.failed ≡ false → Takes fills e (from_to l l') (Err fault) → fault ≢ Write
 not_written fills e l l' Read works h = λ is. cc is
-not_written fills e l l' Write works h = absurd (cc (sym h.1 ∙ works))
+not_written fills e l l' Write works h = absurd (cc (sym h.1.0 ∙ works))
 not_written fills e l l' Endless works h = λ is. cc is
 not_written fills e l l' Memory works h = λ is. cc is
 
@@ -63,12 +63,12 @@ module _ (rules : CountingRules) (fills : ℕ) (e : EndStates) (out : Change Sin
   -- where the sink for the replies hasn't failed
   module _ (works : e.replies.new.failed ≡ false) where
     lines_blamed : Fails → BlamesSink out fault
-    lines_blamed (runs.began ledger (Ok x) first goes same) = absurd (cc)
-    lines_blamed (runs.began ledger (Err f) first (inl (left, until, kept)) same) =
-        subst (BlamesSink out) (same_fault same) (no_blame out f (not_written fills e ledger left f works until) kept)
-    lines_blamed (runs.began ledger (Err f) first (inr (left, totals, why, takes, until, is)) same) = subst (BlamesSink out) (same_fault same) (blame_export left out f why until is)
-    lines_blamed (runs.unread why (Ok answer) lacks puts same) = absurd (cc)
-    lines_blamed (runs.unread why (Err f) lacks puts same) = subst (BlamesSink out) (same_fault same) (blame_line (λ verdict. verdict ≡ unread_verdict why) out f puts)
+    lines_blamed (runs.began randoms read counting (left, end, takes, Ok x, makes, same)) = absurd (cc same)
+    lines_blamed (runs.began randoms read counting (left, Ok totals, takes, Err f, (why, until, is), same)) =
+        subst (BlamesSink out) (same_fault same) (blame_export left out f why until is)
+    lines_blamed (runs.began randoms read counting (left, Err f, takes, Err g, (one, kept), same)) =
+        let is : f ≡ fault = cc (one, same) in subst (BlamesSink out) is (no_blame out f (not_written fills e (new_ledger rules randoms) left f works takes) kept)
+    lines_blamed (runs.lacks cause found alone puts) = blame_line (λ verdict. verdict ≡ unread_verdict (reason.Table cause)) out fault puts
 
   -- where it worked before and has failed in the run
   module _ (works : e.replies.old.failed ≡ false) (fails : e.replies.new.failed ≡ true) where
@@ -84,37 +84,21 @@ module _ (rules : CountingRules) (fills : ℕ) (e : EndStates) (out : Change Sin
     never_awaits : AwaitsFlush e.replies.old e.replies.new → ⊥
     never_awaits awaits = not_failed (still_works e.replies.old e.replies.new awaits works)
 
-    breaks_off : (l l' : LedgerState) (f : Fault) → BreaksOff fills e l l' f → IsSame out → Breaks f
+    breaks_off : (l l' : LedgerState) (f : Fault) → Takes fills e (from_to l l') (Err f) → IsSame out → Breaks f
     breaks_off l l' Read h kept = absurd (never_awaits h.1)
     breaks_off l l' Write h kept = (refl, kept)
     breaks_off l l' Endless h kept = absurd (never_awaits h.1)
     breaks_off l l' Memory h kept = absurd (never_same h.1)
 
     replies_blamed : Fails → Breaks fault
-    replies_blamed (runs.began ledger (Ok x) first goes same) = absurd (cc)
-    replies_blamed (runs.began ledger (Err f) first (inl (left, until, kept)) same) = subst Breaks (same_fault same) (breaks_off ledger left f until kept)
-    replies_blamed (runs.began ledger (Err f) first (inr (left, totals, why, takes, until, is)) same) = absurd (not_failed takes.1.0)
-    replies_blamed (runs.unread why answer lacks puts same) = absurd (never_same lacks.2)
+    replies_blamed (runs.began randoms read counting (left, end, takes, Ok x, makes, same)) = absurd (cc same)
+    replies_blamed (runs.began randoms read counting (left, Ok totals, takes, Err f, makes, same)) = absurd (not_failed takes.1.0.0)
+    replies_blamed (runs.began randoms read counting (left, Err f, takes, Err g, (one, kept), same)) =
+        let is : f ≡ fault = cc (one, same) in subst Breaks is (breaks_off (new_ledger rules randoms) left f takes kept)
+    replies_blamed (runs.lacks cause found alone puts) = absurd (never_same alone.1)
 
 pub blame : (rules : CountingRules) (fills : ℕ) (e : EndStates) (out : Change SinkState) (result : Result Made Fault) → Exported (ExportRun rules fills e out) result
     → IfErr result (BlamesEither e.replies out)
 blame rules fills e out (Ok made) h = tt
 blame rules fills e out (Err fault) h =
     record { replies = λ works fails. replies_blamed rules fills e out fault works fails h; lines = λ works. lines_blamed rules fills e out fault works h }
-
--- ---- how it ends
-
-module _ (rules : CountingRules) (fills : ℕ) (e : EndStates) (out : Change SinkState) (ledger left : LedgerState) (first : TakesTable rules fills e.table ledger) where
-  -- not all submissions were taken, and nothing was exported
-  pub broke_off : (fault : Fault) → BreaksOff fills e ledger left fault → IsSame out → ExportRun rules fills e out (Err (stopped.Fault fault))
-  broke_off fault until kept = runs.began ledger (Err fault) first (inl (left, until, kept)) refl
-
-  -- the games are held; `mid` is the state of the sink before the export
-  module _ (totals : Totals) (takes : Takes fills e ledger left totals) (mid : SinkState) (same : mid ≡ out.old) where
-    pub exported : (count : ℕ) → exports.Exports left mid out.new count → ExportRun rules fills e out (Ok (record { totals = totals; entries = count }))
-    exported count h =
-        runs.began ledger (Ok (record { totals = totals; entries = count })) first (left, takes, subst (λ (m : SinkState). exports.Exports left m out.new count) same h) refl
-
-    pub not_exported : (why : ExportFault) → ExportsUntil left mid out.new why → ExportRun rules fills e out (Err (stopped.Fault (fault_of_export why)))
-    not_exported why until =
-        runs.began ledger (Err (fault_of_export why)) first (inr (left, totals, why, takes, subst (λ (m : SinkState). ExportsUntil left m out.new why) same until, refl)) refl

@@ -1,5 +1,5 @@
 -- The theorem of `pbook collect`, from what a run does.
-use Rattle.std.proofs.Common.{◌≡◌, ℕ, List, [], All, Ok, Err, refl, subst, sym}
+use Rattle.std.proofs.Common.{◌≡◌, ℕ, List, [], All, Ok, Err, inl, inr, refl, subst, sym}
 use Rattle.pb_io.specs.Lines.{lines}
 use Rattle.pb_poly.proofs.EntryBytes.{book_is_one}
 use Rattle.pb_poly.proofs.ToldReads.{handed_out}
@@ -7,6 +7,7 @@ use Rattle.pb_poly.specs.Book.{BookBytes, book_bytes}
 use Rattle.pb_poly.specs.Entry.{IsEntry}
 use Rattle.pb_poly.specs.declared.entry.Entry.{Entry}
 use Rattle.pb_poly.proofs.ReadRows.{found_table}
+use Rattle.pb_poly.specs.TableReading.{ReadsTable}
 use Rattle.pb_games.specs.Submissions.{Submission}
 use Rattle.pb_accepted.specs.Accepting.{Answer, Run}
 use Rattle.pb_accepted.specs.Basis.{Basis}
@@ -14,15 +15,16 @@ use Rattle.pb_accepted.specs.Counting.{IsBook, counted}
 use Rattle.pb_accepted.specs.Holding.{most_games}
 use Rattle.pb_accepted.specs.Ledger.{LedgerState}
 use Rattle.pb_accepted.specs.Replies.{replies, reply_texts}
-use Rattle.pb_accepted.specs.Rules.{CountingRules}
+use Rattle.pb_accepted.specs.Rules.{AreRules, CountingRules}
 use Rattle.pb_accepted.proofs.BookLaws.{one_book}
 use Rattle.pb_accepted.proofs.Replyings.{replies_are, replies_number, run_to}
 use Rattle.pb_ledger.specs.declared.totals.Totals.{Totals}
+use Rattle.pb_ledger.proofs.Changes.{from_to}
 use Rattle.pb_collecting.specs.Ends.{EndStates}
 use Rattle.pb_collecting.specs.Answered.{IsAnswered}
 use Rattle.pb_collecting.specs.Headline.{Effect}
 use Rattle.pb_collecting.specs.Runs as runs
-use Rattle.pb_collecting.specs.Runs.{Collected, CollectRun, Takes, TakesTable}
+use Rattle.pb_collecting.specs.Runs.{Collected, CollectRun, Takes, new_ledger}
 
 -- the effect of lines that were answered as a ledger answers them, wherever they came from
 pub effect : (L : List (List ℕ)) (R : List Answer) (games : List Submission) → Run most_games [] L R games
@@ -42,24 +44,27 @@ effect L R games run T entries bounds book = record {
 }
 
 module _ (rules : CountingRules) (fills : ℕ) (e : EndStates) where
-  has_headline : (ledger left : LedgerState) (totals : Totals) (entries : List Entry) → All IsEntry entries → TakesTable rules fills e.table ledger → Takes fills e ledger left totals
-      → IsBook (counted left.basis left.accepted) left.basis.rules.least entries → IsAnswered rules e entries (book_bytes entries)
-  has_headline ledger left totals entries bounds first takes book =
-      let table = found_table fills e.table.old e.table.new first.randoms first.read in
-      let took = (subst (λ (l : LedgerState). Takes fills e l left totals) first.is takes).0 in
-      let collects = took.done.0 in
+  has_headline : (randoms : List ℕ) (left : LedgerState) (totals : Totals) (entries : List Entry) → ReadsTable fills e.table.old e.table.new (Ok randoms) → AreRules rules
+      → Takes fills e (from_to (new_ledger rules randoms) left) (Ok totals) → IsBook (counted left.basis left.accepted) left.basis.rules.least entries → All IsEntry entries
+      → IsAnswered rules e entries (book_bytes entries)
+  has_headline randoms left totals entries read counting takes book bounds =
+      let table = found_table fills e.table.old e.table.new randoms read in
+      let took = takes.0 in
+      let collects = took.done.collects in
       let bytes = took.came in
-      let T : Basis = record { words = first.randoms; rules = rules } in (
+      let T : Basis = record { words = randoms; rules = rules } in (
         (
-          table.came,
-          bytes,
-          replies (lines bytes) collects.answers,
-          handed_out _ _ _ _ _ table.reads,
-          handed_out _ _ _ _ _ took.reads,
-          collects.put,
           record {
-            counting = first.counting;
-            randoms = first.randoms;
+            file = table.came;
+            bytes = bytes;
+            put = replies (lines bytes) collects.answers;
+            table = handed_out _ _ _ _ _ table.reads;
+            lines = handed_out _ _ _ _ _ took.reads;
+            replies = collects.put;
+          },
+          record {
+            counting = counting;
+            randoms = randoms;
             table = table.is;
             replies = reply_texts (lines bytes) collects.answers;
             games = left.accepted;
@@ -72,7 +77,9 @@ module _ (rules : CountingRules) (fills : ℕ) (e : EndStates) where
       )
 
   pub headline : (made : Collected) → CollectRun rules fills e (Ok made) → IsAnswered rules e made.entries (book_bytes made.entries)
-  headline made (runs.began ledger (Ok x) first (left, takes, book, ordered, bounds) same) =
-      let is : x ≡ made = cc in subst (λ (m : Collected). IsAnswered rules e m.entries (book_bytes m.entries)) is (has_headline ledger left x.totals x.entries bounds first takes book)
-  headline made (runs.began ledger (Err fault) first goes same) = absurd (cc)
-  headline made (runs.unread why answer lacks puts same) = absurd (cc)
+  headline made (runs.began randoms read counting (left, Ok totals, takes, Ok x, (book, bounds, same), is)) =
+      let one : x ≡ made = cc is in
+      subst (λ (m : Collected). IsAnswered rules e m.entries (book_bytes m.entries)) one (has_headline randoms left totals x.entries read counting takes book bounds)
+  headline made (runs.began randoms read counting (left, Err fault, takes, Ok x, makes, is)) = absurd (cc makes)
+  headline made (runs.began randoms read counting (left, end, takes, Err fault, makes, is)) = absurd (cc is)
+  headline made (runs.lacks cause found unread refused) = absurd refused

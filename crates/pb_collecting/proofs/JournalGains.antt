@@ -1,9 +1,11 @@
 -- What a journal holds that gained the games of a run.
-use Rattle.std.proofs.Common.{zero, suc, ◌≡◌, ◌∙◌, ℕ, ◌+◌, ◌≤◌, ◌⊎◌, List, [], ◌∷◌, ◌++◌, All, Some, None, Ok, ap, append-nil, append_assoc, arith, drop, length, length-append, refl, slice_get, subst, sym, take}
+use Rattle.std.proofs.Common.{zero, suc, ◌≡◌, ◌∙◌, ℕ, ◌+◌, ◌≤◌, ◌⊎◌, List, [], ◌∷◌, ◌++◌, All, Some, None, Ok, Bool, ap, append-nil, append_assoc, arith, drop, if◌then◌else◌, inl, inr, length, length-append, refl, slice_get, subst, sym, take}
 use Rattle.std.proofs.Math.Seq.{drop-append_seam}
 use Rattle.std.proofs.lemmas.List.{get_or_append_left}
 use Rattle.std.proofs.lemmas.List.Elements.{All-drop, All-same}
 use Rattle.std.proofs.lemmas.Option.{get_or_from_slice_get, slice_get-get_or, slice_get_within}
+use Rattle.std.specs.Io.KnownBytes.{Appends}
+use Rattle.std.proofs.KnownBytes.{Appends-nil}
 use Rattle.pb_board.specs.LineEnd.{with_end}
 use Rattle.pb_io.specs.Lines.{ended_lines}
 use Rattle.pb_games.specs.Submissions.{IsLawful, IsSubmission, Submission, submission_text}
@@ -14,7 +16,14 @@ use Rattle.pb_accepted.specs.Holding.{HaveOwnIds}
 use Rattle.pb_accepted.specs.Replies.{replies, reply_line}
 use Rattle.pb_accepted.proofs.Numbers.{IsNumber-Accepted, slice_get-push}
 use Rattle.pb_accepted.proofs.Steps.{distinct_ids, run_to, runs_join}
-use Rattle.pb_ledger.specs.Journal.{GameLines, Journals, mending}
+use Rattle.pb_io.specs.Reads.{ReadsAll, chunk_len}
+use Rattle.pb_io.specs.Sink.{AllLasts, SinkState}
+use Rattle.pb_io.specs.Source.{SourceState}
+use Rattle.pb_accepted.specs.Ledger.{LedgerState}
+use Rattle.pb_ledger.specs.Change.{Change}
+use Rattle.pb_ledger.specs.Journal.{GameLines, Journals, mending, seal}
+use Rattle.pb_ledger.specs.Replaying.{ReplaysAll}
+use Rattle.pb_ledger.specs.Streams.{Puts}
 use Rattle.pb_accepted.proofs.Held.{are_submissions, has_room}
 use Rattle.pb_ledger.proofs.Journals.{journal_grows, journal_may_tear}
 
@@ -91,9 +100,37 @@ module _ (cap : ℕ) (kept : List ℕ) (A B : List Submission) (L : List (List �
   gains_all new text are put =
       journal_grows cap kept text A new holds (games_after new are) (subst HaveOwnIds are own) (subst (λ (X : List Submission). length X ≤ cap) are room) put
 
-  pub gains_torn : (new : List Submission) (game : Submission) (text line : List ℕ) (n : ℕ) → B ≡ A ++ new ++ game ∷ [] → GameLines new text → line ≡ submission_text game
-      → Journals cap (kept ++ mending kept ++ text ++ take n (with_end line)) (A ++ new)
-      ⊎ Journals cap (kept ++ mending kept ++ text ++ take n (with_end line)) (A ++ new ++ game ∷ [])
-  gains_torn new game text line n are put spells =
-      journal_may_tear cap kept text line A new game n holds (games_after (new ++ game ∷ []) (are ∙ append_assoc A new (game ∷ []))) (subst HaveOwnIds are own)
-      (subst (λ (X : List Submission). length X ≤ cap) are room) put spells
+  pub gains_torn : (new : List Submission) (game : Submission) (text : List ℕ) (n : ℕ) → B ≡ A ++ new ++ game ∷ [] → GameLines new text
+      → Journals cap (kept ++ mending kept ++ text ++ take n (with_end (submission_text game))) (A ++ new)
+      ⊎ Journals cap (kept ++ mending kept ++ text ++ take n (with_end (submission_text game))) (A ++ new ++ game ∷ [])
+  gains_torn new game text n are put =
+      journal_may_tear cap kept text A new game n holds (games_after (new ++ game ∷ []) (are ∙ append_assoc A new (game ∷ []))) (subst HaveOwnIds are own)
+      (subst (λ (X : List Submission). length X ≤ cap) are room) put
+
+-- ---- a journal that was replayed
+
+-- all its bytes came, their games are held, and its end was mended
+pub record Replayed (fills : ℕ) (kept : Change SourceState) (journal : Change SinkState) (ledger : Change LedgerState) : Type 0 where
+  pub came : List ℕ
+  pub reads : ReadsAll chunk_len fills kept.old kept.new came
+  pub holds : Journals ledger.old.cap came ledger.new.accepted
+  pub put : Puts journal (mending came)
+  pub all_lasts : AllLasts journal.old → AllLasts journal.new
+
+pub replayed : (fills : ℕ) (kept : Change SourceState) (journal : Change SinkState) (ledger : Change LedgerState) → ReplaysAll fills kept journal ledger → Replayed fills kept journal ledger
+replayed fills kept journal ledger (inl (h, same)) = record {
+  came = h.came;
+  reads = h.reads;
+  holds = h.done.0;
+  put =
+      let Mends : Bool → Type 0 = λ torn. Puts journal (if torn then seal else []) in
+      subst Mends h.done.1 (subst (λ (s : SinkState). Appends journal.old.bytes s.bytes []) (sym same) (Appends-nil journal.old.bytes));
+  all_lasts = λ all. subst AllLasts (sym same) all;
+}
+replayed fills kept journal ledger (inr (h, writes)) = record {
+  came = h.came;
+  reads = h.reads;
+  holds = h.done.0;
+  put = let Mends : Bool → Type 0 = λ torn. Puts journal (if torn then seal else []) in subst Mends h.done.1 writes.all;
+  all_lasts = λ all. writes.all_lasts;
+}

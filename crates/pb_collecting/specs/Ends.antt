@@ -1,20 +1,9 @@
 -- What a run reads and writes: the states of its ends before and after.
-use Rattle.std.specs.Prelude.{◌≡◌}
 use Rattle.pb_io.specs.Sink.{SinkState}
 use Rattle.pb_io.specs.Source.{SourceState}
+pub use Rattle.pb_ledger.specs.Change.{Change, IsSame, between}
 use Rattle.pb_collecting.specs.declared.ends.Ends.{Ends}
 use Rattle.pb_collecting.specs.declared.ends.JournalEnds.{JournalEnds}
-
--- something before and after
-pub record Change (X : Type 0) : Type 0 where
-  pub old : X
-  pub new : X
-
-abbrev pub between : {X Y : Type 0} → (X → Y) → X → X → Change Y
-between state old new = record { old = state old; new = state new }
-
-abbrev pub IsSame : {X : Type 0} → Change X → Type 0
-IsSame change = change.new ≡ change.old
 
 -- the table and the submissions, which are read, and the replies
 pub record EndStates : Type 0 where

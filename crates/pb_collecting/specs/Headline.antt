@@ -44,9 +44,16 @@ pub record Headline (rules : CountingRules) (file bytes put : List ℕ) (entries
       (lines bytes) replies games entries book
   pub replied : put ≡ flat_map (λ r. r ++ 10 ∷ []) replies
 
--- It is so of all bytes that the two sources handed out, and of those that the sink took.
+-- all bytes that the two sources handed out, and those that the sink took
+pub record EndBytes (e : EndStates) : Type 0 where
+  pub file : List ℕ
+  pub bytes : List ℕ
+  pub put : List ℕ
+  pub table : HandsOut e.table.old e.table.new file
+  pub lines : HandsOut e.lines.old e.lines.new bytes
+  pub replies : Appends e.replies.old.bytes e.replies.new.bytes put
+
+-- It is so of these bytes.
 abbrev pub HasHeadline : CountingRules → EndStates → List Entry → List ℕ → Type 0
-HasHeadline rules e entries book = (file : List ℕ) × (bytes : List ℕ) × (put : List ℕ)
-    × HandsOut e.table.old e.table.new file × HandsOut e.lines.old e.lines.new bytes
-    × Appends e.replies.old.bytes e.replies.new.bytes put
-    × Headline rules file bytes put entries book
+HasHeadline rules e entries book =
+    (at : EndBytes e) × Headline rules at.file at.bytes at.put entries book

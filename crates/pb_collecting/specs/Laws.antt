@@ -11,7 +11,7 @@ use Rattle.pb_accepted.specs.Ledger.{LedgerState}
 use Rattle.pb_accepted.specs.Replies.{replies}
 use Rattle.pb_accepted.specs.Rules.{CountingRules}
 use Rattle.pb_ledger.specs.Saving.{Saved}
-use Rattle.pb_collecting.specs.ContinueHeadline.{ContinuesBytes}
+use Rattle.pb_collecting.specs.ContinueHeadline.{HasHeadlineOfBoth}
 use Rattle.pb_collecting.specs.Ends.{Change, EndStates, IsSame, JournalStates}
 use Rattle.pb_collecting.specs.Runs.{CollectRun, ContinueRun, JournalRun}
 use Rattle.pb_collecting.specs.declared.made.Stopped.TheVariants as stopped
@@ -26,12 +26,12 @@ RefusalsLeaveTheGames = (cap : ℕ) (L : List (List ℕ)) (R : List Answer) (i :
 -- what a run holds first that goes on from what an earlier one saved is what that one left; so the
 -- effect of both is that of one long run, and the replies are those of one
 abbrev pub GoesOnAsOneRun : Type 0
-GoesOnAsOneRun = (rules : CountingRules) (file saved bytes put : List ℕ) (left : LedgerState)
-    (entries : List Entry) (book : List ℕ)
-    (h : ContinuesBytes rules file saved bytes put left entries book) (K : List (List ℕ))
-    (Q : List Answer) (A : List Submission)
-    → Run most_games [] K Q A → Saved A saved
-    → (h.held ≡ A) × (replies (K ++ lines bytes) (Q ++ h.answers) ≡ replies K Q ++ put)
+GoesOnAsOneRun = (rules : CountingRules) (e : EndStates) (source : Change SourceState)
+    (left : LedgerState) (entries : List Entry) (book : List ℕ)
+    (h : HasHeadlineOfBoth rules e source left entries book) (K : List (List ℕ)) (Q : List Answer)
+    (A : List Submission) → Run most_games [] K Q A → Saved A h.saved
+    → (h.held ≡ A) × (replies (K ++ lines h.goes_on.at.bytes) (Q ++ h.goes_on.answers)
+    ≡ replies K Q ++ h.goes_on.at.put)
 
 -- A run that was refused its table or its saved ledger read no submission, and left a journal as it
 -- was.

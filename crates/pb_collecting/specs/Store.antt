@@ -3,8 +3,6 @@
 use Rattle.std.specs.Prelude.{◌≡◌, ◌⊎◌, ℕ, List, Option, Some, Result, IfErr, IfOk, OnOk}
 use Rattle.std.specs.Prelude.{take}
 use Rattle.std.specs.Result.{result_err}
-use Rattle.pb_io.specs.Sink.{SinkState}
-use Rattle.pb_ledger.specs.Booking.{WritesOrWants}
 use Rattle.pb_ledger.specs.declared.booking.WriteFault.{WriteFault}
 use Rattle.pb_ledger.specs.declared.booking.WriteFault.TheVariants as fault
 use Rattle.pb_collecting.specs.declared.store.StoreError.{StoreError}
@@ -31,16 +29,16 @@ pub record Keeps {A : Type 0} (old new : StoreState) (answer : Result A StoreErr
   pub leaves : IfErr answer (λ why. (new.handed ≡ old.handed) ⊎ Spoils new why bytes)
   pub fault : new.fault ≡ result_err answer
 
--- a text was kept, or put on a sink, and the answer is how many entries or games it tells
+-- this was done with a text, and the answer is how many entries or games it tells
+abbrev pub TellsText : {E : Type 0} → (List ℕ → ℕ → Type 0) → (List ℕ → Type 0) → Result ℕ E
+    → Type 0
+TellsText is_text does answer = (bytes : List ℕ) × (count : ℕ) × is_text bytes count × does bytes
+    × IfOk answer (λ n. n ≡ count)
+
+-- a text was kept
 abbrev pub KeepsText : (List ℕ → ℕ → Type 0) → StoreState → StoreState → Result ℕ StoreError
     → Type 0
-KeepsText is_text old new answer = (bytes : List ℕ) × (count : ℕ) × is_text bytes count
-    × Keeps old new answer bytes × IfOk answer (λ n. n ≡ count)
-
-abbrev pub WritesText : (List ℕ → ℕ → Type 0) → SinkState → SinkState → Result ℕ WriteFault
-    → Type 0
-WritesText is_text old new answer = (bytes : List ℕ) × (count : ℕ) × is_text bytes count
-    × WritesOrWants old new answer bytes × IfOk answer (λ n. n ≡ count)
+KeepsText is_text old new answer = TellsText is_text (Keeps old new answer) answer
 
 -- what a fault of writing is to a store
 abbrev pub store_error : WriteFault → StoreError

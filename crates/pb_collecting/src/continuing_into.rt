@@ -1,7 +1,8 @@
 //! The command `collect` that goes on from a saved ledger, up to the stores where the ledger and
 //! its book are kept.
 
-ghost use Rattle.std.specs.Prelude.{⊤};
+ghost use Rattle.std.specs.Prelude.{IfOk};
+ghost use Rattle.pb_poly.specs.Book.{book_bytes};
 ghost use Rattle.pb_collecting.specs.ContinueHeadline.{HasHeadlineOfBoth};
 ghost use Rattle.pb_collecting.specs.Ends.{between, states};
 ghost use Rattle.pb_collecting.specs.Into.{ContinuesInto};
@@ -61,7 +62,9 @@ pub fn continue_into<
 ) -> Result<Made, NotContinued>
     ensures { let e = states Table.state In.state Out.state ends.old ends.new in
         let saved = between Saved.state ledger.old.saved ledger.new.saved in
-        ContinuesInto (ContinueRun rules fills e saved) (HasHeadlineOfBoth rules e saved)
+        ContinuesInto (λ end. ContinueRun rules fills e saved end
+        × IfOk end (λ left. IfOk left.made (λ made. HasHeadlineOfBoth rules e saved left.ledger
+        made.entries (book_bytes made.entries))))
         (between LedgerStore.state ledger.old.store ledger.new.store)
         (between BookStore.state book.old book.new) result }
 {
@@ -91,7 +94,7 @@ fn keep_both<LedgerStore: Store, BookStore: Store>(
     ledger_store: &mut LedgerStore,
     book_store: &mut BookStore,
 ) -> Result<Made, NotContinued>
-    ensures { ContinuesInto (MayBeLeft gone.now) (λ _ _ _. ⊤)
+    ensures { ContinuesInto (MayBeLeft gone.now)
         (between LedgerStore.state ledger_store.old ledger_store.new)
         (between BookStore.state book_store.old book_store.new) result }
 {

@@ -1,5 +1,7 @@
 //! The command `collect` with a journal, up to the store where its book is kept.
 
+ghost use Rattle.std.specs.Prelude.{IfOk};
+ghost use Rattle.pb_poly.specs.Book.{book_bytes};
 ghost use Rattle.pb_collecting.specs.Ends.{between, journal_states, states};
 ghost use Rattle.pb_collecting.specs.Into.{Into};
 ghost use Rattle.pb_collecting.specs.JournalHeadline.{HasHeadlineOfJournal, LosesNone};
@@ -61,7 +63,8 @@ pub fn journal_into<
     // the fault.
     ensures ends { let e = states Table.state In.state Out.state ends.old ends.new in
         let j = journal_states Kept.state Journal.state journal.old journal.new in
-        Into (JournalRun rules fills e j) (HasHeadlineOfJournal rules e j)
+        Into (λ end. JournalRun rules fills e j end
+        × IfOk end (λ made. HasHeadlineOfJournal rules e j made.entries (book_bytes made.entries)))
         (between BookStore.state book.old book.new) result }
     // No acknowledged game is lost: no submission was read, or the journal was read to its end and
     // holds each game that a reply calls `ok`.

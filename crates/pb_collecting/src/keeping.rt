@@ -1,6 +1,7 @@
 //! The command `collect` up to the store where its book is kept.
 
-ghost use Rattle.std.specs.Prelude.{⊤};
+ghost use Rattle.std.specs.Prelude.{IfOk};
+ghost use Rattle.pb_poly.specs.Book.{book_bytes};
 ghost use Rattle.pb_collecting.specs.Ends.{between, states};
 ghost use Rattle.pb_collecting.specs.Answered.{IsAnswered};
 ghost use Rattle.pb_collecting.specs.Into.{Into};
@@ -53,7 +54,8 @@ pub fn collect_into<Table: Source, In: Source, Out: Sink, Watch: Watcher, BookSt
     // it is so; or the line that refuses the table was put; or this was done before the fault, and
     // this is left at the store.
     ensures { let e = states Table.state In.state Out.state ends.old ends.new in
-        Into (CollectRun rules fills e) (IsAnswered rules e)
+        Into (λ end. CollectRun rules fills e end
+        × IfOk end (λ made. IsAnswered rules e made.entries (book_bytes made.entries)))
         (between BookStore.state book.old book.new) result }
 {
     match take(
@@ -79,8 +81,7 @@ pub(crate) fn keep_book<BookStore: Store>(
     taken: &Taken,
     store: &mut BookStore,
 ) -> Result<Made, NoBook>
-    ensures { Into (MayBeOf taken.now) (λ _ _. ⊤) (between BookStore.state store.old store.new)
-        result }
+    ensures { Into (MayBeOf taken.now) (between BookStore.state store.old store.new) result }
 {
     match store.keep(&LedgerBook::of(alloc, &taken.ledger)) {
         Ok(entries) => Ok(Made::Book(Report {

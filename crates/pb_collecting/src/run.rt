@@ -1,10 +1,11 @@
 //! What the runs have in common that take submissions: how they begin, and the book at their end.
 
-ghost use Rattle.std.specs.Prelude.{◌≡◌, Err, MatchResult};
+ghost use Rattle.std.specs.Prelude.{◌≡◌, ℕ, Err, List, MatchResult, Ok};
 ghost use Rattle.pb_poly.specs.TableReading.{ReadsTable};
+ghost use Rattle.pb_accepted.specs.Rules.{AreRules};
 ghost use Rattle.pb_collecting.specs.Ends.{between};
 ghost use Rattle.pb_collecting.specs.Run.{MayBeBook, Opens};
-ghost use Rattle.pb_collecting.specs.Runs.{TakesTable};
+ghost use Rattle.pb_collecting.specs.Runs.{new_ledger};
 
 use crate::made::{Stopped, Unread};
 use pb_commands::{TableFault, refuse_table, take_table};
@@ -49,7 +50,9 @@ fn empty_ledger<Table: Source>(
     table: &mut Table,
     fills: u32,
 ) -> Result<Ledger<MapTally>, TableFault>
-    ensures { MatchResult result (TakesTable rules fills (between Table.state table.old table.new))
+    ensures { MatchResult result
+        (λ ledger. (randoms : List ℕ) × (ledger ≡ new_ledger rules randoms) × AreRules rules
+        × ReadsTable fills (Table.state table.old) (Table.state table.new) (Ok randoms))
         (λ e. ReadsTable fills (Table.state table.old) (Table.state table.new) (Err e)) }
 {
     let read = take_table(alloc, table, fills)?;

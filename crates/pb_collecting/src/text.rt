@@ -1,9 +1,10 @@
 //! What has a text.
 
 ghost use Rattle.std.specs.Prelude.{◌≡◌, ℕ, List, length};
-ghost use Rattle.pb_ledger.specs.Booking.{BookText};
+ghost use Rattle.pb_ledger.specs.Booking.{BookText, WritesOrWants};
+ghost use Rattle.pb_ledger.specs.Change.{between};
 ghost use Rattle.pb_ledger.specs.Saving.{Saved};
-ghost use Rattle.pb_collecting.specs.Store.{WritesText};
+ghost use Rattle.pb_collecting.specs.Store.{TellsText};
 
 use pb_io::Sink;
 use pb_ledger::{Ledger, Tally, WriteFault, save, save_book};
@@ -21,7 +22,8 @@ pub trait Text {
     /// The sink has failed, or there was no memory for what was to be put next. A front of the text
     /// may have been put then.
     fn write<K: Sink>(&self, sink: &mut K) -> Result<u64, WriteFault>
-        ensures { WritesText (is_text self.now) (K.state sink.old) (K.state sink.new) result };
+        ensures { TellsText (is_text self.now)
+            (WritesOrWants (between K.state sink.old sink.new) result) result };
 }
 
 impl<T: Tally> Text for Ledger<T> {

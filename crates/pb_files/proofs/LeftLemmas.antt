@@ -2,10 +2,10 @@
 use Rattle.std.proofs.Common.{◌≡◌, ◌∙◌, ◌⊎◌, ℕ, Bool, true, false, List, [], ◌++◌, Option, None, Some, IfSome, ap, append-nil, append_assoc, inl, inr, refl, subst, sym}
 use Rattle.std.specs.Option.{ForSome}
 use Rattle.std.specs.Io.KnownBytes.{Appends}
-use Rattle.pb_io.specs.Sink.{AllLasts}
+use Rattle.pb_io.specs.Sink.{AllLasts, LastsFirst}
 use Rattle.pb_io.specs.Source.{HandsOut, SourceState}
 use Rattle.pb_collecting.specs.Ends.{Change, EndStates, IsSame}
-use Rattle.pb_collecting.specs.JournalHeadline.{HoldsAnswered, LosesNone, LosesNoneLater, Outlives}
+use Rattle.pb_collecting.specs.JournalHeadline.{HoldsAnswered, LosesNone, LosesNoneLater}
 use Rattle.pb_files.specs.Begins.{BeginsWith}
 use Rattle.pb_files.specs.Disk.{Disk, Grows, IsOnDisk, Leaves}
 use Rattle.pb_files.specs.Journaling.{BeginsEmpty, HandsOnAnswered, IsStarted, LeavesAnswered, journal_over}
@@ -61,31 +61,31 @@ module _ (sync : Bool) (disk : Disk) (reader : Change SourceState) (end : Change
         | inr k ↦ elim (outlives all_lasts) [
           | inl unread ↦ inl unread
           | inr h ↦
-              let whole : h.0 ≡ disk.found = subst (λ (known : Option (List ℕ)). IfSome known (λ all. h.0 ≡ all)) started.reads h.1.told in
-              inr (by k.2.gained k.2.put (subst (λ (kept : List ℕ). Outlives kept e (journal_over true sync reader end).journal) whole h.2))
+              let whole : h.0 ≡ disk.found = subst (λ (known : Option (List ℕ)). IfSome known (λ all. h.0 ≡ all)) started.reads h.2.told in
+              inr (by k.1 h.1 k.3 h.3 (subst (λ (kept : List ℕ). HoldsAnswered (kept ++ h.1) e) whole h.4))
         ]
       ]
     where
-      by : (more : List ℕ) → Appends (bytes_put end.old.told end.old.waits) (bytes_put end.new.told end.new.waits) more
-          → Outlives disk.found e (journal_over true sync reader end).journal → LeavesAnswered sync disk end.new e
-      by more gains o =
-          left_of end.new.told refl o.gained more
+      by : (more gained : List ℕ) → Appends (bytes_put end.old.told end.old.waits) (bytes_put end.new.told end.new.waits) more
+          → LastsFirst (sink_state true sync end.old) (sink_state true sync end.new) gained → HoldsAnswered (disk.found ++ gained) e → LeavesAnswered sync disk end.new e
+      by more gained gains lasts holds =
+          left_of end.new.told refl gained more
           (subst (λ (known : Option (List ℕ)). Appends known (bytes_put end.new.told end.new.waits) more) found gains)
-          (subst (λ (known : Option (List ℕ)). IfSome (bytes_lasting sync end.new.told) (λ lasting. (behind : List ℕ) × Appends known (Some lasting) (o.gained ++ behind))) found o.lasts)
-          o.holds
+          (subst (λ (known : Option (List ℕ)). IfSome (bytes_lasting sync end.new.told) (λ lasting. (behind : List ℕ) × Appends known (Some lasting) (gained ++ behind))) found lasts)
+          holds
 
 -- what was handed on to a file that tells nothing
 module _ (sync : Bool) (reader : Change SourceState) (end : Change EndState) (e : EndStates) (begins : BeginsEmpty end.old) where
   starts : end.old.taken ++ end.old.waits ≡ []
   starts = ap (λ bs. end.old.taken ++ bs) begins.waits ∙ append-nil end.old.taken ∙ begins.taken
 
-  hands_of : (kept : List ℕ) → Outlives kept e (journal_over false sync reader end).journal → HandsOnAnswered kept end.new e
-  hands_of kept o = record { gained = o.gained; holds = o.holds; first = (o.lasts.0, o.lasts.1 ∙ ap (λ bs. bs ++ (o.gained ++ o.lasts.0)) starts) }
+  hands_of : (kept gained : List ℕ) → LastsFirst (sink_state false sync end.old) (sink_state false sync end.new) gained → HoldsAnswered (kept ++ gained) e → HandsOnAnswered kept end.new e
+  hands_of kept gained lasts holds = record { gained = gained; holds = holds; first = (lasts.0, lasts.1 ∙ ap (λ bs. bs ++ (gained ++ lasts.0)) starts) }
 
   hands_on : LosesNoneLater e (journal_over false sync reader end) → IsSame e.lines ⊎ ((kept : List ℕ) × HandsOut reader.old reader.new kept × HandsOnAnswered kept end.new e)
   hands_on outlives = elim (outlives (ap (λ (bytes : List ℕ). Some bytes) (starts ∙ sym begins.handed_on))) [
     | inl unread ↦ inl unread
-    | inr h ↦ inr (h.0, h.1, hands_of h.0 h.2)
+    | inr h ↦ inr (h.0, h.2, hands_of h.0 h.1 h.3 h.4)
   ]
 
 -- the same of files of a kind that tells what they hold, or not

@@ -20,6 +20,7 @@ ghost use Rattle.pb_files.specs.Journaling.{BeginsEmpty, HandsOnAnswered, IsStar
 ghost use Rattle.pb_files.specs.Journaling.{LeavesAnswered};
 ghost use Rattle.pb_folder.specs.Keeping.{LeadsToHanded};
 ghost use Rattle.pb_io.specs.Source.{HandsOut};
+ghost use Rattle.pb_poly.specs.Book.{book_bytes};
 ghost use Rattle.pb_poly.specs.Reading.{ReadsBook};
 ghost use Rattle.pb_program.specs.Ordered.{IsLedgerPath, is_synced, most_fills};
 
@@ -51,7 +52,8 @@ pub(crate) fn collect<'f, 'a, Table: Source, In: Source, Out: Sink, Watch: Watch
 ) -> Result<Made, NoBook>
     requires { book.old.label.path.now ≡ order.now.book.now }
     ensures ends { let e = states Table.state In.state Out.state ends.old ends.new in
-        Into (CollectRun order.now.rules most_fills e) (IsAnswered order.now.rules e)
+        Into (λ end. CollectRun order.now.rules most_fills e end
+        × IfOk end (λ made. IsAnswered order.now.rules e made.entries (book_bytes made.entries)))
         (between (⟦<KeptFile<'f, 'a, F> as Store>⟧.state) book.old book.new) result }
     // What the book's file was handed is what its name leads to.
     ensures book { LeadsToHanded (option_map F.InPlace.state book.new.in_place)
@@ -86,8 +88,9 @@ pub(crate) fn go_on<
     requires book { book.old.label.path.now ≡ order.now.book.now }
     ensures ends { let e = states Table.state In.state Out.state ends.old ends.new in
         let saved = between Saved.state ledger.old.saved ledger.new.saved in
-        ContinuesInto (ContinueRun order.now.rules most_fills e saved)
-        (HasHeadlineOfBoth order.now.rules e saved)
+        ContinuesInto (λ end. ContinueRun order.now.rules most_fills e saved end
+        × IfOk end (λ left. IfOk left.made (λ made. HasHeadlineOfBoth order.now.rules e saved
+        left.ledger made.entries (book_bytes made.entries))))
         (between (⟦<KeptFile<'l, 'a, F> as Store>⟧.state) ledger.old.store ledger.new.store)
         (between (⟦<KeptFile<'f, 'a, F> as Store>⟧.state) book.old book.new) result }
     // What their files were handed is what their names lead to.
@@ -130,8 +133,9 @@ pub(crate) fn journal<
     ensures ends { let e = states Table.state In.state Out.state ends.old ends.new in
         let j = journal_states Kept.state (⟦<JournalSink<File, MODE> as Sink>⟧.state)
         journal.old journal.new in
-        Into (JournalRun order.now.rules most_fills e j)
-        (HasHeadlineOfJournal order.now.rules e j)
+        Into (λ end. JournalRun order.now.rules most_fills e j end
+        × IfOk end (λ made. HasHeadlineOfJournal order.now.rules e j made.entries
+        (book_bytes made.entries)))
         (between (⟦<KeptFile<'f, 'a, F> as Store>⟧.state) book.old book.new) result }
     ensures book { LeadsToHanded (option_map F.InPlace.state book.new.in_place)
         (option_map F.file book.new.named) }

@@ -1,5 +1,6 @@
 use Rattle.std.proofs.Common.{Err, Ok, refl}
 use Rattle.std.proofs.lemmas.Result.{err_from_is_err_and}
+use Rattle.pb_collecting.specs.Runs.{Collected}
 use Rattle.pb_collecting.proofs.Headlines.{headline}
 use Rattle.pb_collecting.proofs.collect.run_collect.Goals as goal
 
@@ -10,11 +11,15 @@ returns-in_err-book_of-in-Ok-clause-ends g c =
 
 pub returns-in_ok-book_of-in-Ok-clause-ends : goal.returns-in_ok-book_of-in-Ok-clause-ends
 returns-in_ok-book_of-in-Ok-clause-ends g c =
-    let entries = c.in_ok-book_of-in-Ok.field-0 in
-    (record { entries = entries; totals = c.in-Ok.taken.totals }, c.in-Ok.ensures (Ok entries) c.in_ok-book_of-in-Ok.ensures, refl)
+    let made : Collected = record { entries = c.in_ok-book_of-in-Ok.field-0; totals = c.in-Ok.taken.totals } in
+    let book = c.in_ok-book_of-in-Ok.ensures in
+    (made, c.in-Ok.ensures (Ok made) (book.0, book.1, refl), refl)
 
 pub returns-in_ok-book_of-in-Ok-clause-headline : goal.returns-in_ok-book_of-in-Ok-clause-headline
-returns-in_ok-book_of-in-Ok-clause-headline g c = headline _ _ _ _ (c.in-Ok.ensures (Ok c.in_ok-book_of-in-Ok.field-0) c.in_ok-book_of-in-Ok.ensures)
+returns-in_ok-book_of-in-Ok-clause-headline g c =
+    let made : Collected = record { entries = c.in_ok-book_of-in-Ok.field-0; totals = c.in-Ok.taken.totals } in
+    let book = c.in_ok-book_of-in-Ok.ensures in
+    headline _ _ _ made (c.in-Ok.ensures (Ok made) (book.0, book.1, refl))
 
 pub returns-in-Unread-clause-ends : goal.returns-in-Unread-clause-ends
 returns-in-Unread-clause-ends g c = (c.in-Unread.field-0, rw c.in-Unread.is at c.in-Err.ensures)

@@ -10,7 +10,7 @@ returns-in_err-read g c =
     rw (is.1, is.2) c.in_err-read.ensures.reads
 
 pub returns-in-Ok : goal.returns-in-Ok
-returns-in-Ok g c = record { randoms = c.in_ok-read.read; read = c.in_ok-read.ensures.reads; counting = c.in-Ok.ensures.counting; is = c.in-Ok.ensures.empty }
+returns-in-Ok g c = (c.in_ok-read.read, c.in-Ok.ensures.empty, c.in-Ok.ensures.counting, c.in_ok-read.ensures.reads)
 
 -- where there is no memory for the ledger, the bytes are a table
 pub returns : goal.returns
