@@ -53,10 +53,12 @@ returns g c made may =
       loaded,
       load.ok.0,
       same_but_games new loaded load.basis load.cap,
-      (left,
-      end,
-      took _ (record { old = g.Table.Source.state c.args.table.now; new = g.Table.Source.state c.open.new.table }) _ _ _ same (from_to loaded left) end c.collect_watched-end.ensures.ok c.collect_watched-end.ensures.fault,
-      Ok (record { ledger = left; made = made }),
-      (refl, may),
-      refl),
+      (
+        left,
+        end,
+        took _ (record { old = g.Table.Source.state c.args.table.now; new = g.Table.Source.state c.open.new.table }) _ _ _ same (from_to loaded left) end c.collect_watched-end.ensures.ok c.collect_watched-end.ensures.fault,
+        Ok (record { ledger = left; made = made }),
+        (refl, may),
+        refl,
+      ),
     ))

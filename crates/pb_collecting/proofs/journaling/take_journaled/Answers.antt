@@ -34,17 +34,19 @@ returns-in_err-totals g c =
       g.Journal.Sink.state c.replay.new.journal,
       replay.ok,
       same_but_games new held replay.basis replay.cap,
-      (left,
-      Err fault,
       (
-        why,
-        subst (λ (m : SinkState). JournalsUntil c.args.fills (from_to (g.In.Source.state c.args.ends.now.lines) (g.In.Source.state c.collect_journaled.new.source)) (from_to m (g.Out.Sink.state c.collect_journaled.new.sink)) (from_to (g.Journal.Sink.state c.replay.new.journal) (g.Journal.Sink.state c.collect_journaled.new.journal)) (from_to held left) why) same
-            c.in_err-totals.ensures.fault,
+        left,
+        Err fault,
+        (
+          why,
+          subst (λ (m : SinkState). JournalsUntil c.args.fills (from_to (g.In.Source.state c.args.ends.now.lines) (g.In.Source.state c.collect_journaled.new.source)) (from_to m (g.Out.Sink.state c.collect_journaled.new.sink)) (from_to (g.Journal.Sink.state c.replay.new.journal) (g.Journal.Sink.state c.collect_journaled.new.journal)) (from_to held left) why) same
+              c.in_err-totals.ensures.fault,
+          refl,
+        ),
+        Err fault,
+        refl,
         refl,
       ),
-      Err fault,
-      refl,
-      refl),
     )))
 
 pub returns : goal.returns
@@ -60,13 +62,15 @@ returns g c made may =
       g.Journal.Sink.state c.replay.new.journal,
       replay.ok,
       same_but_games new held replay.basis replay.cap,
-      (left,
-      Ok totals,
       (
-        subst (λ (m : SinkState). CollectsStream c.args.fills (from_to (g.In.Source.state c.args.ends.now.lines) (g.In.Source.state c.collect_journaled.new.source)) (from_to m (g.Out.Sink.state c.collect_journaled.new.sink)) (from_to held left) totals) same stream.0,
-        stream.1,
+        left,
+        Ok totals,
+        (
+          subst (λ (m : SinkState). CollectsStream c.args.fills (from_to (g.In.Source.state c.args.ends.now.lines) (g.In.Source.state c.collect_journaled.new.source)) (from_to m (g.Out.Sink.state c.collect_journaled.new.sink)) (from_to held left) totals) same stream.0,
+          stream.1,
+        ),
+        made,
+        may,
+        refl,
       ),
-      made,
-      may,
-      refl),
     ))
