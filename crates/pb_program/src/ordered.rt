@@ -279,10 +279,10 @@ pub(crate) fn games<In: Source, Out: Sink, Watch: Watcher>(
     sink: &mut Out,
     watcher: &mut Watch,
 ) -> Result<bool, Fault>
-    ensures ok { IfOk result (PicksAll most_fills (In.state source.old) (In.state source.new)
-        (Out.state sink.old) (Out.state sink.new)) }
-    ensures fault { IfErr result (PicksUntil most_fills (In.state source.old) (In.state source.new)
-        (Out.state sink.old) (Out.state sink.new)) }
+    ensures ok { IfOk result (PicksAll most_fills (between In.state source.old source.new)
+        (between Out.state sink.old sink.new)) }
+    ensures fault { IfErr result (PicksUntil most_fills (between In.state source.old source.new)
+        (between Out.state sink.old sink.new)) }
 {
     pick_games(alloc, source, sink, watcher, FILLS)
 }
