@@ -201,6 +201,7 @@ bench: build $(EXAMPLES)
 	@sh bench/epd.sh
 	@sh bench/books.sh
 	@sh bench/collect.sh
+	@sh bench/counts.sh
 	@sh bench/journal.sh
 	@sh bench/same_entries.sh
 	@sh bench/export.sh
