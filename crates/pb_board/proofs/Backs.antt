@@ -1,10 +1,10 @@
 -- The board comes back from its bitboards.
-use Rattle.std.proofs.Common.{◌≡◌, ◌↔◌, ℕ, IsTrue, Bool, true, false, ◌==◌, List, [], ◌∷◌, Option, Some, None, length, cond, refl, sym, ap, ap₂, subst, ◌∙◌, arith, slice_index_or, slice_set}
+use Rattle.std.proofs.Common.{◌≡◌, ◌↔◌, ◌+◌, ◌*◌, max, bit_or, ℕ, IsTrue, Bool, true, false, ◌==◌, List, [], ◌∷◌, Option, Some, None, length, cond, refl, sym, ap, ap₂, subst, ◌∙◌, arith, slice_index_or, slice_set}
 use Rattle.std.specs.Int.{bit_at}
+use Rattle.std.proofs.lemmas.Nat.Bits.{bit_at_or}
+use Rattle.std.specs.Bool.{then_some}
 use Rattle.std.specs.List.{find}
-use Rattle.std.specs.Option.{option_map}
-use Rattle.std.proofs.lemmas.Bool.{eqb-true, false≢true}
-use Rattle.std.proofs.lemmas.Option.{same_Some}
+use Rattle.std.proofs.lemmas.Bool.{false≢true}
 use Rattle.std.proofs.lemmas.List.{length-set}
 use Rattle.std.proofs.lemmas.List.FromFn.{fill_by_all}
 use Rattle.pb_board.specs.declared.piece.Colour.{Colour}
@@ -20,9 +20,8 @@ use Rattle.pb_board.specs.Kept.{KeepsBitboards}
 use Rattle.pb_board.specs.Position.{IsSetup, Position, position_of}
 use Rattle.pb_board.specs.Piece.{colour_number, kind_number, piece_of}
 use Rattle.pb_board.specs.Board.{Place, Board, Holds, at, is_piece}
-use Rattle.pb_board.specs.Bitboards.{bit_for, is_on, is_side, pieces, bitboards_of, board_of}
-use Rattle.pb_board.proofs.BitboardBits.{kind_bit, kind_told, one_for, piece_bit, side_bit}
-use Rattle.pb_board.proofs.PieceTests.{colour_one}
+use Rattle.pb_board.specs.Bitboards.{bit_for, is_kind, is_on, is_side, pieces, bitboards_of, board_of}
+use Rattle.pb_board.proofs.BitboardBits.{kind_bit, piece_bit, side_bit}
 
 find_same : {A : Type 0} (f g : A → Bool) → ((x : A) → f x ≡ g x) → (xs : List A) → find f xs ≡ find g xs
 find_same f g same [] = refl
@@ -50,49 +49,54 @@ unfolding board_of
 board_back m b full e =
     ap board_of e ∙ sym (fill_by_all (λ q. find (is_on (bitboards_of b) q) pieces) b 64 None full (λ q on. place_back b q))
 
--- what a test denies
-pub denied : {P : Type 0} (b : Bool) → (IsTrue b ↔ P) → b ≡ false → ¬ P
-denied b test e p = false≢true (sym e ∙ test.1 p)
+-- a kind's bit at the square of a piece
+pub kind_bit_of : (m : Bitboards) (b : Board) (q : ℕ) (p : Piece) (k : Kind) → m ≡ bitboards_of b → Holds b q p → bit_at (slice_index_or m.kinds (kind_number k) 0) q ≡ bit_for (is_kind k (Some p))
+kind_bit_of m b q p k e here = ap (λ (x : Bitboards). bit_at (slice_index_or x.kinds (kind_number k) 0) q) e ∙ kind_bit b q k ∙ ap (λ x. bit_for (is_kind k x)) here
 
--- a kind whose bitboard has the square is that of the piece on it
-pub kind_here : (m : Bitboards) (b : Board) (q : ℕ) (p : Piece) (k : Kind) → bit_at (slice_index_or m.kinds (kind_number k) 0) q ≡ 1 → m ≡ bitboards_of b → Holds b q p → k ≡ p.kind
-kind_here m b q p k one e here =
-    let found = (kind_told (at b q) k).0 (sym (kind_bit b q k) ∙ (rw e at one)) in
-    ap (λ (x : Piece). x.kind) (same_Some _ _ (sym found.1 ∙ here))
+-- a bit of two sets
+pub either_bit : (a b q x y : ℕ) → bit_at a q ≡ x → bit_at b q ≡ y → bit_at (bit_or a b) q ≡ max x y
+either_bit a b q x y is_x is_y = bit_at_or a b q ∙ ap₂ (λ (m n : ℕ). max m n) is_x is_y
 
-pub own_kind : (m : Bitboards) (b : Board) (q : ℕ) (p : Piece) → m ≡ bitboards_of b → Holds b q p → bit_at (slice_index_or m.kinds (kind_number p.kind) 0) q ≡ 1
-own_kind m b q p e here = rw e (kind_bit b q p.kind ∙ (kind_told (at b q) p.kind).1 (p.colour, here))
+-- the bits of one piece make its kind's number: the lowest, the middle and the highest digit
+pub numbered : (p : Piece) → max (max (bit_for (is_kind Knight (Some p))) (bit_for (is_kind Rook (Some p)))) (bit_for (is_kind King (Some p)))
+    + 2 * max (bit_for (is_kind Bishop (Some p))) (bit_for (is_kind Rook (Some p))) + 4 * max (bit_for (is_kind Queen (Some p))) (bit_for (is_kind King (Some p))) ≡ kind_number p.kind
+numbered p = by p.kind
+  where
+    by : (k : Kind) → max (max (bit_for (kind_number k == 1)) (bit_for (kind_number k == 3))) (bit_for (kind_number k == 5))
+        + 2 * max (bit_for (kind_number k == 2)) (bit_for (kind_number k == 3)) + 4 * max (bit_for (kind_number k == 4)) (bit_for (kind_number k == 5)) ≡ kind_number k
+    by Pawn = refl
+    by Knight = refl
+    by Bishop = refl
+    by Rook = refl
+    by Queen = refl
+    by King = refl
 
-abbrev KindLacks : Bitboards → ℕ → ℕ → Type 0
-KindLacks m q k = ¬ (bit_at (slice_index_or m.kinds k 0) q ≡ 1)
+-- a side's bit at the square of a piece
+pub side_bit_of : (m : Bitboards) (b : Board) (q : ℕ) (p : Piece) (c : Colour) → m ≡ bitboards_of b → Holds b q p → bit_at (slice_index_or m.sides (colour_number c) 0) q ≡ bit_for (is_side c (Some p))
+side_bit_of m b q p c e here = ap (λ (x : Bitboards). bit_at (slice_index_or x.sides (colour_number c) 0) q) e ∙ side_bit b q c ∙ ap (λ x. bit_for (is_side c x)) here
 
-pub king_left : (m : Bitboards) (q : ℕ) (k : Kind) → bit_at (slice_index_or m.kinds (kind_number k) 0) q ≡ 1
-    → KindLacks m q 0 → KindLacks m q 1 → KindLacks m q 2 → KindLacks m q 3 → KindLacks m q 4 → King ≡ k
-king_left m q Pawn has p n b r d = absurd (p has)
-king_left m q Knight has p n b r d = absurd (n has)
-king_left m q Bishop has p n b r d = absurd (b has)
-king_left m q Rook has p n b r d = absurd (r has)
-king_left m q Queen has p n b r d = absurd (d has)
-king_left m q King has p n b r d = refl
+-- the bit of Black's pieces tells a piece's side
+pub black_told : (p : Piece) → bit_for (is_side Black (Some p)) ≡ 1 → Black ≡ p.colour
+black_told p = of p.colour
+  where
+    of : (c : Colour) → bit_for (colour_number c == 1) ≡ 1 → Black ≡ c
+    of White one = absurd (omega arith)
+    of Black one = refl
 
--- a side whose bitboard has the square is that of the piece on it
-colour_of_place : (x : Place) (c : Colour) → bit_for (is_side c x) ≡ 1 → Some c ≡ option_map (λ p. p.colour) x
-colour_of_place None c one = absurd (omega arith)
-colour_of_place (Some p) c one = ap Some (sym (colour_one p.colour c (eqb-true (colour_number p.colour) (colour_number c) (one_for _ one))))
+pub white_told : (p : Piece) → ¬ (bit_for (is_side Black (Some p)) ≡ 1) → White ≡ p.colour
+white_told p = of p.colour
+  where
+    of : (c : Colour) → ¬ (bit_for (colour_number c == 1) ≡ 1) → White ≡ c
+    of White none = refl
+    of Black none = absurd (none refl)
 
-pub colour_here : (m : Bitboards) (b : Board) (q : ℕ) (c : Colour) → bit_at (slice_index_or m.sides (colour_number c) 0) q ≡ 1 → m ≡ bitboards_of b → Some c ≡ option_map (λ p. p.colour) (at b q)
-colour_here m b q c one e = colour_of_place (at b q) c (sym (side_bit b q c) ∙ (rw e at one))
-
-no_colour_at_all : (c : Colour) → ¬ (bit_for (colour_number c == 0) ≡ 1) → ¬ (bit_for (colour_number c == 1) ≡ 1) → ⊥
-no_colour_at_all White w b = w refl
-no_colour_at_all Black w b = b refl
-
-no_colour_of_place : (x : Place) → ¬ (bit_for (is_side White x) ≡ 1) → ¬ (bit_for (is_side Black x) ≡ 1) → None ≡ option_map (λ p. p.colour) x
-no_colour_of_place None w b = refl
-no_colour_of_place (Some p) w b = absurd (no_colour_at_all p.colour w b)
-
-pub no_colour : (m : Bitboards) (b : Board) (q : ℕ) → ¬ (bit_at (slice_index_or m.sides 0 0) q ≡ 1) → ¬ (bit_at (slice_index_or m.sides 1 0) q ≡ 1) → m ≡ bitboards_of b → None ≡ option_map (λ p. p.colour) (at b q)
-no_colour m b q w d e = no_colour_of_place (at b q) (λ one. w (rw e (side_bit b q White ∙ one))) (λ one. d (rw e (side_bit b q Black ∙ one)))
+-- a place by whether something stands there, and of which side and kind it is
+pub place_told : (x : Place) (taken : Bool) (c : Colour) (k : Kind) → (IsTrue taken ↔ ¬ (x ≡ None)) → ((p : Piece) → x ≡ Some p → c ≡ p.colour) → ((p : Piece) → x ≡ Some p → k ≡ p.kind)
+    → then_some taken (piece_of c k) ≡ x
+place_told None true c k stands side kind = absurd (stands.0 refl refl)
+place_told None false c k stands side kind = refl
+place_told (Some p) true c k stands side kind = ap₂ (λ (d : Colour) (j : Kind). Some (piece_of d j)) (side p refl) (kind p refl)
+place_told (Some p) false c k stands side kind = absurd (false≢true (stands.1 (λ e. cc)))
 
 -- bitboards of a board that makes a setup keep it
 pub keeps_setup : (m : Bitboards) (b : Board) (turn : Colour) (rights : Rights) (ep : Option ℕ) → m ≡ bitboards_of b → IsSetup (position_of b turn rights ep)

@@ -14,7 +14,7 @@ use Rattle.pb_board.specs.declared.piece.Kind.TheVariants.{Pawn}
 use Rattle.pb_board.specs.declared.piece.Piece.{Piece}
 use Rattle.pb_board.specs.declared.bitboards.Bitboards.{Bitboards}
 use Rattle.pb_board.specs.Board.{Place, Board, at, Holds, IsEmpty, is_piece}
-use Rattle.pb_board.proofs.PieceTests.{kind_one, is_piece-is, is_piece-passes, piece_number-parts}
+use Rattle.pb_board.proofs.PieceTests.{colour_one, kind_one, is_piece-is, is_piece-passes, piece_number-parts}
 use Rattle.pb_board.specs.Piece.{colour_number, kind_number, piece_of}
 use Rattle.pb_board.specs.Bitboards.{is_side, is_kind, bit_for, bitboard_of, bitboards_of, colours, kinds}
 
@@ -174,6 +174,16 @@ side_bit b q c = ap (λ (n : ℕ). bit_at n q) (side_bitboard b c) ∙ bitboard_
 
 pub kind_bit : (b : Board) (q : ℕ) (k : Kind) → bit_at (slice_index_or (bitboards_of b).kinds (kind_number k) 0) q ≡ bit_for (is_kind k (at b q))
 kind_bit b q k = ap (λ (n : ℕ). bit_at n q) (kind_bitboard b k) ∙ bitboard_bit (is_kind k) refl b q
+
+side_there : (x : Place) (c : Colour) → bit_for (is_side c x) ≡ 1 → (k : Kind) × (x ≡ Some (piece_of c k))
+side_there None c one = absurd (omega arith)
+side_there (Some p) c one = (p.kind, ap (λ (d : Colour). Some (piece_of d p.kind)) (colour_one p.colour c (eqb-true (colour_number p.colour) (colour_number c) (one_for _ one))))
+
+pub side_told : (x : Place) (c : Colour) → (bit_for (is_side c x) ≡ 1) ↔ ((k : Kind) × (x ≡ Some (piece_of c k)))
+side_told x c = (
+  side_there x c,
+  λ h. ap (λ (y : Place). bit_for (is_side c y)) h.1 ∙ ap bit_for (eq-eqb (colour_number c) (colour_number c) refl),
+)
 
 kind_there : (x : Place) (k : Kind) → bit_for (is_kind k x) ≡ 1 → (c : Colour) × (x ≡ Some (piece_of c k))
 kind_there None k one = absurd (omega arith)

@@ -2,17 +2,29 @@
 
 ghost use Rattle.std.specs.Prelude.{◌≡◌, ◌<◌, ◌↔◌, ℕ, IsTrue, None, length, slice_set};
 ghost use Rattle.std.specs.Int.{bit_at};
-ghost use Rattle.std.specs.Option.{option_map};
 ghost use Rattle.pb_board.specs.Board.{Board, IsEmpty, Holds, at};
 ghost use Rattle.pb_board.specs.MovedPiece.{with_moved};
 ghost use Rattle.pb_board.specs.Piece.{colour_number, kind_number, piece_of};
 ghost use Rattle.pb_board.specs.Bitboards.{bitboards_of};
 ghost use Rattle.pb_board.specs.declared.piece.Colour.{Colour};
+ghost use Rattle.pb_board.specs.declared.piece.Kind.{Kind};
 ghost use Rattle.pb_board.specs.declared.piece.Piece.{Piece};
 
 use crate::piece::{Colour, Kind, Piece};
 use crate::setup::MovedPiece;
 use crate::square::Square;
+
+/// The kinds by their numbers, and kings for the numbers up to 7 that no kind has.
+static KINDS: [Kind; 8] = [
+    Kind::Pawn,
+    Kind::Knight,
+    Kind::Bishop,
+    Kind::Rook,
+    Kind::Queen,
+    Kind::King,
+    Kind::King,
+    Kind::King,
+];
 
 /// The squares of each side's pieces and of each kind's, as numbers: bit `i` stands for the square
 /// of index `i`.
@@ -116,6 +128,15 @@ pub(crate) fn occupied(bitboards: Bitboards) -> u64
     bitboards.sides[0] | bitboards.sides[1]
 }
 
+/// The squares on which a piece of this side stands.
+#[inline(always)]
+pub(crate) fn by_colour(bitboards: Bitboards, colour: Colour) -> u64
+    ensures { (b : Board) (q : ℕ) → bitboards ≡ bitboards_of b
+        → ((bit_at result q ≡ 1) ↔ ((k : Kind) × Holds b q (piece_of colour k))) }
+{
+    bitboards.sides[colour_number(colour)]
+}
+
 /// The squares on which this piece stands.
 #[inline(always)]
 pub(crate) fn by_piece(bitboards: Bitboards, piece: Piece) -> u64
@@ -134,51 +155,61 @@ pub(crate) fn by_kind(bitboards: Bitboards, kind: Kind) -> u64
     bitboards.kinds[kind_number(kind)]
 }
 
+/// Whether the square of this index is among these, as a number: no branch is made of it.
+#[inline(always)]
+fn bit(squares: u64, index: u8) -> u64
+    requires { index < 64 }
+    ensures value { result ≡ bit_at squares index }
+    ensures few { result < 2 }
+{
+    squares >> index & 1
+}
+
 /// Whether the square of this index is among these.
 #[inline(always)]
 fn has(squares: u64, index: u8) -> bool
     requires { index < 64 }
     ensures { IsTrue result ↔ (bit_at squares index ≡ 1) }
 {
-    squares >> index & 1 == 1
+    bit(squares, index) == 1
 }
 
-/// The side of what stands on the square of this index.
+/// The side of what stands on the square of this index, where something does.
 #[inline(always)]
-fn colour_at(bitboards: &Bitboards, index: u8) -> Option<Colour>
+fn colour_at(bitboards: &Bitboards, index: u8) -> Colour
     requires { index < 64 }
-    ensures { (b : Board) → bitboards.now ≡ bitboards_of b
-        → result ≡ option_map (λ p. p.colour) (at b index) }
+    ensures { (b : Board) (p : Piece) → bitboards.now ≡ bitboards_of b → Holds b index p
+        → result ≡ p.colour }
 {
-    if has(bitboards.sides[0], index) {
-        Some(Colour::White)
-    } else if has(bitboards.sides[1], index) {
-        Some(Colour::Black)
+    if has(bitboards.sides[1], index) {
+        Colour::Black
     } else {
-        None
+        Colour::White
     }
 }
 
-/// The kind of what stands on the square of this index, where something does.
+/// The kind with this number. It is looked up, so no branch is made of it.
+#[inline(always)]
+fn kind_of(number: u64) -> Kind
+    requires { number < 8 }
+    ensures { (k : Kind) → number ≡ kind_number k → result ≡ k }
+{
+    KINDS[number as usize]
+}
+
+/// The kind of what stands on the square of this index, where something does. Which kind it is
+/// can't be foretold, so it is made of the bits without a branch.
 #[inline(always)]
 fn kind_at(bitboards: &Bitboards, index: u8) -> Kind
     requires { index < 64 }
     ensures { (b : Board) (p : Piece) → bitboards.now ≡ bitboards_of b → Holds b index p
         → result ≡ p.kind }
 {
-    if has(bitboards.kinds[0], index) {
-        Kind::Pawn
-    } else if has(bitboards.kinds[1], index) {
-        Kind::Knight
-    } else if has(bitboards.kinds[2], index) {
-        Kind::Bishop
-    } else if has(bitboards.kinds[3], index) {
-        Kind::Rook
-    } else if has(bitboards.kinds[4], index) {
-        Kind::Queen
-    } else {
-        Kind::King
-    }
+    let [_, knights, bishops, rooks, queens, kings] = bitboards.kinds;
+    let low = bit(knights | rooks | kings, index);
+    let middle = bit(bishops | rooks, index);
+    let high = bit(queens | kings, index);
+    kind_of(low + 2 * middle + 4 * high)
 }
 
 /// What stands on the square of this index.
@@ -187,9 +218,10 @@ pub(crate) fn piece_at(bitboards: &Bitboards, index: u8) -> Option<Piece>
     requires { index < 64 }
     ensures { (b : Board) → bitboards.now ≡ bitboards_of b → result ≡ at b index }
 {
-    let colour = colour_at(bitboards, index)?;
-    let kind = kind_at(bitboards, index);
-    Some(Piece { colour, kind })
+    has(occupied(*bitboards), index).then_some(Piece {
+        colour: colour_at(bitboards, index),
+        kind: kind_at(bitboards, index),
+    })
 }
 
 /// What stands on each square, by index.

@@ -89,7 +89,8 @@ impl Setup {
     ghost use Rattle.pb_board.specs.Board.{at, Holds, IsEmpty};
     ghost use Rattle.std.specs.Int.{bit_at};
     ghost use Rattle.pb_board.specs.Initial.{initial};
-    ghost use Rattle.pb_board.specs.Piece.{opponent};
+    ghost use Rattle.pb_board.specs.Piece.{opponent, piece_of};
+    ghost use Rattle.pb_board.specs.declared.piece.Kind.{Kind};
     ghost use Rattle.pb_board.specs.Position.{IsSetup, IsOnlyKing, position_of, with_piece_moved};
     ghost use Rattle.pb_board.specs.MovedPiece.{with_two_moved};
     ghost use Rattle.pb_board.specs.Refusal.{IsFirstFault};
@@ -251,6 +252,16 @@ impl Setup {
         ensures rules { IsSetup self.now }
     {
         bitboards::occupied(self.bitboards)
+    }
+
+    /// The squares on which this side's pieces stand: bit `i` stands for the square of index `i`.
+    #[inline(always)]
+    pub fn by_colour(&self, colour: Colour) -> u64
+        ensures squares { (q : ℕ) → (bit_at result q ≡ 1)
+            ↔ ((kind : Kind) × Holds self.now.board q (piece_of colour kind)) }
+        ensures rules { IsSetup self.now }
+    {
+        bitboards::by_colour(self.bitboards, colour)
     }
 
     /// The squares on which this piece stands: bit `i` stands for the square of index `i`.

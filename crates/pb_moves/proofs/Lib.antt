@@ -16,6 +16,7 @@ pub mod Legality
 pub mod LegalMoves
 pub mod Successors
 pub mod SameAttacks
+pub mod Patterns
 pub mod SameMoves
 pub mod Pins
 pub mod Changing

@@ -100,33 +100,33 @@ no_near board a b near q on h =
 
 -- products of the differences
 
-knight_to : (f r : ℕ) → ((f ≡ 1) × (r ≡ 2)) ⊎ ((f ≡ 2) × (r ≡ 1)) → f * r ≡ 2
+pub knight_to : (f r : ℕ) → ((f ≡ 1) × (r ≡ 2)) ⊎ ((f ≡ 2) × (r ≡ 1)) → f * r ≡ 2
 knight_to f r (inl h) = rw (h.0, h.1) refl
 knight_to f r (inr h) = rw (h.0, h.1) refl
 
-knight_from : (f r : ℕ) → f * r ≡ 2 → ((f ≡ 1) × (r ≡ 2)) ⊎ ((f ≡ 2) × (r ≡ 1))
+pub knight_from : (f r : ℕ) → f * r ≡ 2 → ((f ≡ 1) × (r ≡ 2)) ⊎ ((f ≡ 2) × (r ≡ 1))
 knight_from zero r h = absurd (omega arith)
 knight_from (suc zero) r h = inl (refl, omega arith)
 knight_from (suc (suc zero)) r h = inr (refl, omega arith)
 knight_from (suc (suc (suc f))) zero h = absurd (omega arith)
 knight_from (suc (suc (suc f))) (suc r) h = absurd (omega arith)
 
-straight_to : (f r : ℕ) → ((f ≡ 0) × (0 < r)) ⊎ ((0 < f) × (r ≡ 0)) → (f * r ≡ 0) × (0 < f + r)
+pub straight_to : (f r : ℕ) → ((f ≡ 0) × (0 < r)) ⊎ ((0 < f) × (r ≡ 0)) → (f * r ≡ 0) × (0 < f + r)
 straight_to zero r (inl h) = (omega arith, omega (arith, h.1))
 straight_to (suc f) r (inl h) = absurd (omega (arith, h.0))
 straight_to f zero (inr h) = (omega arith, omega (arith, h.0))
 straight_to f (suc r) (inr h) = absurd (omega (arith, h.1))
 
-straight_from : (f r : ℕ) → f * r ≡ 0 → 0 < f + r → ((f ≡ 0) × (0 < r)) ⊎ ((0 < f) × (r ≡ 0))
+pub straight_from : (f r : ℕ) → f * r ≡ 0 → 0 < f + r → ((f ≡ 0) × (0 < r)) ⊎ ((0 < f) × (r ≡ 0))
 straight_from zero r h some = inl (refl, omega arith)
 straight_from (suc f) zero h some = inr (omega arith, refl)
 straight_from (suc f) (suc r) h some = absurd (omega arith)
 
-queen_to : (f r : ℕ) → ((f ≡ r) × (0 < f)) ⊎ (((f ≡ 0) × (0 < r)) ⊎ ((0 < f) × (r ≡ 0))) → ((f ≡ r) ⊎ (f * r ≡ 0)) × (0 < f + r)
+pub queen_to : (f r : ℕ) → ((f ≡ r) × (0 < f)) ⊎ (((f ≡ 0) × (0 < r)) ⊎ ((0 < f) × (r ≡ 0))) → ((f ≡ r) ⊎ (f * r ≡ 0)) × (0 < f + r)
 queen_to f r (inl h) = (inl h.0, omega (arith, h.1))
 queen_to f r (inr h) = let x = straight_to f r h in (inr x.0, x.1)
 
-queen_from : (f r : ℕ) → (f ≡ r) ⊎ (f * r ≡ 0) → 0 < f + r → ((f ≡ r) × (0 < f)) ⊎ (((f ≡ 0) × (0 < r)) ⊎ ((0 < f) × (r ≡ 0)))
+pub queen_from : (f r : ℕ) → (f ≡ r) ⊎ (f * r ≡ 0) → 0 < f + r → ((f ≡ r) × (0 < f)) ⊎ (((f ≡ 0) × (0 < r)) ⊎ ((0 < f) × (r ≡ 0)))
 queen_from f r (inl h) some = inl (h, omega arith)
 queen_from f r (inr h) some = inr (straight_from f r h some)
 
@@ -146,6 +146,20 @@ attacks_from side Bishop board a b h = (h.0, clear_from board a b (inl h.0) h.2)
 attacks_from side Rook board a b h = let x = straight_from (files_apart a b) (ranks_apart a b) h.0.0 h.0.1 in (x, clear_from board a b (inr x) h.2)
 attacks_from side Queen board a b h = let x = queen_from (files_apart a b) (ranks_apart a b) h.0.0 h.0.1 in (x, clear_from board a b x h.2)
 attacks_from side King board a b h = h.0
+
+-- a piece that is no pawn attacks where it points, if nothing stands between on a line
+pub reaches_by : (side : Colour) (kind : Kind) (board : Board) (a b : ℕ) → kind ≢ Pawn → chess.Pattern kind (files_apart a b) (ranks_apart a b)
+    → (IsLine a b → lower.WayIsClear board a b) → lower.ReachesBy side kind board a b
+reaches_by side Pawn board a b no_pawn points way = absurd (no_pawn refl)
+reaches_by side Knight board a b no_pawn points way = knight_from (files_apart a b) (ranks_apart a b) points
+reaches_by side Bishop board a b no_pawn points way = (points, way (inl points))
+reaches_by side Rook board a b no_pawn points way = let x = straight_from (files_apart a b) (ranks_apart a b) points.0 points.1 in (x, way (inr x))
+reaches_by side Queen board a b no_pawn points way = let x = queen_from (files_apart a b) (ranks_apart a b) points.0 points.1 in (x, way x)
+reaches_by side King board a b no_pawn points way = points
+
+-- and then nothing stands between on a line
+pub way_of : (side : Colour) (kind : Kind) (board : Board) (a b : ℕ) → lower.ReachesBy side kind board a b → IsLine a b → lower.WayIsClear board a b
+way_of side kind board a b reaches line = clear_from board a b line (attacks_to side kind board a b reaches).2
 
 pub attacked_to : (board : Board) (side : Colour) (square : ℕ) → lower.IsReached board side square → chess.IsAttacked board side square
 attacked_to board side square (a, h) =

@@ -8,9 +8,10 @@ use Rattle.pb_board.specs.declared.piece.Piece.{Piece}
 use Rattle.pb_board.specs.Board.{Board, at, Holds}
 use Rattle.pb_moves.specs.declared.attackers.Attackers.{Attackers}
 use Rattle.pb_moves.specs.Attacks.{files_apart, ranks_apart}
-use Rattle.pb_moves.specs.Reach.{WayIsClear, ReachesBy, IsReached, IsKnightsMove}
+use Rattle.pb_moves.specs.Reach.{LiesBetween, WayIsClear, ReachesBy, IsReached, IsKnightsMove}
 use mir.Val.{bits}
-use Rattle.std.proofs.lemmas.Nat.{and_le_l, or_lt}
+use Rattle.std.proofs.lemmas.Bool.{cases_lt}
+use Rattle.std.proofs.lemmas.Nat.{and_le_l, and_le_r, or_lt}
 use Rattle.std.proofs.lemmas.Nat.Bits.{bit_at_set_same, bit_at_set_other}
 use Rattle.pb_moves.specs.Successor.{Differs}
 use Rattle.pb_moves.proofs.Rising.{without, without_other, without_same}
@@ -22,7 +23,8 @@ use Rattle.pb_moves.specs.declared.rays.Slider.{Slider}
 use Rattle.pb_moves.specs.declared.rays.Slider.TheVariants.{Orthogonal, Diagonal}
 use Rattle.pb_moves.proofs.Between.{between_back}
 use Rattle.pb_moves.proofs.Differing.{holds_on_board}
-use Rattle.pb_moves.proofs.Sets.{in_and, in_both, in_or, in_first, in_second}
+use Rattle.pb_moves.proofs.Sets.{in_and, in_both, in_none, in_or, in_first, in_second, in_some}
+use Rattle.pb_moves.proofs.SameAttacks.{IsLine}
 
 pub empty_or_not : (x : Option Piece) → (x ≡ None) ⊎ ¬ (x ≡ None)
 empty_or_not None = inl refl
@@ -43,6 +45,24 @@ clear_if_open b occ to from taken way q on between =
 
 pub open_if_clear : (b : Board) (occ to from : ℕ) → IsTaken occ b → WayIsClear b from to → Open occ to from
 open_if_clear b occ to from taken clear q on between inside = (taken q on).0 inside (clear q on (between_back to q from between))
+
+-- where nothing is taken of the squares between, on one line, the way along it is clear
+pub way_told : (b : Board) (occ x from to : ℕ) → IsTaken occ b → occ < 2 ^ 64 → ((q : ℕ) → q < 64 → (In x q ↔ (IsLine from to × LiesBetween from q to)))
+    → ((bit_and x occ ≡ 0) ↔ (IsLine from to → WayIsClear b from to))
+way_told b occ x from to taken small lies = (
+  λ none line q on between. elim (empty_or_not (at b q)) [
+    | inl e ↦ e
+    | inr stands ↦ absurd (in_none (bit_and x occ) q none (in_both x occ q ((lies q on).1 (line, between)) ((taken q on).1 stands)))
+  ],
+  λ clear. elim (cases_lt 0 (bit_and x occ)) [
+    | inl some ↦
+        (let w = in_some (bit_and x occ) (omega (arith, and_le_r x occ)) some in
+        let inside = in_and x occ w.0 w.2 in
+        let between = (lies w.0 w.1).0 inside.0 in
+        absurd ((taken w.0 w.1).0 inside.1 (clear between.0 w.0 w.1 between.1)))
+    | inr none ↦ omega arith
+  ],
+)
 
 clear_by_open : (b : Board) (side : Colour) (attackers : Attackers) (to from : ℕ) → AreAttackers b side attackers → Open attackers.occupied to from → WayIsClear b from to
 clear_by_open b side attackers to from sees way = clear_if_open b attackers.occupied to from sees.occupied way
@@ -276,17 +296,3 @@ sees_lifted old new by attackers from own sees gone stands enemy on =
       orthogonal = either attackers.orthogonal Rook Queen sees.orthogonal;
       diagonal = either attackers.diagonal Bishop Queen sees.diagonal;
     }
-
--- what stands on a square is in the union of the sets
-pub own_in : (board : Board) (side : Colour) (attackers : Attackers) (q : ℕ)
-    → (Holds board q (piece_of side Pawn) → In attackers.pawns q) → (Holds board q (piece_of side Knight) → In attackers.knights q) → (Holds board q (piece_of side King) → In attackers.kings q)
-    → (Holds board q (piece_of side Rook) ⊎ Holds board q (piece_of side Queen) → In attackers.orthogonal q)
-    → (Holds board q (piece_of side Bishop) ⊎ Holds board q (piece_of side Queen) → In attackers.diagonal q)
-    → (kind : Kind) → Holds board q (piece_of side kind)
-    → In (bit_or (bit_or (bit_or (bit_or attackers.pawns attackers.knights) attackers.kings) attackers.orthogonal) attackers.diagonal) q
-own_in board side attackers q pawns knights kings orthogonal diagonal Pawn h = in_first _ _ q (in_first _ _ q (in_first _ _ q (in_first _ _ q (pawns h))))
-own_in board side attackers q pawns knights kings orthogonal diagonal Knight h = in_first _ _ q (in_first _ _ q (in_first _ _ q (in_second _ _ q (knights h))))
-own_in board side attackers q pawns knights kings orthogonal diagonal King h = in_first _ _ q (in_first _ _ q (in_second _ _ q (kings h)))
-own_in board side attackers q pawns knights kings orthogonal diagonal Rook h = in_first _ _ q (in_second _ _ q (orthogonal (inl h)))
-own_in board side attackers q pawns knights kings orthogonal diagonal Bishop h = in_second _ _ q (diagonal (inl h))
-own_in board side attackers q pawns knights kings orthogonal diagonal Queen h = in_second _ _ q (diagonal (inr h))

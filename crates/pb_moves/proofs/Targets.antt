@@ -3,19 +3,17 @@
 use Rattle.std.proofs.Common.{◌≡◌, ℕ, ◌+◌, ◌<◌, ◌⊎◌, ◌↔◌, ◌&&◌, ◌||◌, refl, arith, ap, sym, subst, ◌∙◌, inl, inr, Bool, true, false, eqb, ltb, leb, max, get_or, bit_or, ◌^◌, ◌%◌, ◌*◌, ◌/◌, bit_and}
 use Rattle.std.specs.Int.{bit_at}
 use Rattle.std.proofs.lemmas.Bool.{and_parts, eq-eqb, eqb-true, lt-ltb, ltb-true, le-leb, leb-true}
-use Rattle.std.proofs.lemmas.Nat.Bits.{bit_at_or, bit_at-lt}
 use Rattle.pb_board.specs.declared.piece.Colour.{Colour}
 use Rattle.pb_board.specs.declared.piece.Colour.TheVariants.{White, Black}
 use Rattle.pb_board.specs.Board.{rank}
 use Rattle.pb_moves.specs.declared.pawn_targets.TheConstants.{WHITE_PAWN, BLACK_PAWN}
-use Rattle.pb_moves.specs.declared.piece_targets.TheConstants.{KNIGHT, BISHOP, ROOK, NEAR}
+use Rattle.pb_moves.specs.declared.piece_targets.TheConstants.{KNIGHT, BISHOP, ROOK, QUEEN, NEAR}
 use Rattle.pb_board.specs.declared.piece.Kind.{Kind}
 use Rattle.pb_board.specs.declared.piece.Kind.TheVariants.{Pawn, Knight, Bishop, Rook, Queen, King}
 use Rattle.pb_moves.specs.Candidate.{MayGo}
 use Rattle.pb_moves.specs.Attacks.{files_apart, ranks_apart}
 use Rattle.pb_moves.specs.Reach.{IsKnightsMove, IsDiagonal, IsOrthogonal}
 use Rattle.pb_moves.proofs.Below.{all_below, all_below_at}
-use Rattle.pb_moves.proofs.Differing.{same_or_not}
 
 pub both : (x y : Bool) → x ≡ true → y ≡ true → (x && y) ≡ true
 both x y p q = cc
@@ -31,6 +29,9 @@ tests_diagonal a b = eqb (files_apart a b) (ranks_apart a b) && ltb 0 (files_apa
 abbrev pub tests_straight : ℕ → ℕ → Bool
 tests_straight a b =
     (eqb (files_apart a b) 0 && ltb 0 (ranks_apart a b)) || (ltb 0 (files_apart a b) && eqb (ranks_apart a b) 0)
+
+abbrev pub tests_queen : ℕ → ℕ → Bool
+tests_queen a b = tests_diagonal a b || tests_straight a b
 
 abbrev pub tests_knight : ℕ → ℕ → Bool
 tests_knight a b =
@@ -93,6 +94,9 @@ bishop_is_right = refl
 rook_is_right : is_right (λ a. get_or ROOK a 0) tests_straight ≡ true
 rook_is_right = refl
 
+queen_is_right : is_right (λ a. get_or QUEEN a 0) tests_queen ≡ true
+queen_is_right = refl
+
 king_is_right : is_right king tests_king ≡ true
 king_is_right = refl
 
@@ -137,14 +141,16 @@ bishop_bit colour a b x y =
     (λ h. both _ _ (eq-eqb (files_apart a b) (ranks_apart a b) h.0) (lt-ltb 0 (files_apart a b) h.1))
     (both_parts _ _ _ _ (eqb-true (files_apart a b) (ranks_apart a b)) (ltb-true 0 (files_apart a b)))
 
+passes_straight : (a b : ℕ) → IsOrthogonal a b → tests_straight a b ≡ true
+passes_straight a b (inl up) = either _ _ (inl (both _ _ (eq-eqb (files_apart a b) 0 up.0) (lt-ltb 0 (ranks_apart a b) up.1)))
+passes_straight a b (inr across) = either _ _ (inr (both _ _ (lt-ltb 0 (files_apart a b) across.0) (eq-eqb (ranks_apart a b) 0 across.1)))
+
+straight_passed : (a b : ℕ) → tests_straight a b ≡ true → IsOrthogonal a b
+straight_passed a b =
+    either_part _ _ _ _ (both_parts _ _ _ _ (eqb-true (files_apart a b) 0) (ltb-true 0 (ranks_apart a b))) (both_parts _ _ _ _ (ltb-true 0 (files_apart a b)) (eqb-true (ranks_apart a b) 0))
+
 pub rook_bit : (colour : Colour) (a b : ℕ) → a < 64 → b < 64 → (bit_at (get_or ROOK a 0) b ≡ 1) ↔ MayGo colour Rook a b
-rook_bit colour a b x y =
-    bit_tells (λ q. get_or ROOK q 0) tests_straight a b (IsOrthogonal a b) rook_is_right x y
-    (λ h. elim h [
-      | inl up ↦ either _ _ (inl (both _ _ (eq-eqb (files_apart a b) 0 up.0) (lt-ltb 0 (ranks_apart a b) up.1)))
-      | inr across ↦ either _ _ (inr (both _ _ (lt-ltb 0 (files_apart a b) across.0) (eq-eqb (ranks_apart a b) 0 across.1)))
-    ])
-    (either_part _ _ _ _ (both_parts _ _ _ _ (eqb-true (files_apart a b) 0) (ltb-true 0 (ranks_apart a b))) (both_parts _ _ _ _ (ltb-true 0 (files_apart a b)) (eqb-true (ranks_apart a b) 0)))
+rook_bit colour a b x y = bit_tells (λ q. get_or ROOK q 0) tests_straight a b (IsOrthogonal a b) rook_is_right x y (passes_straight a b) (straight_passed a b)
 
 pub king_bit : (colour : Colour) (a b : ℕ) → a < 64 → b < 64 → (bit_at (king a) b ≡ 1) ↔ MayGo colour King a b
 king_bit colour a b x y =
@@ -155,23 +161,14 @@ king_bit colour a b x y =
     ])
     (either_part _ _ _ _ (eqb-true (max (files_apart a b) (ranks_apart a b)) 1) (both_parts _ _ _ _ (eqb-true (files_apart a b) 2) (eqb-true (ranks_apart a b) 0)))
 
--- a queen's squares are a bishop's and a rook's
-pub queen_bit : (colour : Colour) (a b : ℕ) → a < 64 → b < 64 → (bit_at (bit_or (get_or BISHOP a 0) (get_or ROOK a 0)) b ≡ 1) ↔ MayGo colour Queen a b
+pub queen_bit : (colour : Colour) (a b : ℕ) → a < 64 → b < 64 → (bit_at (get_or QUEEN a 0) b ≡ 1) ↔ MayGo colour Queen a b
 queen_bit colour a b x y =
-    let is = bit_at_or (get_or BISHOP a 0) (get_or ROOK a 0) b in
-    let bishop = bishop_bit colour a b x y in
-    let rook = rook_bit colour a b x y in
-    let bishop_small = bit_at-lt (get_or BISHOP a 0) b in
-    let rook_small = bit_at-lt (get_or ROOK a 0) b in (
-      λ one. elim (same_or_not (bit_at (get_or BISHOP a 0) b) 1) [
-        | inl e ↦ inl (bishop.0 e)
-        | inr ne ↦ inr (rook.0 (omega arith))
-      ],
-      λ h. elim h [
-        | inl diagonal ↦ (let one = bishop.1 diagonal in is ∙ omega arith)
-        | inr orthogonal ↦ (let one = rook.1 orthogonal in is ∙ omega arith)
-      ],
-    )
+    bit_tells (λ q. get_or QUEEN q 0) tests_queen a b (MayGo colour Queen a b) queen_is_right x y
+    (λ h. elim h [
+      | inl diagonal ↦ either _ _ (inl (both _ _ (eq-eqb (files_apart a b) (ranks_apart a b) diagonal.0) (lt-ltb 0 (files_apart a b) diagonal.1)))
+      | inr straight ↦ either _ _ (inr (passes_straight a b straight))
+    ])
+    (either_part _ _ _ _ (both_parts _ _ _ _ (eqb-true (files_apart a b) (ranks_apart a b)) (ltb-true 0 (files_apart a b))) (straight_passed a b))
 
 -- the same, with the colour, the kind and the square as the code names them
 pub bit_named : (colour side : Colour) (kind same : Kind) (from index to bit : ℕ) → colour ≡ side → kind ≡ same → index ≡ from

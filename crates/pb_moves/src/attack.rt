@@ -1,12 +1,14 @@
 //! Which squares a piece attacks.
 
-ghost use Rattle.std.specs.Prelude.{◌≡◌, ◌<◌, ◌↔◌, IsTrue};
-ghost use Rattle.pb_board.specs.Board.{IsForward};
-ghost use Rattle.pb_moves.specs.Reach.{WayIsClear, Reaches};
-ghost use Rattle.pb_moves.specs.Attackers.{Along};
+ghost use Rattle.std.specs.Prelude.{◌≡◌, ◌≢◌, ℕ, ◌<◌, ◌↔◌, IsTrue, slice_index_or};
+ghost use Rattle.pb_board.specs.declared.piece.Kind.TheVariants.{Pawn};
+ghost use Rattle.pb_board.specs.Board.{Board, IsForward};
+ghost use Rattle.pb_moves.specs.Attacks.{Pattern, files_apart, ranks_apart};
+ghost use Rattle.pb_moves.specs.Attackers.{In};
+ghost use Rattle.pb_moves.specs.Reach.{Reaches};
 
-use crate::attackers::{kings_from, knights_from};
-use crate::rays::{Slider, has};
+use crate::piece_targets::{BISHOP, KNIGHT, NEAR, QUEEN, ROOK};
+use crate::rays::{between, has};
 use pb_board::{Colour, Kind, Piece, Setup, Square};
 
 /// Whether `to` is this many ranks forward of `from`.
@@ -21,28 +23,40 @@ pub(crate) fn is_forward(colour: Colour, ranks: u8, from: Square, to: Square) ->
     }
 }
 
-/// Whether a piece on `from` that slides along these lines attacks `to`.
+/// For each square the squares that a piece of this kind, which is no pawn, attacks on an empty
+/// board.
 #[inline(always)]
-fn slider_reaches(lines: Slider, setup: &Setup, from: Square, to: Square) -> bool
-    ensures { IsTrue result ↔ (Along lines from to × WayIsClear setup.now.board from to) }
+fn targets(kind: Kind) -> &'static [u64; 64]
+    requires { kind ≢ Pawn }
+    ensures { (a b : ℕ) → a < 64 → b < 64 → (In (slice_index_or result.now a 0) b
+        ↔ Pattern kind (files_apart a b) (ranks_apart a b)) }
 {
-    has(lines.rays(from), to) && lines.is_clear(setup.occupied(), to, from)
+    match kind {
+        Kind::Knight => &KNIGHT,
+        Kind::Bishop => &BISHOP,
+        Kind::Rook => &ROOK,
+        Kind::Queen => &QUEEN,
+        Kind::King | Kind::Pawn => &NEAR,
+    }
 }
 
-/// Whether this piece on `from` attacks `to`.
+/// Whether this piece, which is no pawn, attacks `to` from `from`. Which kind it is can't be
+/// foretold, so no branch is made of it: the way is looked at for those that jump too.
 #[inline(always)]
-pub(crate) fn reaches(piece: Piece, setup: &Setup, from: Square, to: Square) -> bool
+pub(crate) fn piece_reaches(piece: Piece, setup: &Setup, from: Square, to: Square) -> bool
+    requires no_pawn { piece.kind ≢ Pawn }
+    requires apart { ¬ (from ≡ to) }
     ensures { IsTrue result ↔ Reaches piece setup.now.board from to }
 {
-    match piece.kind {
-        Kind::Pawn => from.file().abs_diff(to.file()) == 1 && is_forward(piece.colour, 1, from, to),
-        Kind::Knight => has(knights_from(to), from),
-        Kind::Bishop => slider_reaches(Slider::Diagonal, setup, from, to),
-        Kind::Rook => slider_reaches(Slider::Orthogonal, setup, from, to),
-        Kind::Queen => {
-            slider_reaches(Slider::Diagonal, setup, from, to)
-                || slider_reaches(Slider::Orthogonal, setup, from, to)
-        }
-        Kind::King => has(kings_from(to), from),
-    }
+    let taken = between(from, to) & setup.occupied();
+    has(targets(piece.kind)[from.index() as usize], to) & (taken == 0)
+}
+
+/// Whether this pawn attacks `to` from `from`.
+#[inline(always)]
+pub(crate) fn pawn_reaches(pawn: Piece, from: Square, to: Square) -> bool
+    requires { pawn.kind ≡ Pawn }
+    ensures { (b : Board) → IsTrue result ↔ Reaches pawn b from to }
+{
+    from.file().abs_diff(to.file()) == 1 && is_forward(pawn.colour, 1, from, to)
 }

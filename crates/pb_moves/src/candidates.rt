@@ -8,7 +8,7 @@ ghost use Rattle.pb_board.specs.declared.piece.Kind.TheVariants.{King};
 ghost use Rattle.pb_moves.specs.Candidate.{MayGo};
 
 use crate::pawn_targets::{BLACK_PAWN, WHITE_PAWN};
-use crate::piece_targets::{BISHOP, KNIGHT, NEAR, ROOK};
+use crate::piece_targets::{BISHOP, KNIGHT, NEAR, QUEEN, ROOK};
 use pb_board::{Colour, Kind, Piece, Square};
 
 /// The squares to which this piece may go from there. A legal move goes to one of them.
@@ -25,7 +25,7 @@ pub(crate) fn candidates(piece: Piece, from: Square) -> u64
         Kind::Knight => KNIGHT[index],
         Kind::Bishop => BISHOP[index],
         Kind::Rook => ROOK[index],
-        Kind::Queen => BISHOP[index] | ROOK[index],
+        Kind::Queen => QUEEN[index],
         Kind::King => king_candidates(index),
     }
 }

@@ -9,8 +9,8 @@ ghost use Rattle.pb_moves.specs.Cases.{EnPassant, pawn_rank};
 ghost use Rattle.pb_moves.specs.Candidate.{HoldsOwn};
 ghost use Rattle.pb_moves.specs.MoveKind.{Finds};
 
-use crate::attack::{is_forward, reaches};
-use crate::board::{is_capturable, is_empty, square_at};
+use crate::attack::{is_forward, pawn_reaches, piece_reaches};
+use crate::board::{is_capturable, is_empty, is_target, square_at};
 use crate::move_kind::MoveKind;
 use crate::moves::Move;
 use pb_board::{Colour, Kind, MovedPiece, Piece, Setup, Square};
@@ -24,8 +24,8 @@ pub(crate) fn piece_move(setup: &Setup, m: Move, piece: Piece) -> Option<MoveKin
 {
     let (from, to) = (m.from(), m.to());
     if m.promo().is_none()
-        && (is_empty(setup, to) || is_capturable(setup, piece.colour, to))
-        && reaches(piece, setup, from, to)
+        && is_target(setup, piece.colour, to)
+        && piece_reaches(piece, setup, from, to)
     {
         Some(MoveKind::One(piece))
     } else {
@@ -76,7 +76,7 @@ pub(crate) fn pawn_capture(setup: &Setup, m: Move, pawn: Piece, kind: Kind) -> O
 {
     let colour = pawn.colour;
     let (from, to) = (m.from(), m.to());
-    if is_capturable(setup, colour, to) && reaches(pawn, setup, from, to) {
+    if is_capturable(setup, colour, to) && pawn_reaches(pawn, from, to) {
         Some(MoveKind::One(Piece { colour, kind }))
     } else {
         None
@@ -136,7 +136,7 @@ pub(crate) fn en_passant(setup: &Setup, m: Move, pawn: Piece, kind: Kind) -> Opt
 {
     let (from, to) = (m.from(), m.to());
     match setup.ep() {
-        Some(ep) if ep.index() == to.index() && reaches(pawn, setup, from, to) => {
+        Some(ep) if ep.index() == to.index() && pawn_reaches(pawn, from, to) => {
             let taken = square_at(8 * from.rank() + to.file());
             Some(MoveKind::Two(
                 MovedPiece {

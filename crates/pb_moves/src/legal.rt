@@ -15,11 +15,12 @@ ghost use Rattle.pb_moves.specs.Attackers.{AreAttackers};
 ghost use Rattle.pb_moves.specs.Unpinned.{IsUnpinned};
 
 use crate::attackers::{Attackers, attackers_after, attackers_of, attackers_without, is_attacked};
-use crate::board::is_empty;
+use crate::board::{is_empty, own_squares};
 use crate::cases::{becomes, en_passant, pawn_capture, pawn_double, pawn_step, piece_move};
 use crate::castling::castles;
 use crate::move_kind::MoveKind;
 use crate::moves::Move;
+use crate::rays::has;
 use pb_board::{Kind, MovedPiece, Piece, Setup, Square};
 
 /// The piece of the side to move that stands there.
@@ -29,9 +30,10 @@ pub(crate) fn own_piece(setup: &Setup, square: Square) -> Option<Piece>
     ensures found { MatchOption result ((p : Piece) → ¬ HoldsOwn setup.now square p)
         (HoldsOwn setup.now square) }
 {
-    match setup.at(square) {
-        Some(piece) if piece.colour == setup.turn() => Some(piece),
-        _ => None,
+    if has(own_squares(setup), square) {
+        setup.at(square)
+    } else {
+        None
     }
 }
 

@@ -10,7 +10,7 @@ ghost use Rattle.pb_moves.specs.Attackers.{AreAttackers};
 ghost use Rattle.pb_moves.specs.Candidate.{AreOwn, HoldsOwn, MayPromote, ListsBelow};
 
 use crate::attackers::{Attackers, attackers_of};
-use crate::board::square_at;
+use crate::board::{own_squares, square_at};
 use crate::candidates::candidates;
 use crate::legal::{has_way, is_legal_for, is_unpinned, own_piece};
 use crate::moves::Move;
@@ -55,14 +55,6 @@ pub fn legal_moves(alloc: Global, setup: &Setup) -> Result<Vec<Move>, AllocError
         lister.push_from(square_at(index), &mut moves)?;
     }
     Ok(moves)
-}
-
-/// The squares on which the side to move has a piece: bit `i` stands for the square of index `i`.
-fn own_squares(setup: &Setup) -> u64
-    ensures { AreOwn result setup.now }
-{
-    let own = attackers_of(setup, setup.turn());
-    own.pawns | own.knights | own.kings | own.orthogonal | own.diagonal
 }
 
 /// Whether a pawn goes to the first or last rank.

@@ -2,6 +2,7 @@
 
 ghost use Rattle.std.specs.Prelude.{◌≡◌, ℕ, ◌<◌, ◌⊎◌, ◌↔◌, IsTrue};
 ghost use Rattle.pb_moves.specs.Attackers.{Between, In};
+ghost use Rattle.pb_moves.specs.Reach.{IsDiagonal, IsOrthogonal, LiesBetween};
 
 use crate::board::square_at;
 use crate::piece_targets::{BISHOP, ROOK};
@@ -33,7 +34,18 @@ fn interval(a: Square, b: Square) -> u64
     ensures { (q : ℕ) → In result q ↔ Between a b q }
 {
     let (a, b) = (a.index(), b.index());
-    if a < b { run(a, b) } else { run(b, a) }
+    run(a.min(b), a.max(b))
+}
+
+/// The squares that lie between two squares of one line, and none where no line joins the two. No
+/// branch is made of where they stand.
+#[inline(always)]
+pub(crate) fn between(a: Square, b: Square) -> u64
+    requires { ¬ (a ≡ b) }
+    ensures { (q : ℕ) → q < 64
+        → (In result q ↔ ((IsDiagonal a b ⊎ IsOrthogonal a b) × LiesBetween a q b)) }
+{
+    (Slider::Orthogonal.line(a, b) | Slider::Diagonal.line(a, b)) & interval(a, b)
 }
 
 /// The two kinds of lines along which pieces slide.
@@ -59,6 +71,18 @@ impl Slider {
             Slider::Orthogonal => ROOK[index],
             Slider::Diagonal => BISHOP[index],
         }
+    }
+
+    /// The squares that lie on lines of this kind with both squares, and none where no such line
+    /// joins the two.
+    #[inline(always)]
+    fn line(self, a: Square, b: Square) -> u64
+        ensures { (q : ℕ) → q < 64
+            → (In result q ↔ (Along self a b × Along self a q × Along self b q)) }
+    {
+        let rays = self.rays(a);
+        let line = rays & self.rays(b);
+        if has(rays, b) { line } else { 0 }
     }
 
     /// Whether nothing of the set stands between two squares of one of these lines.

@@ -2,8 +2,8 @@ use Rattle.std.proofs.Common.{rules}
 use Rattle.pb_moves.proofs.Carrying.{pawn_goes}
 use Rattle.pb_moves.proofs.cases.pawn_capture.Goals as goal
 
-pub returns-then-reaches : goal.returns-then-reaches
-returns-then-reaches c = (
+pub returns-then-pawn_reaches : goal.returns-then-pawn_reaches
+returns-then-pawn_reaches c = (
   c.requires.own,
   record {
     pawn = c.requires.pawn;
