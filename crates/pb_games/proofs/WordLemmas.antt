@@ -1,8 +1,8 @@
 -- Words, and the moves that they spell.
-use Rattle.std.proofs.Common.{◌≡◌, ◌≢◌, ℕ, ◌+◌, ◌≤◌, eqb, List, [], ◌∷◌, length, map, get_or, Option, Some, None, MatchOption, refl, sym, ap, subst, ◌∙◌, arith}
+use Rattle.std.proofs.Common.{◌≡◌, ℕ, ◌+◌, ◌≤◌, eqb, List, [], ◌∷◌, length, map, get_or, Option, Some, None, refl, sym, ap, subst, ◌∙◌, arith}
 use Rattle.std.specs.Iterator.{YieldsFirst}
 use Rattle.std.specs.List.{All, join_with_byte}
-use Rattle.std.proofs.lemmas.List.Elements.{All-head, All-tail, All-map, All-weaker}
+use Rattle.std.proofs.lemmas.List.Elements.{All-head, All-tail, All-rest, All-map, All-weaker}
 use Rattle.std.proofs.lemmas.List.Splits.{length-slice_split, join_with_byte-slice_split}
 use Rattle.std.proofs.lemmas.List.Sums.{count_by-le-length}
 use Rattle.pb_board.specs.declared.piece.Kind.{Kind}
@@ -15,7 +15,7 @@ use Rattle.pb_board.specs.declared.piece.Colour.TheVariants as side
 use Rattle.pb_board.specs.Piece.{piece_of}
 use Rattle.pb_board.specs.Text.{piece_letter}
 use Rattle.pb_moves.specs.Spelling.{spelling}
-use Rattle.pb_games.specs.Words.{words_of, square_named, promotion_named, move_named}
+use Rattle.pb_games.specs.Words.{ReadsFirst, words_of, square_named, promotion_named, move_named}
 
 -- a field has no more words than bytes, and one
 pub few_words : (field : List ℕ) → length (words_of field) ≤ length field + 1
@@ -50,7 +50,7 @@ named_back m h =
     ∙ ap (λ q. moved_of m.from q (promotion_named (get_or (spelling m) 4 0))) (square_back m.to)
     ∙ ap (λ p. moved_of m.from m.to p) promo
 
-pub named_spelt : (word : List ℕ) (m : Moved) → Spells word m → move_named word ≡ m
+named_spelt : (word : List ℕ) (m : Moved) → Spells word m → move_named word ≡ m
 named_spelt word m h = ap move_named h.is ∙ named_back m h.is_move
 
 pub spells_named : (word : List ℕ) → IsSpelled word → Spells word (move_named word)
@@ -78,13 +78,18 @@ pub named_are_moves : (words : List (List ℕ)) → All IsSpelled words → All 
 named_are_moves words h = All-map IsMove move_named words (All-weaker IsSpelled (λ w. IsMove (move_named w)) (λ w s. (spells_named w s).is_move) words h)
 
 -- the first of words that spell moves gives the first move
-pub next_move : (word : List ℕ) (r : Option Moved) (now : List Moved) (words rest : List (List ℕ)) → now ≡ map move_named words → words ≡ word ∷ rest → All IsSpelled words
-    → MatchOption r ((m : Moved) → IsMove m → word ≢ spelling m) (λ m. IsMove m × (word ≡ spelling m)) → YieldsFirst (λ s. s) now r (map move_named rest)
-next_move word None now words rest view cut spelt h =
-    let first : IsSpelled word = All-head IsSpelled word rest (subst (All IsSpelled) cut spelt) in
-    absurd (h first.0 first.1.is_move first.1.is)
-next_move word (Some m) now words rest view cut spelt h =
-    view ∙ ap (map move_named) cut ∙ ap (λ x. x ∷ map move_named rest) (named_spelt word m (record { is_move = h.0; is = h.1 }))
+pub next_move : (r : Option Moved) (now : List Moved) (words rest : List (List ℕ)) → now ≡ map move_named words → All IsSpelled words → ReadsFirst words r rest → YieldsFirst (λ s. s) now r (map move_named rest)
+next_move None now words rest view spelt h = absurd (h.2 (All-head IsSpelled h.0 rest (subst (All IsSpelled) h.1 spelt)))
+next_move (Some m) now words rest view spelt h = view ∙ ap (map move_named) h.1 ∙ ap (λ x. x ∷ map move_named rest) (named_back m h.0)
+
+pub spelt_left : (r : Option Moved) (words rest : List (List ℕ)) → All IsSpelled words → ReadsFirst words r rest → All IsSpelled rest
+spelt_left None words rest spelt h = All-rest IsSpelled _ _ _ h.1 spelt
+spelt_left (Some m) words rest spelt h = All-rest IsSpelled _ _ _ h.1 spelt
+
+-- words that spell moves are read as the first of them first
+pub read_first : (m : Moved) (r : Option Moved) (words rest : List (List ℕ)) (ms : List Moved) → IsMove m → ReadsFirst words r rest → words ≡ map spelling (m ∷ ms) → r ≡ Some m
+read_first m None words rest ms is h all = let first : h.0 ≡ spelling m = cc (h.1, all) in absurd (h.2 (m, record { is_move = is; is = first }))
+read_first m (Some read) words rest ms is h all = let first : spelling read ≡ spelling m = cc (h.1, all) in ap (λ x. Some x) (spelling_injective read m h.0 is first)
 
 -- a field is its words, with a space between each two
 pub words-back : (field : List ℕ) → join_with_byte 32 (words_of field) ≡ field

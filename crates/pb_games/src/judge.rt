@@ -15,7 +15,7 @@ use crate::refusal::Refusal;
 use crate::visitor::{MoveVisitor, NoVisitor};
 use crate::words::Words;
 use pb_board::Setup;
-use pb_moves::{playable, read_move};
+use pb_moves::playable;
 
 /// The most moves that a game may have.
 pub const MAX_PLIES: u32 = 1024;
@@ -93,9 +93,10 @@ fn read_moves<P: MoveVisitor>(
     let mut setup = *start;
     let mut illegal = None;
     let mut count = 0;
-    for word in Words::of(field) {
+    let mut words = Words::of(field);
+    while let Some(read) = words.next_move() {
         count += 1;
-        let Some(m) = read_move(word) else {
+        let Some(m) = read else {
             return Err(Refusal::Spelling(count));
         };
         if illegal.is_none() && count <= MAX_PLIES && !visitor.play(&mut setup, m) {

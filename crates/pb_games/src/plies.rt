@@ -6,7 +6,7 @@ ghost use Rattle.pb_moves.specs.Played.{IsSpelled};
 ghost use Rattle.pb_games.specs.Words.{words_of, moves_named};
 
 use crate::words::Words;
-use pb_moves::{Move, read_move};
+use pb_moves::Move;
 use std::marker::Model;
 
 /// The moves of a line, one after another. They are read from the line's words again, and take no
@@ -51,6 +51,6 @@ impl Iterator for Plies<'_> {
     ghost remaining = { item_count (λ s. s) };
 
     fn next(&mut self) -> Option<Move> {
-        read_move(self.words.next()?)
+        self.words.next_move()?
     }
 }

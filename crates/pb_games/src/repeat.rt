@@ -1,6 +1,7 @@
 //! Whether a line repeats a game that is known to be legal.
 
-ghost use Rattle.std.specs.Prelude.{◌≡◌, ◌↔◌, IsTrue, map};
+ghost use Rattle.std.specs.Prelude.{◌≡◌, ◌↔◌, All, IsTrue, map};
+ghost use Rattle.pb_moves.specs.Moved.{IsMove};
 ghost use Rattle.pb_moves.specs.Spelling.{spelling};
 ghost use Rattle.pb_games.specs.Repeat.{AreFieldsOf};
 ghost use Rattle.pb_games.specs.Submissions.{IsLawful, IsSubmission};
@@ -27,6 +28,7 @@ pub fn repeats(line: &[u8], id: &Id, game: &Game) -> bool
 
 /// Whether the fields are those of this id and this game.
 fn are_fields_of(fields: &LineFields<'_>, id: &Id, game: &Game) -> bool
+    requires { All IsMove game.now.moves }
     ensures { let f = fields.now in
         IsTrue result ↔ AreFieldsOf (id.now, game.now) f.id.now f.outcome.now f.start.now
         f.moves.now }
@@ -39,24 +41,17 @@ fn are_fields_of(fields: &LineFields<'_>, id: &Id, game: &Game) -> bool
 
 /// Whether the words of a field are the spellings of these moves.
 fn spell(field: &[u8], moves: &[Move]) -> bool
+    requires { All IsMove moves.now }
     ensures { IsTrue result ↔ (words_of field.now ≡ map spelling moves.now) }
 {
-    let mut rest = moves;
-    for word in Words::of(field) {
-        let [first, others @ ..] = rest else {
+    let mut words = Words::of(field);
+    for m in moves {
+        let Some(read) = words.next_move() else {
             return false;
         };
-        if !is_spelling(word, first) {
+        if read != Some(*m) {
             return false;
         }
-        rest = others;
     }
-    rest.is_empty()
-}
-
-/// Whether the word spells the move.
-fn is_spelling(word: &[u8], m: &Move) -> bool
-    ensures { IsTrue result ↔ (word.now ≡ spelling m.now) }
-{
-    word == m.text().as_bytes()
+    words.next_move().is_none()
 }

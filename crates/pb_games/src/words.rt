@@ -1,14 +1,13 @@
 //! The words of a field.
 
 ghost use Rattle.std.specs.Prelude.{◌≡◌, ◌∷◌, [], MatchOption};
-ghost use Rattle.pb_board.specs.Fields.{fields, space};
-ghost use Rattle.std.specs.Iterator.{YieldsFirstRef, item_count};
-ghost use Rattle.pb_games.specs.Words.{words_of};
+ghost use Rattle.pb_games.specs.Words.{ReadsFirst, words_of};
 
 use pb_board::cut_once;
+use pb_moves::{Move, read_move, read_plain};
 use std::marker::Model;
 
-/// The words of a field, one after another.
+/// The words of a field, read one after another.
 #[derive(Drop)]
 pub(crate) struct Words<'a> {
     rest: Option<&'a [u8]>,
@@ -32,20 +31,41 @@ impl<'a> Words<'a> {
             rest: if field.is_empty() { None } else { Some(field) },
         }
     }
-}
 
-impl<'a> Iterator for Words<'a> {
-    type Item = &'a [u8];
+    /// Reads the next word as a move: `Some(None)` where it spells none, and None where no word is
+    /// left.
+    #[inline(always)]
+    pub(crate) fn next_move(&mut self) -> Option<Option<Move>>
+        ensures { MatchOption result ((self.old ≡ []) × (self.new ≡ []))
+            (λ read. ReadsFirst self.old read self.new) }
+    {
+        match self.next_plain() {
+            Some(m) => Some(Some(m)),
+            None => Some(read_move(self.next_word()?)),
+        }
+    }
 
-    ghost can_next = { λ _. Unit {0} };
+    /// Takes the next word where it is a move of four bytes with a space after it, as most are.
+    #[inline(always)]
+    fn next_plain(&mut self) -> Option<Move>
+        ensures { MatchOption result (self.new ≡ self.old)
+            (λ m. ReadsFirst self.old (Some m) self.new) }
+    {
+        let [a, b, c, d, b' ', rest @ ..] = self.rest? else {
+            return None;
+        };
+        let m = read_plain([*a, *b, *c, *d])?;
+        self.rest = Some(rest);
+        Some(m)
+    }
 
-    ghost next_gives = { YieldsFirstRef (λ s. s) };
-
-    ghost remaining = { item_count (λ s. s) };
-
-    fn next(&mut self) -> Option<&'a [u8]> {
+    /// Takes the next word.
+    fn next_word(&mut self) -> Option<&'a [u8]>
+        ensures { MatchOption result ((self.old ≡ []) × (self.new ≡ []))
+            (λ word. self.old ≡ word.now ∷ self.new) }
+    {
         let text = self.rest?;
-        match cut_word(text) {
+        match cut_once(text, b' ') {
             Some((word, rest)) => {
                 self.rest = Some(rest);
                 Some(word)
@@ -56,19 +76,4 @@ impl<'a> Iterator for Words<'a> {
             }
         }
     }
-}
-
-/// Cuts a text at its first space, into what stands before it and what stands after it.
-#[inline(always)]
-fn cut_word(text: &[u8]) -> Option<(&[u8], &[u8])>
-    ensures { MatchOption result (fields space text.now ≡ text.now ∷ [])
-        (λ cut. fields space text.now ≡ cut.0.now ∷ fields space cut.1.now) }
-{
-    // Most words are moves of four bytes.
-    if let [a, b, c, d, b' ', rest @ ..] = text {
-        if *a != b' ' && *b != b' ' && *c != b' ' && *d != b' ' {
-            return Some((&text[..4], rest));
-        }
-    }
-    cut_once(text, b' ')
 }

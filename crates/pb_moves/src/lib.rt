@@ -38,5 +38,5 @@ pub use move_kind::MoveKind;
 pub use moves::Move;
 pub use playing::{play, try_play};
 pub use promotion::promotion_of;
-pub use spelling::read_move;
+pub use spelling::{read_move, read_plain};
 pub use text::MoveText;

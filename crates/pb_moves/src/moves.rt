@@ -54,6 +54,22 @@ impl Move {
         }
     }
 
+    /// The move without a promotion between the squares of these numbers. None exactly where they
+    /// are one.
+    #[inline(always)]
+    pub(crate) fn plain(from: u8, to: u8) -> Option<Move>
+        requires leaves { from < 64 }
+        requires reaches { to < 64 }
+        ensures { SomeIff result (from ≢ to) (moved_of from to None) }
+    {
+        if from == to {
+            None
+        } else {
+            let bits = u16::from(to) + 64 * u16::from(from);
+            Some(Move { bits })
+        }
+    }
+
     /// The square that the move leaves.
     #[inline]
     pub fn from(self) -> Square

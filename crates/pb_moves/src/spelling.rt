@@ -1,6 +1,6 @@
 //! Reading the spelling of a move.
 
-ghost use Rattle.std.specs.Prelude.{◌≡◌, ◌≢◌, ℕ, ◌<◌, [], ◌∷◌, ◌++◌, MatchOption};
+ghost use Rattle.std.specs.Prelude.{◌≡◌, ◌≢◌, ◌/◌, ◌%◌, ◌<◌, ◌↔◌, IsTrue, MatchOption};
 ghost use Rattle.std.specs.Option.{ForSome};
 ghost use Rattle.pb_board.specs.declared.piece.Kind.{Kind};
 ghost use Rattle.pb_board.specs.declared.piece.Colour.TheVariants.{Black};
@@ -12,15 +12,8 @@ ghost use Rattle.pb_moves.specs.Spelling.{spelling};
 use crate::moves::Move;
 use pb_board::{Kind, Square};
 
-/// The square of a file letter and a rank digit.
-fn read_square(letter: u8, digit: u8) -> Option<Square>
-    ensures { MatchOption result
-        ((q : ℕ) → q < 64 → letter ∷ digit ∷ [] ≢ square_text q)
-        (λ q. (q < 64) × (letter ∷ digit ∷ [] ≡ square_text q)) }
-{
-    // A byte below the first letter or digit wraps to a number that no file or rank has.
-    Square::new(letter.wrapping_sub(b'a'), digit.wrapping_sub(b'1'))
-}
+/// The bytes `a1a1` as a number, the first in the lowest place.
+const A1_A1: u32 = 0x3161_3161;
 
 /// The kind that a promotion's letter names.
 fn read_promotion(byte: u8) -> Option<Kind>
@@ -37,18 +30,32 @@ fn read_promotion(byte: u8) -> Option<Kind>
     }
 }
 
-/// The move of two squares and a promotion, from the squares' bytes.
-fn read_parts(bytes: [u8; 4], promotion: Option<Kind>) -> Option<Move>
-    requires { ForSome promotion IsPromotion }
-    ensures { MatchOption result
-        ((m : Moved) → IsMove m → m.promo ≡ promotion
-        → bytes ≢ square_text m.from ++ square_text m.to)
-        (λ m. IsMove m × (m.promo ≡ promotion) × (bytes ≡ square_text m.from ++ square_text m.to)) }
+/// Whether each byte of a number of four bytes is below 8, as those of files and ranks are.
+#[inline(always)]
+fn are_below_8(bytes: u32) -> bool
+    ensures { IsTrue result ↔ (bytes % 256 < 8) × (bytes / 256 % 256 < 8)
+        × (bytes / 65536 % 256 < 8) × (bytes / 16777216 < 8) }
 {
-    let [from_file, from_rank, to_file, to_rank] = bytes;
-    let from = read_square(from_file, from_rank)?;
-    let to = read_square(to_file, to_rank)?;
-    Move::new(from, to, promotion)
+    // The mask has all bits of each byte but its three lowest.
+    bytes & 0xF8F8_F8F8 == 0
+}
+
+/// Reads four bytes as a move, which then has no promotion. None exactly where they spell no move.
+#[inline(always)]
+pub fn read_plain(bytes: [u8; 4]) -> Option<Move>
+    ensures { MatchOption result
+        ((m : Moved) → IsMove m → bytes ≢ spelling m)
+        (λ m. IsMove m × (bytes ≡ spelling m)) }
+{
+    // File and rank left, file and rank reached, in a byte each. A letter or digit that names none
+    // leaves a byte of 8 or more.
+    let coordinates = u32::from_le_bytes(bytes).wrapping_sub(A1_A1);
+    if !are_below_8(coordinates) {
+        return None;
+    }
+    // A rank stands in the byte after its file's: this adds eight times the rank to the file.
+    let squares = coordinates + coordinates / 32;
+    Move::plain((squares % 64) as u8, (squares / 65536 % 64) as u8)
 }
 
 /// Reads a move in UCI notation: two squares and, for a promotion, a small n, b, r or q, and
@@ -59,10 +66,11 @@ pub fn read_move(text: &[u8]) -> Option<Move>
         (λ m. IsMove m × (text.now ≡ spelling m)) }
 {
     match text {
-        [a, b, c, d] => read_parts([*a, *b, *c, *d], None),
+        [a, b, c, d] => read_plain([*a, *b, *c, *d]),
         [a, b, c, d, e] => {
+            let plain = read_plain([*a, *b, *c, *d])?;
             let promotion = read_promotion(*e)?;
-            read_parts([*a, *b, *c, *d], Some(promotion))
+            Move::new(plain.from(), plain.to(), Some(promotion))
         }
         _ => None,
     }

@@ -6,13 +6,16 @@ use Rattle.pb_games.proofs.Played.{Leads}
 use Rattle.pb_games.proofs.judge.read_moves.Given as goal
 
 -- the words so far spell moves; all that were played were legal, or the first that wasn't is known
-abbrev pub invariant-loop-word : goal.invariant-loop-word
-invariant-loop-word g l = record {
+abbrev pub invariant-loop-read : goal.invariant-loop-read
+invariant-loop-read g l = record {
   done : List (List ℕ);
-  cut : words_of l.field ≡ done ++ l.word-iterator;
+  cut : words_of l.field ≡ done ++ l.words;
   number : l.count ≡ length done;
   spelt : All IsSpelled done;
   fixed : g.P.MoveVisitor.fixed l.visitor ≡ g.P.MoveVisitor.fixed l.fn.visitor;
-  legal : l.illegal ≡ None → l.count ≤ 1024 → Leads (g.P.MoveVisitor.holds l.visitor l.fn.outcome) l.fn.start (moves_named l.field) l.setup l.word-iterator l.count;
+  legal : l.illegal ≡ None → l.count ≤ 1024 → Leads (g.P.MoveVisitor.holds l.visitor l.fn.outcome) l.fn.start (moves_named l.field) l.setup l.words l.count;
   bad : (n : ℕ) → l.illegal ≡ Some n → BreaksAt (AreLegal l.fn.start) (moves_named l.field) n;
 }
+
+abbrev pub decreases-loop-read : goal.decreases-loop-read
+decreases-loop-read g l = length l.words

@@ -1,6 +1,7 @@
 use Rattle.std.proofs.Common.{arith}
 use Rattle.std.proofs.lemmas.Grind.{common_steps}
+use Rattle.pb_games.proofs.WordLemmas.{read_first}
 use Rattle.pb_games.proofs.repeat.spell.Goals as goal
 
-pub returns : goal.returns
-returns c = grind (arith, common_steps)
+pub returns-then-ne : goal.returns-then-ne
+returns-then-ne c = grind (arith, common_steps, read_first)
