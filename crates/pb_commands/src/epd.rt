@@ -10,7 +10,7 @@ use crate::line_refusal::{is_blank, put_refusal, refuse_line};
 use crate::lines::answer_lines;
 use crate::output::put_line;
 use pb_board::without_return;
-use pb_epd::{read_epd, write_epd};
+use pb_epd::form_of;
 use pb_io::{Fault, Sink, Source};
 use std::alloc::Global;
 
@@ -71,9 +71,8 @@ fn rewrite_line<K: Sink>(
     if is_blank(text) {
         return Ok(true);
     }
-    match read_epd(alloc, text) {
-        Ok(record) => {
-            let form = write_epd(alloc, &record)?;
+    match form_of(alloc, text) {
+        Ok(form) => {
             put_line(sink, &[form.as_slice()])?;
             Ok(true)
         }

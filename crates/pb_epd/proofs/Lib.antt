@@ -1,4 +1,5 @@
 pub mod Runs
+pub mod WordBytes
 pub mod Lexing
 pub mod TokenLists
 pub mod Bad

@@ -1,6 +1,6 @@
 -- The texts of a record, and the one refusal that is due first.
-use Rattle.std.proofs.Common.{◌≡◌, ◌≢◌, ℕ, ◌<◌, List, [], ◌∷◌, ◌++◌, length, Result, Ok, Err, refl, sym, ap, subst, ◌∙◌, arith}
-use Rattle.std.specs.Prelude.{All, AllPairs, IfOk, IfErr, map, flat_map}
+use Rattle.std.proofs.Common.{◌≡◌, ◌≢◌, ℕ, ◌<◌, List, [], ◌∷◌, ◌++◌, length, refl, sym, ap, subst, ◌∙◌, arith}
+use Rattle.std.specs.Prelude.{All, AllPairs, map, flat_map}
 use Rattle.std.specs.List.{slice_split}
 use Rattle.std.proofs.lemmas.List.{append-nil, same_from_push}
 use Rattle.pb_board.specs.Position.{Position, IsSetup}
@@ -191,15 +191,13 @@ module _ (bytes a b c d rest : List ℕ) (next : (ts : List Token) → Tokens ts
       setup_first bytes a b c d f.others (subst (λ w. Tokens w bytes) f.is tokens) e h
 
   module _ (p : Position) (lawful : IsSetup p) (spells : a ∷ b ∷ c ∷ d ∷ [] ≡ setup_fields p) where
-    pub found_all : (HasTokens (word d) rest → HasTokens end_mark bytes) → (r : Result EpdRecord EpdError) → IfOk r (λ e. (e.setup ≡ p) × IsEpd e × HasTokens (word d) rest × ((vs : List Token) → TokensAfter (word d) vs rest → AreOperations vs e.operations)) → IfOk r (λ e. IsEpd e × EpdText e bytes)
-    found_all back (Ok e) h =
+    pub found_all : (HasTokens (word d) rest → HasTokens end_mark bytes) → (e : EpdRecord) → (e.setup ≡ p) × IsEpd e × HasTokens (word d) rest × ((vs : List Token) → TokensAfter (word d) vs rest → AreOperations vs e.operations) → IsEpd e × EpdText e bytes
+    found_all back e h =
         let whole = back h.2 in
         let f = next whole.0 whole.1 in
         (h.1, text_found e bytes a b c d whole.0 f.others p whole.1 f.is spells h.0 (h.3 f.others f.after))
-    found_all back (Err x) h = tt
 
-    pub refused_all : (r : Result EpdRecord EpdError) → IfErr r (λ x. (vs : List Token) → TokensAfter (word d) vs rest → IsRefused x vs) → IfErr r (λ x. (ts : List Token) → Tokens ts bytes → IsFirstDueEpd x bytes)
-    refused_all (Ok e) h = tt
-    refused_all (Err x) h = λ ts tokens.
+    pub refused_all : (x : EpdError) → ((vs : List Token) → TokensAfter (word d) vs rest → IsRefused x vs) → (ts : List Token) → Tokens ts bytes → IsFirstDueEpd x bytes
+    refused_all x h ts tokens =
         let f = next ts tokens in
         refused_first bytes a b c d f.others (subst (λ w. Tokens w bytes) f.is tokens) p lawful spells x (h f.others f.after)

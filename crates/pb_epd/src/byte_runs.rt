@@ -4,11 +4,34 @@ ghost use Rattle.std.specs.Prelude.{◌≡◌, ◌↔◌, ◌<◌, IsTrue};
 ghost use Rattle.pb_epd.specs.Token.{IsWordByte, IsTextByte};
 ghost use Rattle.pb_epd.specs.Run.{IsRun};
 
+/// For each byte whether it may stand in a word. Lines are long, so a byte is told by one look-up.
+static WORD_BYTES: [bool; 256] = [
+    false, false, false, false, false, false, false, false, false, false, false, false, false,
+    false, false, false, false, false, false, false, false, false, false, false, false, false,
+    false, false, false, false, false, false, false, true, false, true, true, true, true, true,
+    true, true, true, true, true, true, true, true, true, true, true, true, true, true, true, true,
+    true, true, true, false, true, true, true, true, true, true, true, true, true, true, true,
+    true, true, true, true, true, true, true, true, true, true, true, true, true, true, true, true,
+    true, true, true, true, true, true, true, true, true, true, true, true, true, true, true, true,
+    true, true, true, true, true, true, true, true, true, true, true, true, true, true, true, true,
+    true, true, true, true, true, true, true, true, false, false, false, false, false, false,
+    false, false, false, false, false, false, false, false, false, false, false, false, false,
+    false, false, false, false, false, false, false, false, false, false, false, false, false,
+    false, false, false, false, false, false, false, false, false, false, false, false, false,
+    false, false, false, false, false, false, false, false, false, false, false, false, false,
+    false, false, false, false, false, false, false, false, false, false, false, false, false,
+    false, false, false, false, false, false, false, false, false, false, false, false, false,
+    false, false, false, false, false, false, false, false, false, false, false, false, false,
+    false, false, false, false, false, false, false, false, false, false, false, false, false,
+    false, false, false, false, false, false, false, false, false, false, false, false, false,
+    false, false, false, false, false, false,
+];
+
 /// Whether the byte may stand in a word.
 fn is_word_byte(byte: u8) -> bool
     ensures { IsTrue result ↔ IsWordByte byte }
 {
-    (33..=126).contains(&byte) && byte != b';' && byte != b'"'
+    WORD_BYTES[byte as usize]
 }
 
 /// Whether the byte may stand in a text.
@@ -22,19 +45,25 @@ fn is_text_byte(byte: u8) -> bool
 pub(crate) fn space_run(text: &[u8]) -> usize
     ensures { IsRun (λ b. b ≡ 32) text.now result }
 {
-    text.iter().take_while(|byte| **byte == b' ').count()
+    text.iter()
+        .position(|byte| *byte != b' ')
+        .unwrap_or(text.len())
 }
 
 /// How many bytes of a word begin the text.
 pub(crate) fn word_run(text: &[u8]) -> usize
     ensures { IsRun IsWordByte text.now result }
 {
-    text.iter().take_while(|byte| is_word_byte(**byte)).count()
+    text.iter()
+        .position(|byte| !is_word_byte(*byte))
+        .unwrap_or(text.len())
 }
 
 /// How many bytes of a quoted text begin the text.
 pub(crate) fn text_run(text: &[u8]) -> usize
     ensures { IsRun IsTextByte text.now result }
 {
-    text.iter().take_while(|byte| is_text_byte(**byte)).count()
+    text.iter()
+        .position(|byte| !is_text_byte(*byte))
+        .unwrap_or(text.len())
 }

@@ -5,10 +5,11 @@ ghost use Rattle.std.specs.Prelude.{length, map, IfOk, IfErr, IfSome, MatchOptio
 ghost use Rattle.std.specs.Prelude.{OnErr, OnOk};
 ghost use Rattle.pb_epd.specs.Token.{Token, word, end_mark, Tokens, TokensAfter};
 ghost use Rattle.pb_epd.specs.Lexeme.{IsOperandToken, token_of};
-ghost use Rattle.pb_epd.specs.Epd.{EpdRecord, IsEpd, EpdText};
+ghost use Rattle.pb_board.specs.Text.{setup_fields};
+ghost use Rattle.pb_epd.specs.Epd.{EpdRecord, IsEpd, EpdText, epd_form};
 ghost use Rattle.pb_epd.specs.Operation.{IsOpcode, IsOperand, IsOperation, operand_token};
 ghost use Rattle.pb_epd.specs.Refusal.{IsFirstDueEpd, IsFourWords, IsNamed};
-ghost use Rattle.pb_epd.specs.Reading.{HasTokens, EndsSoundly, Follow, FourFollow};
+ghost use Rattle.pb_epd.specs.Reading.{HasTokens, EndsSoundly, Follow, FourFollow, four_of};
 ghost use Rattle.pb_epd.specs.Reading.{EndsWithOperands, AreOperands, IsTaken, IsSound};
 ghost use Rattle.pb_epd.specs.Reading.{AreOperations, IsRefused, StandsWith};
 ghost use Rattle.pb_epd.specs.declared.refusal.EpdError.TheVariants as epd;
@@ -18,6 +19,7 @@ use crate::operand::{Operand, OperandBytes};
 use crate::operation::is_opcode;
 use crate::refusal::{EpdError, PutError};
 use crate::token::{Lexeme, Step, first_bad, next_token};
+use crate::write::write_with_words;
 use pb_board::{Setup, read_setup};
 use std::alloc::{AllocError, Global};
 
@@ -55,6 +57,13 @@ pub(crate) struct SoFar {
     pub(crate) epd: Epd,
     pub(crate) count: usize,
     pub(crate) repeated: Option<usize>,
+}
+
+/// A line that was read: the four words that it begins with, and the record that it spells.
+#[derive(Drop)]
+pub(crate) struct Line<'a> {
+    pub(crate) words: FourWords<'a>,
+    pub(crate) epd: Epd,
 }
 
 /// The word that comes next, and what follows it.
@@ -252,25 +261,46 @@ fn read_operations(
     }
 }
 
-/// The record that the text spells, or a refusal, which is the first that is due unless a token is
-/// bad.
-fn read_tokens(alloc: Global, text: &[u8]) -> Result<Epd, EpdError>
-    ensures found { IfOk result (λ e. IsEpd e × EpdText e text.now) }
+/// What the text spells, or a refusal, which is the first that is due unless a token is bad.
+fn read_tokens(alloc: Global, text: &[u8]) -> Result<Line<'_>, EpdError>
+    ensures found { IfOk result (λ l. IsEpd l.epd × EpdText l.epd text.now) }
+    ensures words { IfOk result (λ l. four_of l.words ≡ setup_fields l.epd.setup) }
     ensures refused { IfErr result (λ x. (ts : List Token) → Tokens ts text.now
         → IsFirstDueEpd x text.now) }
     ensures memory { IfErr result (λ x. x ≡ epd.Memory → ¬ IsFourWords text.now) }
 {
-    let Some(fields) = four_words(text) else {
+    let Some(words) = four_words(text) else {
         return Err(EpdError::Fields);
     };
-    match read_setup([
-        fields.placement,
-        fields.turn,
-        fields.castling,
-        fields.en_passant,
+    let setup = match read_setup([
+        words.placement,
+        words.turn,
+        words.castling,
+        words.en_passant,
     ]) {
-        Ok(setup) => read_operations(alloc, setup, Lexeme::Word(fields.en_passant), fields.rest),
-        Err(error) => Err(EpdError::Setup(error)),
+        Ok(setup) => setup,
+        Err(error) => return Err(EpdError::Setup(error)),
+    };
+    match read_operations(alloc, setup, Lexeme::Word(words.en_passant), words.rest) {
+        Ok(epd) => Ok(Line { words, epd }),
+        Err(error) => Err(error),
+    }
+}
+
+/// What the text spells, or the first refusal that is due.
+fn read_line(alloc: Global, text: &[u8]) -> Result<Line<'_>, EpdError>
+    ensures found { IfOk result (λ l. IsEpd l.epd × EpdText l.epd text.now) }
+    ensures words { IfOk result (λ l. four_of l.words ≡ setup_fields l.epd.setup) }
+    ensures refused { IfErr result (λ x. IsFirstDueEpd x text.now) }
+    ensures memory { IfErr result (λ x. x ≡ epd.Memory → ¬ IsFourWords text.now) }
+{
+    // Bad tokens are looked for only in a text that is refused.
+    match read_tokens(alloc, text) {
+        Ok(line) => Ok(line),
+        Err(error) => match first_bad(text) {
+            Some(at) => Err(EpdError::Token(at)),
+            None => Err(error),
+        },
     }
 }
 
@@ -292,12 +322,34 @@ pub fn read_epd(alloc: Global, text: &[u8]) -> Result<Epd, EpdError>
     // Four words alone take no memory.
     ensures memory { IfErr result (λ x. x ≡ epd.Memory → ¬ IsFourWords text.now) }
 {
-    // Bad tokens are looked for only in a text that is refused.
-    match read_tokens(alloc, text) {
-        Ok(epd) => Ok(epd),
-        Err(error) => match first_bad(text) {
-            Some(at) => Err(EpdError::Token(at)),
-            None => Err(error),
-        },
+    match read_line(alloc, text) {
+        Ok(line) => Ok(line.epd),
+        Err(error) => Err(error),
+    }
+}
+
+/// The ordered form of the record that the text spells: what `read_epd` and then `write_epd` give.
+///
+/// # Errors
+///
+/// The refusals of `read_epd`, and want of memory for the form.
+pub fn form_of(alloc: Global, text: &[u8]) -> Result<Vec<u8>, EpdError>
+    // The text spells a record, and its form is answered.
+    ensures found { IfOk result (λ v. (e : EpdRecord) × IsEpd e × EpdText e text.now
+        × (v.items ≡ epd_form e)) }
+    // The form of a record is answered for its text, where memory suffices.
+    ensures only { (e : EpdRecord) → IsEpd e → EpdText e text.now
+        → MatchResult result (λ v. v.items ≡ epd_form e) (λ x. x ≡ epd.Memory) }
+    // A refusal is the first whose condition holds.
+    ensures refused { IfErr result (λ x. IsFirstDueEpd x text.now) }
+{
+    let line = match read_line(alloc, text) {
+        Ok(line) => line,
+        Err(error) => return Err(error),
+    };
+    // The words stand in the form as they were read.
+    match write_with_words(alloc, text.len(), &line.words, &line.epd) {
+        Ok(form) => Ok(form),
+        Err(_) => Err(EpdError::Memory),
     }
 }

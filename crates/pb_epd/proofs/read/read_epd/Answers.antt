@@ -1,23 +1,9 @@
-use Rattle.std.proofs.Common.{Ok, Err, rules}
-use Rattle.pb_epd.specs.declared.refusal.EpdError.TheVariants as epd
+use Rattle.std.proofs.Common.{Ok, Err}
 use Rattle.pb_epd.proofs.Forms.{only_record}
-use Rattle.pb_epd.proofs.Texts.{token_first}
 use Rattle.pb_epd.proofs.read.read_epd.Goals as goal
 
 pub returns-in-Ok-clause-only : goal.returns-in-Ok-clause-only
-returns-in-Ok-clause-only c = only_record _ (Ok c.in-Ok.epd) c.in-Ok.ensures.found tt
+returns-in-Ok-clause-only c = only_record _ (Ok c.in-Ok.line.epd) c.in-Ok.ensures.found tt
 
-pub returns-in-Ok-clause-memory : goal.returns-in-Ok-clause-memory
-returns-in-Ok-clause-memory c = search rules
-
-pub returns-in-Some-clause-refused : goal.returns-in-Some-clause-refused
-returns-in-Some-clause-refused c = token_first _ _ c.in-Some.ensures
-
-pub returns-in-Some-clause-only : goal.returns-in-Some-clause-only
-returns-in-Some-clause-only c = only_record _ (Err (epd.Token c.in-Some.at)) tt (returns-in-Some-clause-refused c)
-
-pub returns-in-None-clause-refused : goal.returns-in-None-clause-refused
-returns-in-None-clause-refused c = search rules
-
-pub returns-in-None-clause-only : goal.returns-in-None-clause-only
-returns-in-None-clause-only c = only_record _ (Err c.in-Err.error) tt (returns-in-None-clause-refused c)
+pub returns-in-Err-clause-only : goal.returns-in-Err-clause-only
+returns-in-Err-clause-only c = only_record _ (Err c.in-Err.error) tt c.in-Err.ensures.refused
