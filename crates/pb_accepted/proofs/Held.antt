@@ -1,5 +1,5 @@
 -- What a run holds: submissions within their bounds, and no more than there may be.
-use Rattle.std.proofs.Common.{◌≡◌, ℕ, ◌≤◌, List, [], ◌∷◌, All, length, sym, subst, inl, inr, arith}
+use Rattle.std.proofs.Common.{ℕ, ◌≤◌, List, [], ◌∷◌, All, length, sym, subst, inl, inr, arith}
 use Rattle.std.proofs.lemmas.List.Elements.{All-append, All-cons, All-nil}
 use Rattle.pb_games.specs.Submissions.{IsSubmission, Submission}
 use Rattle.pb_accepted.specs.Accepting.{Answer, Run, Step}

@@ -16,6 +16,7 @@ pub mod Places
 pub mod RefusedTexts
 pub mod Replies
 pub mod Replyings
+pub mod Rowed
 pub mod Runs
 pub mod SomeBooks
 pub mod Steps

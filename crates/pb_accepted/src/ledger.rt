@@ -11,12 +11,14 @@ ghost use Rattle.pb_poly.specs.declared.entry.Entry.{Entry};
 ghost use Rattle.pb_accepted.specs.Accepting.{Step, answer_of, says_new};
 ghost use Rattle.pb_accepted.specs.Replying.{IsNewId, IsNumber};
 ghost use Rattle.pb_accepted.specs.Arriving.{IsArrival};
-ghost use Rattle.pb_accepted.specs.Counting.{IsBook, counted as counted_by, stretch};
-ghost use Rattle.pb_accepted.specs.Holding.{IsLedger, Tallies, most_games, with_ply_points};
+ghost use Rattle.pb_accepted.specs.Counting.{IsBook, count, counted as counted_by, stretch, times};
+ghost use Rattle.pb_accepted.specs.Holding.{IsLedger, lost as lost_of, most_games, rowed};
+ghost use Rattle.pb_accepted.specs.Holding.{with_ply_points};
 ghost use Rattle.pb_accepted.specs.Noting.{HasNoted};
 ghost use Rattle.pb_accepted.specs.Rules.{AreRules, all_plies};
 
-use crate::ply_points::{add_ply_points, counted, ensure_rows};
+use crate::lost_ply::{LostPly, lost_times};
+use crate::ply_points::{add_ply_points, counted, make_room};
 use crate::recorder::Recorder;
 use crate::reply::first_field;
 use crate::rules::Rules;
@@ -58,6 +60,9 @@ pub struct Ledger<T: Tally> {
     cap: u32,
     games: IndexMap<Id, Game>,
     tally: T,
+    // A third of all plies are of a side that lost. Where one occurrence is enough for an entry, no
+    // book asks for them: so they take few bytes, and are put in no order.
+    lost: Vec<LostPly>,
     // It has the table.
     recorder: Recorder,
     rules: Rules,
@@ -75,7 +80,7 @@ impl<T: Tally> Model for Ledger<T> {
       accepted = a.games.entries;
     } };
 
-    ghost invariant = { λ a. HoldsCounts (T.content a.tally)
+    ghost invariant = { λ a. HoldsCounts (T.content a.tally) a.lost.items
         (record {
           basis = record { words = a.recorder.table; rules = a.rules };
           cap = a.cap;
@@ -129,6 +134,7 @@ impl<T: Tally> Ledger<T> {
             cap,
             games: IndexMap::new(alloc),
             tally: T::new(alloc),
+            lost: Vec::new(alloc),
             recorder: Recorder::new(alloc, table)?,
             rules,
         })
@@ -227,6 +233,7 @@ impl<T: Tally> Ledger<T> {
             self.alloc,
             &mut self.games,
             &mut self.tally,
+            &mut self.lost,
             &self.recorder,
             rules,
             &read,
@@ -268,12 +275,18 @@ impl<T: Tally> Ledger<T> {
         self.rules
     }
 
-    /// The points of the moves and how often each occurs, of the plies that count.
-    pub fn tally(&self) -> &T
-        ensures { Tallies (T.content result.now)
-            (counted_by self.now.basis self.now.accepted) }
+    /// The points of a move under a key, of the plies that count.
+    pub fn points(&self, key: u64, code: u16) -> u64
+        ensures { result ≡ count (counted_by self.now.basis self.now.accepted) key code }
     {
-        &self.tally
+        self.tally.points(key, code)
+    }
+
+    /// How often a move occurs under a key, among the plies that count.
+    pub fn times(&self, key: u64, code: u16) -> u64
+        ensures { result ≡ times (counted_by self.now.basis self.now.accepted) key code }
+    {
+        self.tally.times(key, code) + lost_times(&self.lost, key, code)
     }
 
     /// Adds a stretch of the opening book of the games that are held to the entries. The stretch
@@ -320,11 +333,12 @@ impl<T: Tally> Ledger<T> {
 }
 
 /// Adds the game of the line that was judged last, under its new id. The insert is the last step
-/// that may fail, and only then its plies that count are added to the tally.
+/// that may fail, and only then its plies that count are added to the tally and beside it.
 fn accept<T: Tally>(
     alloc: Global,
     games: &mut IndexMap<Id, Game>,
     tally: &mut T,
+    lost: &mut Vec<LostPly>,
     recorder: &Recorder,
     rules: Rules,
     read: &Line<'_>,
@@ -336,17 +350,22 @@ fn accept<T: Tally>(
     requires times_fit { (k c : ℕ) → (held (T.content tally.old) k c).times
         + length read.now.1.moves ≤ 2 ^ 63 }
     ensures game { OnOk result (games.new.entries ≡ games.old.entries ++ read.now ∷ []) }
-    ensures added { OnOk result ((k c : ℕ) → held (T.content tally.new) k c
-        ≡ with_ply_points (counted_by (record { words = recorder.now.table; rules = rules })
-        (read.now ∷ [])) k c (held (T.content tally.old) k c)) }
+    ensures rows { OnOk result ((k c : ℕ) → held (T.content tally.new) k c
+        ≡ with_ply_points (rowed rules.least (counted_by
+        (record { words = recorder.now.table; rules = rules }) (read.now ∷ []))) k c
+        (held (T.content tally.old) k c)) }
+    ensures lost { OnOk result (lost.new.items ≡ lost.old.items ++ lost_of rules.least (counted_by
+        (record { words = recorder.now.table; rules = rules }) (read.now ∷ []))) }
     ensures same_games { OnErr result (games.new.entries ≡ games.old.entries) }
     ensures same_points { OnErr result ((k c : ℕ)
         → held (T.content tally.new) k c ≡ held (T.content tally.old) k c) }
+    ensures same_lost { OnErr result (lost.new.items ≡ lost.old.items) }
 {
     let game = recorder.game(alloc, read)?;
     let ply_points = counted(recorder.ply_points(), rules);
-    ensure_rows(tally, ply_points)?;
+    let least = rules.least();
+    make_room(tally, lost, ply_points, least)?;
     games.insert(read.id(), game)?;
-    add_ply_points(tally, ply_points);
+    add_ply_points(tally, lost, ply_points, least);
     Ok(())
 }

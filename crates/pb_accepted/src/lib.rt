@@ -5,6 +5,7 @@
 
 pub mod laws;
 mod ledger;
+mod lost_ply;
 mod ply_log;
 mod ply_points;
 mod recorder;

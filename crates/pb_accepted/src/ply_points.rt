@@ -1,10 +1,12 @@
 //! What the plies of a game give to the points of moves.
 
-ghost use Rattle.std.specs.Prelude.{◌≡◌, ◌≤◌, ◌+◌, ◌*◌, ◌^◌, ℕ, IsSome, OnOk, All, length, take};
+ghost use Rattle.std.specs.Prelude.{◌≡◌, ◌≤◌, ◌+◌, ◌++◌, ◌*◌, ◌^◌, ℕ, IsSome, OnOk, All, length};
+ghost use Rattle.std.specs.Prelude.{false, take, vec_capacity, vec_len};
 ghost use Rattle.pb_points.specs.Tally.{held};
 ghost use Rattle.pb_accepted.specs.Counting.{points_for as points_for_by};
-ghost use Rattle.pb_accepted.specs.Holding.{with_ply_points};
+ghost use Rattle.pb_accepted.specs.Holding.{is_lost, lost as lost_of, rowed, with_ply_points};
 
+use crate::lost_ply::LostPly;
 use crate::rules::Rules;
 use pb_board::Colour;
 use pb_games::Outcome;
@@ -41,33 +43,65 @@ pub(crate) fn counted(ply_points: &[PlyPoints], rules: Rules) -> &[PlyPoints]
     &ply_points[..ply_points.len().min(rules.plies() as usize)]
 }
 
-/// Makes a row for each ply. No points change.
-pub(crate) fn ensure_rows<T: Tally>(
-    tally: &mut T,
-    ply_points: &[PlyPoints],
-) -> Result<(), AllocError>
-    ensures same { (k c : ℕ) → held (T.content tally.new) k c ≡ held (T.content tally.old) k c }
-    ensures rows { OnOk result (All (λ r. IsSome (T.content tally.new r.key r.code))
-        ply_points.now) }
+/// Tells whether a ply stands beside the tally, where a move has to occur so often to have an entry.
+#[inline(always)]
+fn is_lost(given: &PlyPoints, least: u32) -> bool
+    ensures { result ≡ is_lost least given.now }
 {
-    for given in ply_points {
-        tally.ensure(given.key, given.code)?;
-    }
-    Ok(())
+    least == 1 && given.points == 0
 }
 
-/// Adds each ply with its points.
-pub(crate) fn add_ply_points<T: Tally>(tally: &mut T, ply_points: &[PlyPoints])
-    requires rows { All (λ r. IsSome (T.content tally.old r.key r.code)) ply_points.now }
+/// Makes a row for each ply that has one, and room for the others beside the tally. No points
+/// change.
+pub(crate) fn make_room<T: Tally>(
+    tally: &mut T,
+    lost: &mut Vec<LostPly>,
+    ply_points: &[PlyPoints],
+    least: u32,
+) -> Result<(), AllocError>
+    ensures same { (k c : ℕ) → held (T.content tally.new) k c ≡ held (T.content tally.old) k c }
+    ensures same_lost { lost.new.items ≡ lost.old.items }
+    ensures rows { OnOk result (All (λ r. is_lost least r ≡ false
+        → IsSome (T.content tally.new r.key r.code)) ply_points.now) }
+    ensures room { OnOk result (vec_len lost.new + length (lost_of least ply_points.now)
+        ≤ vec_capacity lost.new) }
+{
+    let mut count = 0;
+    for given in ply_points {
+        if is_lost(given, least) {
+            count += 1;
+        } else {
+            tally.ensure(given.key, given.code)?;
+        }
+    }
+    lost.reserve(count)
+}
+
+/// Adds each ply with its points to the tally, or puts it into the list beside it.
+pub(crate) fn add_ply_points<T: Tally>(
+    tally: &mut T,
+    lost: &mut Vec<LostPly>,
+    ply_points: &[PlyPoints],
+    least: u32,
+)
+    requires rows { All (λ r. is_lost least r ≡ false → IsSome (T.content tally.old r.key r.code))
+        ply_points.now }
+    requires room { vec_len lost.old + length (lost_of least ply_points.now)
+        ≤ vec_capacity lost.old }
     requires small { All (λ r. r.points ≤ 2) ply_points.now }
     requires points_fit { (k c : ℕ) → (held (T.content tally.old) k c).points
         + 2 * length ply_points.now ≤ 2 ^ 63 }
     requires times_fit { (k c : ℕ) → (held (T.content tally.old) k c).times + length ply_points.now
         ≤ 2 ^ 63 }
-    ensures { (k c : ℕ) → held (T.content tally.new) k c
-        ≡ with_ply_points ply_points.now k c (held (T.content tally.old) k c) }
+    ensures rows { (k c : ℕ) → held (T.content tally.new) k c
+        ≡ with_ply_points (rowed least ply_points.now) k c (held (T.content tally.old) k c) }
+    ensures lost { lost.new.items ≡ lost.old.items ++ lost_of least ply_points.now }
 {
     for given in ply_points {
-        tally.add(given.key, given.code, u64::from(given.points));
+        if is_lost(given, least) {
+            lost.push_reserved(LostPly::of(given));
+        } else {
+            tally.add(given.key, given.code, u64::from(given.points));
+        }
     }
 }

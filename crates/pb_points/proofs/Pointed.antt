@@ -89,7 +89,7 @@ fit_pointed rows fit = record {
 
 -- ---- the book
 
-scaled_some : (n M : ℕ) → 1 ≤ scaled n M → 1 ≤ n
+pub scaled_some : (n M : ℕ) → 1 ≤ scaled n M → 1 ≤ n
 scaled_some zero M h = absurd (by (nat_le M 65535) refl)
   where
     by : (b : Bool) → nat_le M 65535 ≡ b → ⊥

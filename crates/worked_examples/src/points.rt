@@ -27,8 +27,8 @@ pub(crate) fn answer(page: &mut Page, call: &[&str]) -> Done {
     }
 }
 
-/// Whether each tally has the points and the plies of the games that are held after these lines,
-/// and no others.
+/// Whether the ledger over each tally tells the points and the occurrences of the games that are
+/// held after these lines.
 fn tell_recount(page: &mut Page, ends: &str, lines: &[&str]) -> Done {
     page.put_count("by map ", &recount::<MapTally>(page.alloc, ends, lines)?);
     page.put_count(
@@ -113,23 +113,17 @@ fn total_of(rows: &[Row], key: u64, code: u16) -> Row {
     total
 }
 
-/// Whether the tally has the points and the plies of the games that are held after these lines, and
-/// no others.
+/// Whether the ledger tells the points and the occurrences of the games that are held after these
+/// lines.
 fn recount<T: Tally>(alloc: Global, ends: &str, lines: &[&str]) -> Result<bool, Trouble> {
     let ledger = ledger_with::<T>(alloc, ends, lines)?;
     let rows = rows_of(alloc, &ledger)?;
     for row in &rows {
         let total = total_of(rows.as_slice(), row.key, row.code);
-        let tally = ledger.tally();
-        if tally.points(row.key, row.code) != total.points {
+        if ledger.points(row.key, row.code) != total.points {
             return Ok(false);
         }
-        if tally.times(row.key, row.code) != total.times {
-            return Ok(false);
-        }
-    }
-    for row in &ledger.tally().rows(alloc)? {
-        if *row != total_of(rows.as_slice(), row.key, row.code) {
+        if ledger.times(row.key, row.code) != total.times {
             return Ok(false);
         }
     }

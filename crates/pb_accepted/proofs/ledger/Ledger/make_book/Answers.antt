@@ -6,8 +6,10 @@ use Rattle.pb_poly.proofs.EntryBytes.{none_falls}
 use Rattle.pb_points.proofs.Groups.{NeverFall-ordered, ok_unless}
 use Rattle.pb_accepted.specs.Basis.{Basis}
 use Rattle.pb_accepted.specs.Counting.{IsBook, counted}
+use Rattle.pb_accepted.specs.Holding.{rowed}
 use Rattle.pb_accepted.proofs.Books.{IsBook-rows}
 use Rattle.pb_accepted.proofs.Frequent.{frequent_rows}
+use Rattle.pb_accepted.proofs.Rowed.{rowed_book}
 use Rattle.pb_accepted.proofs.ledger.Ledger.make_book.Goals as goal
 
 pub unwrap-requires : goal.unwrap-requires
@@ -35,4 +37,5 @@ returns-clause-book g c =
     ) in
     rw (← c.self.view_is)
     (subst (IsBook (counted T games) T.rules.least) (sym (made ∙ are))
-    (IsBook-rows (counted T games) T.rules.least (g.T.Tally.content inside.tally) (frequent inside.rules.least adds.rows) c.self.invariant.rules.counting.least.0 c.self.invariant.counts each adds.book book))
+    (rowed_book (counted T games) T.rules.least adds.book
+    (IsBook-rows (rowed T.rules.least (counted T games)) T.rules.least (g.T.Tally.content inside.tally) (frequent inside.rules.least adds.rows) c.self.invariant.rules.counting.least.0 c.self.invariant.counts each adds.book book)))

@@ -5,7 +5,7 @@ use Rattle.pb_points.specs.Tally.{held}
 use Rattle.pb_accepted.specs.Replying.{IsNewId}
 use Rattle.pb_accepted.specs.Accepting as steps
 use Rattle.pb_accepted.specs.Counting.{counted}
-use Rattle.pb_accepted.specs.Holding.{HoldsCounts, with_ply_points}
+use Rattle.pb_accepted.specs.Holding.{HoldsCounts, lost, rowed, with_ply_points}
 use Rattle.pb_accepted.specs.Ledger.{LedgerState}
 use Rattle.pb_accepted.proofs.Arrivals.{submitted}
 use Rattle.pb_accepted.proofs.Counts.{Holds-push, points_fit, times_fit}
@@ -37,14 +37,14 @@ accept-requires-clause-points_fit g c =
     let inside = c.self.inside in
     let l : LedgerState = record { basis = record { words = inside.recorder.table; rules = inside.rules }; cap = inside.cap; accepted = inside.games.entries } in
     let read = c.in_ok-read.read in
-    points_fit (g.T.Tally.content inside.tally) l read c.self.invariant (submitted c.args.line.now read c.in_ok-read.ensures.found)
+    points_fit (g.T.Tally.content inside.tally) inside.lost.items l read c.self.invariant (submitted c.args.line.now read c.in_ok-read.ensures.found)
 
 pub accept-requires-clause-times_fit : goal.accept-requires-clause-times_fit
 accept-requires-clause-times_fit g c =
     let inside = c.self.inside in
     let l : LedgerState = record { basis = record { words = inside.recorder.table; rules = inside.rules }; cap = inside.cap; accepted = inside.games.entries } in
     let read = c.in_ok-read.read in
-    times_fit (g.T.Tally.content inside.tally) l read c.self.invariant (submitted c.args.line.now read c.in_ok-read.ensures.found)
+    times_fit (g.T.Tally.content inside.tally) inside.lost.items l read c.self.invariant (submitted c.args.line.now read c.in_ok-read.ensures.found)
 
 pub invariant_of-self-in-Ok : goal.invariant_of-self-in-Ok
 invariant_of-self-in-Ok g c =
@@ -59,10 +59,11 @@ invariant_of-self-in-Ok g c =
     let fresh = subst (IsNewId read.0) (sym holds) (c.requires read lawful) in
     let room : length A < inside.cap = omega (arith, c.if-len-self.false, c.len.ensures.len, c.self.invariant.rules.room) in
     let table = c.in_ok-read.ensures.table in
-    let added = subst (λ w. (k d : ℕ) → held h k d ≡ with_ply_points (counted (record { words = w; rules = inside.rules }) (read ∷ [])) k d (held f k d)) table c.in-Ok.ensures.added in
-    let pushed = Holds-push f h l read c.self.invariant (submitted c.args.line.now read lawful) fresh room added in
-    subst (λ w. HoldsCounts h (record { basis = record { words = w; rules = inside.rules }; cap = inside.cap; accepted = c.accept.new.games.entries })) (sym table)
-    (subst (λ X. HoldsCounts h (record { basis = l.basis; cap = inside.cap; accepted = X })) (sym c.in-Ok.ensures.game) pushed)
+    let rows = subst (λ w. (k d : ℕ) → held h k d ≡ with_ply_points (rowed inside.rules.least (counted (record { words = w; rules = inside.rules }) (read ∷ []))) k d (held f k d)) table c.in-Ok.ensures.rows in
+    let beside = subst (λ w. c.accept.new.lost.items ≡ inside.lost.items ++ lost inside.rules.least (counted (record { words = w; rules = inside.rules }) (read ∷ []))) table c.in-Ok.ensures.lost in
+    let pushed = Holds-push f h inside.lost.items c.accept.new.lost.items l read c.self.invariant (submitted c.args.line.now read lawful) fresh room rows beside in
+    subst (λ w. HoldsCounts h c.accept.new.lost.items (record { basis = record { words = w; rules = inside.rules }; cap = inside.cap; accepted = c.accept.new.games.entries })) (sym table)
+    (subst (λ X. HoldsCounts h c.accept.new.lost.items (record { basis = l.basis; cap = inside.cap; accepted = X })) (sym c.in-Ok.ensures.game) pushed)
 
 pub returns-in-Ok-clause-step : goal.returns-in-Ok-clause-step
 returns-in-Ok-clause-step g c =
