@@ -1,6 +1,6 @@
 -- The line of a setup's moves, as it is written from its parts.
-use Rattle.std.proofs.Common.{◌≡◌, ℕ, ◌+◌, ◌<◌, List, [], ◌∷◌, ◌++◌, append_assoc, append-nil, decimal, get_or, length, take, sym, ap, ◌∙◌}
-use Rattle.std.specs.Prelude.{codes, flat_map}
+use Rattle.std.proofs.Common.{◌≡◌, ℕ, ◌+◌, ◌<◌, List, [], ◌∷◌, ◌++◌, Err, Ok, Result, append_assoc, append-nil, decimal, get_or, length, take, sym, ap, ◌∙◌}
+use Rattle.std.specs.Prelude.{OnOk, codes, flat_map, is_ok, if◌then◌else◌}
 use Rattle.std.proofs.lemmas.List.{flat_map_more, take_more}
 use Rattle.pb_board.specs.Text.{setup_text}
 use Rattle.pb_board.specs.Position.{Position}
@@ -45,3 +45,9 @@ line_written s fields moves =
     ∙ operation_put fields (codes "bkm") operands
     ∙ ap (λ w. fields ++ w) (sym (append-nil (32 ∷ operation_text (codes "bkm", operands))))
     )
+
+-- ---- parts that are written at once
+
+pub extended : {T E : Type 0} (r : Result T E) (old more new : List ℕ) → new ≡ (if is_ok r then old ++ more else old) → OnOk r (new ≡ old ++ more)
+extended (Ok v) old more new h = h
+extended (Err e) old more new h = tt

@@ -1,19 +1,23 @@
 -- Listed setups in the order of their texts, each once.
-use Rattle.std.proofs.Common.{◌≡◌, ℕ, ◌<◌, ◌==◌, Bool, true, false, ◌&&◌, List, [], ◌∷◌, arith, cond, eqb-true, get_or, length, ltb, ltb-true, refl, sym, subst, ◌∙◌}
+use Rattle.std.proofs.Common.{◌≡◌, ℕ, ◌<◌, ◌==◌, Bool, true, false, ◌&&◌, List, [], ◌∷◌, ap, arith, cond, eqb-true, get_or, length, ltb, ltb-true, refl, sym, subst, ◌∙◌}
 use Rattle.std.specs.Prelude.{AllPairs, Contains, IsPermutation}
 use Rattle.std.specs.declared.cmp.Ordering.{Ordering}
 use Rattle.std.specs.declared.cmp.Ordering.TheVariants.{Less, Equal, Greater}
 use Rattle.std.specs.Cmp.{IsEquivalence, IsTotalOrder, nat_cmp_total, nat_eq_equiv, on_equiv, on_total, unsigned_ties}
-use Rattle.std.specs.Ordering.{is_eq, nat_cmp, ordering_then}
+use Rattle.std.specs.Ordering.{is_eq, is_lt, nat_cmp, ordering_then}
 use Rattle.std.specs.Prelude.{nat_eq}
 use Rattle.std.specs.Cmp.Lexicographic.{on_texts, on_texts_equal, pointwise, slice_cmp, texts_ties}
 use Rattle.std.specs.List.{AllByRecursion, dedup}
-use Rattle.std.specs.List.Sorted.{IsSorted, IsStrictlySortedBy}
+use Rattle.std.specs.Fn.{Called}
+use Rattle.std.specs.List.Sorted.{IsSorted, IsSortedByClosure, IsStrictlySortedBy}
 use Rattle.std.proofs.lemmas.Cmp.{and_equiv, then_total}
 use Rattle.std.proofs.lemmas.List.Elements.{All-cons, All-nil}
 use Rattle.std.proofs.lemmas.List.Kept.{Any-dedup, Contains-from_dedup, IsStrictlySortedBy-dedup}
-use Rattle.std.proofs.lemmas.List.Sorted.{Contains-permutation, IsPermutation-sym}
+use Rattle.std.proofs.lemmas.Fn.{always_returns_same}
+use Rattle.std.proofs.lemmas.List.Sorted.{Contains-permutation, IsPermutation-sym, ranks_by}
 use Rattle.std.proofs.lemmas.Map.Lookups.{exact_bytes}
+use denote.Param.Members.{Mut}
+use denote.Ref.{Bor}
 use Rattle.pb_board.specs.Text.{setup_text}
 use Rattle.pb_epd.specs.ByteOrder.{IsBytesBelow}
 use Rattle.pb_epd.proofs.Lists.{pairs_cons, pairs_none}
@@ -90,6 +94,12 @@ in_text_order : (xs : List ListedSetup) → IsStrictlySortedBy order xs → AllP
 unfolding IsStrictlySortedBy
 in_text_order [] h = pairs_none TextBelow
 in_text_order (x ∷ xs) h = pairs_cons TextBelow x xs (each_below x xs h.0) (in_text_order xs h.1)
+
+-- what a sort by this order gives
+pub sorted_by : {F : Type 0} {g : Mut F (Bor ListedSetup × (Bor ListedSetup × Unit {0})) Ordering} {f : F} (xs : List ListedSetup) → IsSortedByClosure g f xs
+    → ((a : Bor ListedSetup × (Bor ListedSetup × Unit {0})) (r : Ordering) (f' : F) → Called g f a r f' → (r ≡ order a.0.now a.1.0.now) × (f' ≡ f)) → IsSorted order xs
+sorted_by {g = g} {f = f} xs sorts h =
+    sorts (λ x y. is_lt (order x y)) (ranks_by order_total (λ x. x)) (always_returns_same g (λ a r. is_lt r ≡ is_lt (order a.0.now a.1.0.now)) f (λ a r f' k. (ap is_lt (h a r f' k).0, (h a r f' k).1)))
 
 module _ (old sorted new : List ListedSetup) (moved : IsPermutation old sorted) (is : new ≡ dedup same sorted) where
   pub sorted_once : IsSorted order sorted → AllPairs TextBelow new

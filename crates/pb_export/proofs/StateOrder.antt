@@ -204,3 +204,8 @@ module _ (p q : Position) (on : IsOnBoard p.ep) (on' : IsOnBoard q.ep) where
             subst (λ (w : List ℕ). IsBytesBelow (turn_text p.turn ++ 32 ∷ rest p) (w ++ 32 ∷ rest q)) (turn_same p.turn q.turn k.0)
             (below_after (turn_text p.turn) (32 ∷ rest p) (32 ∷ rest q) (inr (refl, rest_below k.1)))
       ]
+
+-- the fields with this number, where there is no en passant square
+pub without_square : (side : Colour) (r : Rights) (p : Position) (n : ℕ) → IsOnBoard p.ep → n ≡ state_number p → n ≡ 2048 * turn_number side + 128 * castling_number r
+    → state_text p ≡ turn_text side ++ 32 ∷ (castling_text r ++ 32 ∷ codes "-")
+without_square side r p n on is e = state_same p (record p { turn = side; rights = r; ep = None }) on tt (omega (arith, is, e))

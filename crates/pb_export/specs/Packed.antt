@@ -1,5 +1,5 @@
 -- A setup packed so that its order is that of its text.
-use Rattle.std.specs.Prelude.{◌≡◌, ℕ, ◌+◌, ◌-◌, ◌*◌, ◌<◌, ◌==◌, ◌&&◌, Bool, false, not}
+use Rattle.std.specs.Prelude.{◌≡◌, ℕ, ◌+◌, ◌-◌, ◌*◌, ◌^◌, ◌<◌, ◌==◌, ◌&&◌, Bool, false, not}
 use Rattle.std.specs.Prelude.{List, [], ◌∷◌, IfSome, Option, take, drop, map, slice_index}
 use Rattle.std.specs.Prelude.{slice_index_or, codes, is_none, Some, None, if◌then◌else◌}
 use Rattle.std.specs.Int.{bit_at, from_bool}
@@ -49,6 +49,12 @@ row board r = take 8 (drop (8 * r) board)
 abbrev pub rank_numbers : Board → List ℕ
 rank_numbers board = map (λ r. rank_number (row board r)) (7 ∷ 6 ∷ 5 ∷ 4 ∷ 3 ∷ 2 ∷ 1 ∷ 0 ∷ [])
 
+-- each two of these numbers of 32 bits as one
+abbrev pub pairs_of : List ℕ → List ℕ
+pairs_of [] = []
+pairs_of (n ∷ []) = []
+pairs_of (first ∷ second ∷ ns) = (2 ^ 32 * first + second) ∷ pairs_of ns
+
 -- whether the square beside it, towards the a-file, is empty
 abbrev pub is_after_empty : Board → ℕ → Bool
 is_after_empty board square = not (file square == 0) && is_none (at board (square - 1))
@@ -67,6 +73,22 @@ HasDigits bits board = (square : ℕ) → square < 64
 abbrev pub spread : ℕ → ℕ → ℕ
 spread squares r =
     number_after 0 (map (λ f. bit_at squares (8 * r + f)) (0 ∷ 1 ∷ 2 ∷ 3 ∷ 4 ∷ 5 ∷ 6 ∷ 7 ∷ []))
+
+-- the number of a rank whose digits have these bits
+abbrev pub number_by_bits : DigitBits → ℕ → ℕ
+number_by_bits bits r = spread bits.ones r + 2 * spread bits.twos r + 4 * spread bits.fours r
+    + 8 * spread bits.eights r
+
+-- the numbers of the ranks, from rank 8 to rank 1, whose digits have these bits
+abbrev pub AreNumbers : DigitBits → List ℕ → Type 0
+AreNumbers bits ranks = (i : ℕ) → i < 8 → slice_index ranks i ≡ number_by_bits bits (7 - i)
+
+-- the digits of this square have the same bits
+pub record HaveSameBits (a b : DigitBits) (square : ℕ) : Type 0 where
+  pub ones : bit_at a.ones square ≡ bit_at b.ones square
+  pub twos : bit_at a.twos square ≡ bit_at b.twos square
+  pub fours : bit_at a.fours square ≡ bit_at b.fours square
+  pub eights : bit_at a.eights square ≡ bit_at b.eights square
 
 -- the castling rights in the order of their texts: -, K, KQ, KQk, KQkq, KQq, Kk, Kkq, Kq, Q, Qk,
 -- Qkq, Qq, k, kq and q

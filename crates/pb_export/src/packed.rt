@@ -2,7 +2,10 @@
 
 ghost use Rattle.std.specs.Prelude.{◌≡◌, ◌≤◌, ◌<◌, ◌+◌, ◌++◌, ◌∷◌, ◌&&◌, ℕ, false, is_none, List};
 ghost use Rattle.std.specs.Prelude.{OnOk, Option, length, vec_capacity, vec_len};
+ghost use Rattle.std.specs.Prelude.{◌*◌, ◌^◌, All};
 ghost use Rattle.std.specs.Int.{bit_at, from_bool};
+ghost use Rattle.std.specs.Cmp.Lexicographic.{slice_cmp};
+ghost use Rattle.std.specs.Ordering.{nat_cmp, ordering_then};
 ghost use Rattle.pb_board.specs.Board.{Board, Place, at, is_piece};
 ghost use Rattle.pb_board.specs.Piece.{piece_of};
 ghost use Rattle.pb_board.specs.Position.{Position};
@@ -11,14 +14,16 @@ ghost use Rattle.pb_board.specs.Text.{en_passant_text, piece_letter, rank_text, 
 ghost use Rattle.pb_board.specs.Text.{turn_text};
 ghost use Rattle.pb_board.specs.declared.piece.Colour.{Colour};
 ghost use Rattle.pb_board.specs.declared.piece.Piece.{Piece};
-ghost use Rattle.pb_export.specs.Packed.{HasDigits, IsOnBoard, IsPacked, castling_at};
+ghost use Rattle.pb_export.specs.Packed.{AreNumbers, HasDigits, HaveSameBits, IsOnBoard, IsPacked};
+ghost use Rattle.pb_export.specs.Packed.{castling_at, number_by_bits};
 ghost use Rattle.pb_export.specs.Packed.{castling_number, en_passant_number, is_after_empty};
-ghost use Rattle.pb_export.specs.Packed.{piece_digit, rank_digits, rank_number, rank_numbers, row};
+ghost use Rattle.pb_export.specs.Packed.{pairs_of, piece_digit, rank_digits, rank_number, rank_numbers, row};
 ghost use Rattle.pb_export.specs.Packed.{spread, state_number, state_text, turn_number};
 
 use crate::book_moves::put_word;
 use pb_board::{Colour, Kind, Piece, Rights, Setup, Square};
 use std::alloc::AllocError;
+use std::cmp::Ordering;
 
 /// The digit of an empty square after an empty one.
 const EMPTY_TOO: u32 = 15;
@@ -53,7 +58,7 @@ pub(crate) struct DigitBits {
 }
 
 /// A setup in the byte order of its four fields, in less than half the room of their text.
-#[derive(Clone, Copy, PartialEq, Eq, PartialOrd, Ord)]
+#[derive(Clone, Copy, PartialEq, Eq)]
 pub(crate) struct PackedSetup {
     /// The ranks from rank 8 to rank 1, four bits a square.
     ranks: [u32; 8],
@@ -128,12 +133,11 @@ fn spread(squares: u64, rank: u32) -> u32
     65_536 * SPREAD[(row % 16) as usize] + SPREAD[(row / 16 % 16) as usize]
 }
 
-/// The number of a rank, from 0 for rank 1.
+/// The number of a rank, from 0 for rank 1, whose digits have these bits.
 #[inline(always)]
 fn pack_rank(bits: &DigitBits, rank: u32) -> u32
     requires { rank < 8 }
-    ensures { (b : Board) → length b ≡ 64 → HasDigits bits.now b
-        → result ≡ rank_number (row b rank) }
+    ensures { result ≡ number_by_bits bits.now rank }
 {
     spread(bits.ones, rank)
         + 2 * spread(bits.twos, rank)
@@ -141,21 +145,31 @@ fn pack_rank(bits: &DigitBits, rank: u32) -> u32
         + 8 * spread(bits.eights, rank)
 }
 
-/// The numbers of the ranks, from rank 8 to rank 1.
-fn pack_ranks(setup: &Setup) -> [u32; 8]
-    ensures { result ≡ rank_numbers setup.now.board }
+/// The squares whose digits differ, and no others.
+#[inline(always)]
+fn changed_squares(old: &DigitBits, new: &DigitBits) -> u64
+    ensures { (q : ℕ) → bit_at result q ≡ 0 → HaveSameBits old.now new.now q }
 {
-    let bits = digit_bits_of(setup);
-    [
-        pack_rank(&bits, 7),
-        pack_rank(&bits, 6),
-        pack_rank(&bits, 5),
-        pack_rank(&bits, 4),
-        pack_rank(&bits, 3),
-        pack_rank(&bits, 2),
-        pack_rank(&bits, 1),
-        pack_rank(&bits, 0),
-    ]
+    (old.ones ^ new.ones)
+        | (old.twos ^ new.twos)
+        | (old.fours ^ new.fours)
+        | (old.eights ^ new.eights)
+}
+
+/// The numbers of the ranks whose digits have the new bits, made of those for the old bits.
+#[inline(always)]
+fn packed_anew(mut ranks: [u32; 8], old: &DigitBits, new: &DigitBits) -> [u32; 8]
+    requires { AreNumbers old.now ranks }
+    ensures { AreNumbers new.now result }
+{
+    let changed = changed_squares(old, new);
+    for row in 0..8 {
+        let rank = 7 - row;
+        if (changed >> (8 * rank)) % 256 != 0 {
+            ranks[row as usize] = pack_rank(new, rank);
+        }
+    }
+    ranks
 }
 
 /// The number of the castling rights in the order of their texts.
@@ -231,6 +245,22 @@ fn put_state(line: &mut Vec<u8>, state: u16) -> Result<(), AllocError>
     ensures { OnOk result ((s : Position) → IsOnBoard s.ep → state ≡ state_number s
         → line.new.items ≡ line.old.items ++ 32 ∷ state_text s) }
 {
+    // Most setups have no en passant square, and either all castling rights or none. A text whose
+    // length is known is written without a call of `memcpy`.
+    match state {
+        0 => line.extend_from_slice(b" b - -"),
+        512 => line.extend_from_slice(b" b KQkq -"),
+        2_048 => line.extend_from_slice(b" w - -"),
+        2_560 => line.extend_from_slice(b" w KQkq -"),
+        _ => put_each_field(line, state),
+    }
+}
+
+/// Writes the fields after the placement one by one.
+fn put_each_field(line: &mut Vec<u8>, state: u16) -> Result<(), AllocError>
+    ensures { OnOk result ((s : Position) → IsOnBoard s.ep → state ≡ state_number s
+        → line.new.items ≡ line.old.items ++ 32 ∷ state_text s) }
+{
     put_word(line, turn_of(state / 2_048))?;
     put_word(line, castling_of(state / 128 % 16))?;
     put_en_passant(line, state % 128)
@@ -252,15 +282,77 @@ fn put_en_passant(line: &mut Vec<u8>, number: u16) -> Result<(), AllocError>
     )
 }
 
-impl PackedSetup {
-    /// The setup with this board, packed.
-    pub(crate) fn of(setup: &Setup) -> PackedSetup
+/// The ranks two by two, each pair as one number.
+#[inline(always)]
+fn pairs_of(ranks: &[u32; 8]) -> [u64; 4]
+    ensures value { result ≡ pairs_of ranks.now }
+    ensures eight { length ranks.now ≡ 8 }
+    ensures short { All (λ n. n < 2 ^ 32) ranks.now }
+{
+    [
+        pair_of(ranks[0], ranks[1]),
+        pair_of(ranks[2], ranks[3]),
+        pair_of(ranks[4], ranks[5]),
+        pair_of(ranks[6], ranks[7]),
+    ]
+}
+
+/// The digits of a rank and of the one after it as those of one number.
+#[inline(always)]
+fn pair_of(first: u32, second: u32) -> u64
+    ensures { result ≡ 2 ^ 32 * first + second }
+{
+    4_294_967_296 * u64::from(first) + u64::from(second)
+}
+
+/// The ranks that were packed last, with the bits of their digits. A setup of the same game has most
+/// of them too, and only the others are packed anew.
+#[derive(Drop)]
+pub(crate) struct Packing {
+    bits: DigitBits,
+    ranks: [u32; 8],
+    ghost are: { AreNumbers bits ranks },
+}
+
+impl Packing {
+    /// The ranks of no setup.
+    pub(crate) fn new() -> Packing {
+        let bits = DigitBits {
+            ones: 0,
+            twos: 0,
+            fours: 0,
+            eights: 0,
+        };
+        Packing {
+            bits,
+            ranks: [0; 8],
+        }
+    }
+
+    /// The setup packed.
+    #[inline(always)]
+    pub(crate) fn pack(&mut self, setup: &Setup) -> PackedSetup
         ensures { IsPacked result setup.now }
     {
+        let bits = digit_bits_of(setup);
+        let ranks = packed_anew(self.ranks, &self.bits, &bits);
+        *self = Packing { bits, ranks };
         PackedSetup {
-            ranks: pack_ranks(setup),
+            ranks,
             state: state_of(setup),
         }
+    }
+}
+
+impl PackedSetup {
+    /// The order of the texts of this setup and another. Ranks are compared two at a time.
+    #[inline(always)]
+    pub(crate) fn order(&self, other: &PackedSetup) -> Ordering
+        ensures { result ≡ ordering_then (slice_cmp nat_cmp self.now.ranks other.now.ranks)
+            (nat_cmp self.now.state other.now.state) }
+    {
+        let ranks = pairs_of(&self.ranks).cmp(&pairs_of(&other.ranks));
+        ranks.then(self.state.cmp(&other.state))
     }
 
     /// Writes the four fields of the setup.

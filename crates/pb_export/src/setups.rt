@@ -1,10 +1,13 @@
 //! The setups that stand before the moves of games and for which a book has moves.
 
 ghost use Rattle.std.specs.Prelude.{◌≡◌, ◌≤◌, ◌<◌, ◌^◌, ◌==◌, ◌++◌, ◌∷◌, [], ℕ, All, AllPairs};
-ghost use Rattle.std.specs.Prelude.{Contains, IfOk, IsTrue, filter, List, OnOk, length, map};
+ghost use Rattle.std.specs.Prelude.{Contains, IfOk, IsTrue, MatchOption, filter, List, OnOk};
+ghost use Rattle.std.specs.Prelude.{length, map};
 ghost use Rattle.pb_board.specs.Position.{Position};
 ghost use Rattle.pb_games.specs.Submissions.{IsLegalGame};
+ghost use Rattle.pb_moves.specs.Legal.{Legal};
 ghost use Rattle.pb_moves.specs.Moved.{Moved};
+ghost use Rattle.pb_poly.specs.Code.{HasCode};
 ghost use Rattle.pb_poly.specs.Found.{Found};
 ghost use Rattle.pb_poly.specs.declared.entry.Entry.{Entry as BookEntry};
 ghost use Rattle.pb_export.specs.Packed.{IsPacked};
@@ -14,13 +17,13 @@ ghost use Rattle.pb_export.specs.Setups.{setups_before};
 ghost use Rattle.pb_export.specs.declared.setups.ListedSetup.{ListedSetup};
 
 use crate::indexed_book::IndexedBook;
-use crate::packed::PackedSetup;
+use crate::packed::{PackedSetup, Packing};
 use pb_accepted::Ledger;
 use pb_board::Setup;
 use pb_games::Game;
-use pb_moves::{Move, legal_effect};
+use pb_moves::{Move, effect_of};
 use pb_points::Tally;
-use pb_poly::{Entry, Table, key_next, key_of, move_of};
+use pb_poly::{Entry, Table, code_of, key_next, key_of, move_of};
 use std::alloc::{AllocError, Global};
 
 /// How many keys of recent setups are kept.
@@ -28,7 +31,7 @@ const RECENT: usize = 16_384;
 
 /// A setup, and where its moves stand among those of all.
 #[derive(Clone, Copy)]
-#[derive_where(PartialEq, Eq, PartialOrd, Ord)]
+#[derive_where(PartialEq, Eq)]
 pub(crate) struct ListedSetup {
     pub(crate) setup: PackedSetup,
     // The moves follow from the setup.
@@ -110,17 +113,27 @@ impl Listing {
     {
         let KeyedSetups { keys, setups } = keyed_setups(alloc, table, game)?;
         let firsts = book.firsts_under(alloc, &keys)?;
+        let moves = game.moves.as_slice();
+        let mut packing = Packing::new();
         for index in 0..setups.len() {
             let key = keys[index];
             let entries = book.under(firsts[index], key);
-            self.add_setup(entries, &setups[index], key)?;
+            self.add_setup(&mut packing, entries, &setups[index], key, moves[index])?;
         }
         Ok(())
     }
 
     /// Adds a setup that has this board and key, where one of the entries under the key is for the
     /// setup.
-    fn add_setup(&mut self, entries: &[Entry], setup: &Setup, key: u64) -> Result<(), AllocError>
+    fn add_setup(
+        &mut self,
+        packing: &mut Packing,
+        entries: &[Entry],
+        setup: &Setup,
+        key: u64,
+        played: Move,
+    ) -> Result<(), AllocError>
+        requires { Legal setup.now played }
         ensures { OnOk result ((words : List ℕ) (book : List BookEntry) (known : List Position)
             → key ≡ key_by words setup.now → entries.now ≡ filter (λ e. e.key == key) book
             → ListsSetups words book known self.old.moves.items self.old.setups.items
@@ -132,12 +145,12 @@ impl Listing {
         if entries.is_empty() {
             return Ok(());
         }
-        let packed = PackedSetup::of(setup);
+        let packed = packing.pack(setup);
         if self.is_recent(key, &packed) {
             return Ok(());
         }
         self.note_recent(key);
-        self.add_new(packed, entries, setup)
+        self.add_new(packed, entries, setup, played)
     }
 
     /// Adds a setup that isn't known to be listed, where an entry is for it.
@@ -146,8 +159,10 @@ impl Listing {
         packed: PackedSetup,
         entries: &[Entry],
         setup: &Setup,
+        played: Move,
     ) -> Result<(), AllocError>
-        requires { IsPacked packed setup.now }
+        requires packed { IsPacked packed setup.now }
+        requires legal { Legal setup.now played }
         ensures { OnOk result ((words : List ℕ) (book : List BookEntry) (known : List Position)
             (key : ℕ) → key ≡ key_by words setup.now → entries.now ≡ filter (λ e. e.key == key) book
             → ListsSetups words book known self.old.moves.items self.old.setups.items
@@ -157,7 +172,7 @@ impl Listing {
         // The reader tells that the setup meets its rules.
         let _turn = setup.turn();
         let first = in_32_bits(self.moves.len())?;
-        add_moves(&mut self.moves, entries, setup)?;
+        add_moves(&mut self.moves, entries, setup, played)?;
         let end = in_32_bits(self.moves.len())?;
         if first < end {
             self.setups.push(ListedSetup {
@@ -214,7 +229,7 @@ fn keyed_setups(alloc: Global, table: &Table, game: &Game) -> Result<KeyedSetups
     for m in moves {
         keys.push(key)?;
         setups.push(setup)?;
-        match legal_effect(&setup, *m) {
+        match effect_of(&setup, *m) {
             Some(effect) => {
                 key = key_next(table, key, &setup, *m, &effect);
                 effect.apply(&mut setup, *m);
@@ -240,22 +255,39 @@ fn in_32_bits(count: usize) -> Result<u32, AllocError>
     }
 }
 
-/// Adds the moves of entries under the key of a setup.
+/// Adds the moves of entries under the key of a setup, one of which is played there.
 fn add_moves(
     moves: &mut Vec<(Move, u16)>,
     entries: &[Entry],
     setup: &Setup,
+    played: Move,
 ) -> Result<(), AllocError>
+    requires { Legal setup.now played }
     ensures { OnOk result ((words : List ℕ) → All (λ e. e.key ≡ key_by words setup.now) entries.now
         → (found : List (Moved × ℕ)) × Found entries.now words setup.now found
         × (moves.new.items ≡ moves.old.items ++ found)) }
 {
+    let played_code = code_of(setup, played);
     for entry in entries {
-        if let Some(m) = move_of(setup, entry.code) {
+        if let Some(m) = move_by(setup, entry.code, played, played_code) {
             moves.push((m, entry.weight))?;
         }
     }
     Ok(())
+}
+
+/// The legal move with this code. One of which that is known already isn't looked for.
+#[inline(always)]
+fn move_by(setup: &Setup, code: u16, known: Move, known_code: u16) -> Option<Move>
+    requires { HasCode setup.now known known_code }
+    ensures { MatchOption result ((m : Moved) → ¬ HasCode setup.now m code)
+        (λ m. HasCode setup.now m code) }
+{
+    if code == known_code {
+        Some(known)
+    } else {
+        move_of(setup, code)
+    }
 }
 
 /// Puts the setups in the byte order of their texts, each once.
@@ -266,6 +298,6 @@ fn put_in_order(setups: &mut Vec<ListedSetup>)
         → (y : ListedSetup) × Contains setups.new.items y × SameSetup y x }
     ensures few { length setups.new.items ≤ length setups.old.items }
 {
-    setups.sort_unstable();
+    setups.sort_unstable_by(|one, other| one.setup.order(&other.setup));
     setups.dedup();
 }

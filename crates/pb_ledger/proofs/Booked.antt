@@ -158,14 +158,12 @@ module _ (ledger : LedgerState) (old mid : SinkState) (count : ℕ) where
       tt,
     )
 
--- ---- the entries of a stretch, one by one
+-- ---- the entries of a stretch, some at a time
 
--- an entry between those before it and those behind it
-pub cut_at : (entries : List Entry) (i : ℕ) (d : Entry) → i < length entries
-    → book_bytes (take i entries) ++ (entry_bytes (get_or entries i d) ++ book_bytes (drop (i + 1) entries)) ≡ book_bytes entries
-cut_at entries i d within =
-    sym (book_bytes-append (take i entries) (get_or entries i d ∷ drop (i + 1) entries))
-    ∙ ap book_bytes (ap (λ l. take i entries ++ l) (sym (drop_more entries i d within)) ∙ take-append-drop i entries)
-
-pub more_at : (entries : List Entry) (i : ℕ) (d : Entry) → i < length entries → book_bytes (take i entries) ++ entry_bytes (get_or entries i d) ≡ book_bytes (take (i + 1) entries)
-more_at entries i d within = sym (ap book_bytes (take_more entries i d within) ∙ book_bytes-push (take i entries) (get_or entries i d))
+-- some entries between those before them and those behind them
+pub cut_at : (before some behind left entries : List Entry) → before ++ left ≡ entries → left ≡ some ++ behind
+    → book_bytes before ++ (book_bytes some ++ book_bytes behind) ≡ book_bytes entries
+cut_at before some behind left entries are cut =
+    ap (λ l. book_bytes before ++ l) (sym (book_bytes-append some behind))
+    ∙ sym (book_bytes-append before (some ++ behind))
+    ∙ ap book_bytes (ap (λ l. before ++ l) (sym cut) ∙ are)

@@ -10,7 +10,7 @@ ghost use Rattle.pb_ledger.specs.declared.booking.WriteFault.TheVariants as faul
 use pb_accepted::Ledger;
 use pb_io::{Failed, Sink};
 use pb_points::Tally;
-use pb_poly::{Entry, write_entry};
+use pb_poly::{ENTRIES_AT_ONCE, Entry, write_entries};
 use std::alloc::{AllocError, Global};
 use thiserror::Error;
 
@@ -75,8 +75,8 @@ fn put_entries<K: Sink>(sink: &mut K, entries: &[Entry]) -> Result<(), Failed>
     ensures err { OnErr result (Put (K.state sink.old) (K.state sink.new) result
         (book_bytes entries.now)) }
 {
-    for entry in entries {
-        write_entry(sink, entry)?;
+    for some in entries.chunks(ENTRIES_AT_ONCE) {
+        write_entries(sink, some)?;
     }
     Ok(())
 }

@@ -1,7 +1,8 @@
 //! Entries of books, and their bytes.
 
-ghost use Rattle.std.specs.Prelude.{◌≡◌, length};
+ghost use Rattle.std.specs.Prelude.{◌≡◌, ◌≤◌, ◌+◌, ◌++◌, length, take};
 ghost use Rattle.pb_io.specs.Sink.{Put};
+ghost use Rattle.pb_poly.specs.Book.{book_bytes};
 ghost use Rattle.pb_poly.specs.Entry.{IsEntry, entry_bytes};
 
 use pb_io::{Failed, Sink};
@@ -62,4 +63,34 @@ pub fn write_entry<K: Sink>(sink: &mut K, entry: &Entry) -> Result<(), Failed>
     ensures { Put (K.state sink.old) (K.state sink.new) result (entry_bytes entry.now) }
 {
     sink.put(&entry.to_bytes())
+}
+
+/// How many entries are put at once at most: a sink is called once for all of them.
+pub const ENTRIES_AT_ONCE: usize = 64;
+
+/// Copies the bytes of an entry behind those that are there.
+#[inline(always)]
+fn copy_behind(room: &mut [u8; 1024], len: usize, bytes: &[u8; ENTRY_LEN])
+    requires { len + 16 ≤ 1024 }
+    ensures { take (len + 16) room.new ≡ take len room.old ++ bytes.now }
+{
+    room[len..len + ENTRY_LEN].copy_from_slice(bytes);
+}
+
+/// Puts the bytes of some entries, 64 at most, at once.
+///
+/// # Errors
+///
+/// The sink has failed.
+pub fn write_entries<K: Sink>(sink: &mut K, entries: &[Entry]) -> Result<(), Failed>
+    requires { length entries.now ≤ 64 }
+    ensures { Put (K.state sink.old) (K.state sink.new) result (book_bytes entries.now) }
+{
+    let mut room = [0; 1024];
+    let mut len = 0;
+    for entry in entries {
+        copy_behind(&mut room, len, &entry.to_bytes());
+        len += ENTRY_LEN;
+    }
+    sink.put(&room[..len])
 }

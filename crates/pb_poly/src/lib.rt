@@ -22,7 +22,7 @@ mod table_file;
 
 pub use book::{Book, write_book};
 pub use code::{code_by, code_of, move_of};
-pub use entry::{Entry, write_entry};
+pub use entry::{ENTRIES_AT_ONCE, Entry, write_entries, write_entry};
 pub use key::key_of;
 pub use key_change::{key_after, key_next};
 pub use pb_io::{

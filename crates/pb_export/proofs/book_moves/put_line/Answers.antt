@@ -1,14 +1,10 @@
-use Rattle.std.proofs.Common.{◌≡◌, ◌++◌, ◌∙◌, ℕ, List, Ok, Err, Result, ap}
-use Rattle.std.specs.Prelude.{OnOk, codes, flat_map, is_ok, if◌then◌else◌}
+use Rattle.std.proofs.Common.{◌++◌, ◌∙◌, ap}
+use Rattle.std.specs.Prelude.{codes, flat_map}
 use Rattle.std.proofs.lemmas.Result.{on_ok_weaker}
 use Rattle.pb_board.specs.Text.{setup_text}
 use Rattle.pb_export.specs.Listing.{spaced_move}
-use Rattle.pb_export.proofs.MoveLines.{line_form, line_written}
+use Rattle.pb_export.proofs.MoveLines.{extended, line_form, line_written}
 use Rattle.pb_export.proofs.book_moves.put_line.Goals as goal
-
-extended : {T E : Type 0} (r : Result T E) (old more new : List ℕ) → new ≡ (if is_ok r then old ++ more else old) → OnOk r (new ≡ old ++ more)
-extended (Ok v) old more new h = h
-extended (Err e) old more new h = tt
 
 pub returns : goal.returns
 returns c =

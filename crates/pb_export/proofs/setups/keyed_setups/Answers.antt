@@ -1,7 +1,7 @@
 use Rattle.std.proofs.Common.{◌++◌, ◌∷◌, [], ◌+◌, ◌∙◌, ap, drop, map, sym, subst}
 use Rattle.std.proofs.lemmas.List.{map_push}
 use Rattle.pb_board.specs.Position.{Position}
-use Rattle.pb_moves.specs.Legal.{Legal}
+use Rattle.pb_moves.specs.Legal.{PseudoLegal}
 use Rattle.pb_moves.specs.Moved.{Moved}
 use Rattle.pb_moves.specs.Successor.{after}
 use Rattle.pb_poly.specs.Key.{key}
@@ -27,8 +27,8 @@ loop-m-preserved c =
 
 pub unreachable-requires : goal.unreachable-requires
 unreachable-requires c =
-    subst (λ (m : Moved). ¬ Legal c.loop-m.setup m) c.m-item.is c.in-None.ensures
-    (Standing-legal c.args.game.now c.loop-m.setups.items c.loop-m.setup c.as_slice-moves.result.now c.loop-m.m-index c.loop-m.invariant.standing c.m-item.result c.loop-m-test.true)
+    subst (λ (m : Moved). ¬ PseudoLegal c.loop-m.setup m) c.m-item.is c.in-None.ensures
+    (Standing-legal c.args.game.now c.loop-m.setups.items c.loop-m.setup c.as_slice-moves.result.now c.loop-m.m-index c.loop-m.invariant.standing c.m-item.result c.loop-m-test.true).moves
 
 pub returns-clause-setups : goal.returns-clause-setups
 returns-clause-setups c = Standing-all c.args.game.now c.loop-m.setups.items c.loop-m.setup c.as_slice-moves.result.now c.loop-m.m-index c.loop-m.invariant.standing c.loop-m-test.false
