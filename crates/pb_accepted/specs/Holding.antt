@@ -51,7 +51,8 @@ with_ply_points G k c h = record { points = h.points + count G k c; times = h.ti
 
 -- the ledger meets its rules, its tally holds the counts of its games, and beside it are the plies
 -- that need no row
-pub record HoldsCounts (content : Content) (beside : List PlyPoints) (l : LedgerState) : Type 0 where
+pub record HoldsCounts (content : Content) (beside : List PlyPoints) (l : LedgerState)
+    : Type 0 where
   pub rules : IsLedger l
   pub counts : Tallies content (rowed l.basis.rules.least (counted l.basis l.accepted))
   pub lost : beside ≡ lost l.basis.rules.least (counted l.basis l.accepted)

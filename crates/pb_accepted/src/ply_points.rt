@@ -43,7 +43,7 @@ pub(crate) fn counted(ply_points: &[PlyPoints], rules: Rules) -> &[PlyPoints]
     &ply_points[..ply_points.len().min(rules.plies() as usize)]
 }
 
-/// Tells whether a ply stands beside the tally, where a move has to occur so often to have an entry.
+/// Tells whether a ply stands beside the tally, where an entry needs so many occurrences.
 #[inline(always)]
 fn is_lost(given: &PlyPoints, least: u32) -> bool
     ensures { result ≡ is_lost least given.now }

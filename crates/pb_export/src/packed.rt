@@ -17,8 +17,9 @@ ghost use Rattle.pb_board.specs.declared.piece.Piece.{Piece};
 ghost use Rattle.pb_export.specs.Packed.{AreNumbers, HasDigits, HaveSameBits, IsOnBoard, IsPacked};
 ghost use Rattle.pb_export.specs.Packed.{castling_at, number_by_bits};
 ghost use Rattle.pb_export.specs.Packed.{castling_number, en_passant_number, is_after_empty};
-ghost use Rattle.pb_export.specs.Packed.{pairs_of, piece_digit, rank_digits, rank_number, rank_numbers, row};
-ghost use Rattle.pb_export.specs.Packed.{spread, state_number, state_text, turn_number};
+ghost use Rattle.pb_export.specs.Packed.{pairs_of, piece_digit, rank_digits, rank_number};
+ghost use Rattle.pb_export.specs.Packed.{rank_numbers, row, spread, state_number, state_text};
+ghost use Rattle.pb_export.specs.Packed.{turn_number};
 
 use crate::book_moves::put_word;
 use pb_board::{Colour, Kind, Piece, Rights, Setup, Square};
@@ -305,8 +306,8 @@ fn pair_of(first: u32, second: u32) -> u64
     4_294_967_296 * u64::from(first) + u64::from(second)
 }
 
-/// The ranks that were packed last, with the bits of their digits. A setup of the same game has most
-/// of them too, and only the others are packed anew.
+/// The ranks that were packed last, with the bits of their digits. A setup of the same game has
+/// most of them too, and only the others are packed anew.
 #[derive(Drop)]
 pub(crate) struct Packing {
     bits: DigitBits,

@@ -1,4 +1,4 @@
-use Rattle.std.proofs.Common.{◌≡◌, ◌*◌, length, take}
+use Rattle.std.proofs.Common.{◌≡◌, ◌*◌, take}
 use Rattle.pb_poly.specs.Book.{book_bytes}
 use Rattle.pb_poly.proofs.entry.write_entries.Given as goal
 
