@@ -41,6 +41,8 @@ answers() {
     timeout "$patience" env -i "$PROGRAM" < "$given/stdin" > "$work/put" 2> "$work/errors" ||
         status=$?
     diff "$work/due" "$work/put" > "$work/differs" || true
+    # Rows of files tell messages, as runs do.
+    sed -i '/^pbook: /d' "$work/errors"
     if [ "$status" -eq 0 ] && [ ! -s "$work/errors" ] && [ ! -s "$work/differs" ]; then return; fi
     echo "    the status is $status; what is due (<), what was answered (>), and errors:"
     head -n 20 "$work/differs" "$work/errors"
