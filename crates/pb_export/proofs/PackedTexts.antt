@@ -187,7 +187,7 @@ put_whole number digits i last start out new h past put squares places is =
 
 -- ---- placements
 
-pub nth_rank : (board : Board) (r : ℕ) → r < 8 → get_or (rank_numbers board) r 0 ≡ rank_number (row board (7 - r))
+nth_rank : (board : Board) (r : ℕ) → r < 8 → get_or (rank_numbers board) r 0 ≡ rank_number (row board (7 - r))
 nth_rank board zero lt = refl
 nth_rank board (suc zero) lt = refl
 nth_rank board (suc (suc zero)) lt = refl

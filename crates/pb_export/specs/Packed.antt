@@ -74,22 +74,6 @@ abbrev pub spread : ℕ → ℕ → ℕ
 spread squares r =
     number_after 0 (map (λ f. bit_at squares (8 * r + f)) (0 ∷ 1 ∷ 2 ∷ 3 ∷ 4 ∷ 5 ∷ 6 ∷ 7 ∷ []))
 
--- the number of a rank whose digits have these bits
-abbrev pub number_by_bits : DigitBits → ℕ → ℕ
-number_by_bits bits r = spread bits.ones r + 2 * spread bits.twos r + 4 * spread bits.fours r
-    + 8 * spread bits.eights r
-
--- the numbers of the ranks, from rank 8 to rank 1, whose digits have these bits
-abbrev pub AreNumbers : DigitBits → List ℕ → Type 0
-AreNumbers bits ranks = (i : ℕ) → i < 8 → slice_index ranks i ≡ number_by_bits bits (7 - i)
-
--- the digits of this square have the same bits
-pub record HaveSameBits (a b : DigitBits) (square : ℕ) : Type 0 where
-  pub ones : bit_at a.ones square ≡ bit_at b.ones square
-  pub twos : bit_at a.twos square ≡ bit_at b.twos square
-  pub fours : bit_at a.fours square ≡ bit_at b.fours square
-  pub eights : bit_at a.eights square ≡ bit_at b.eights square
-
 -- the castling rights in the order of their texts: -, K, KQ, KQk, KQkq, KQq, Kk, Kkq, Kq, Q, Qk,
 -- Qkq, Qq, k, kq and q
 abbrev pub castling_number : Rights → ℕ

@@ -14,8 +14,7 @@ ghost use Rattle.pb_board.specs.Text.{en_passant_text, piece_letter, rank_text, 
 ghost use Rattle.pb_board.specs.Text.{turn_text};
 ghost use Rattle.pb_board.specs.declared.piece.Colour.{Colour};
 ghost use Rattle.pb_board.specs.declared.piece.Piece.{Piece};
-ghost use Rattle.pb_export.specs.Packed.{AreNumbers, HasDigits, HaveSameBits, IsOnBoard, IsPacked};
-ghost use Rattle.pb_export.specs.Packed.{castling_at, number_by_bits};
+ghost use Rattle.pb_export.specs.Packed.{HasDigits, IsOnBoard, IsPacked, castling_at};
 ghost use Rattle.pb_export.specs.Packed.{castling_number, en_passant_number, is_after_empty};
 ghost use Rattle.pb_export.specs.Packed.{pairs_of, piece_digit, rank_digits, rank_number};
 ghost use Rattle.pb_export.specs.Packed.{rank_numbers, row, spread, state_number, state_text};
@@ -134,11 +133,12 @@ fn spread(squares: u64, rank: u32) -> u32
     65_536 * SPREAD[(row % 16) as usize] + SPREAD[(row / 16 % 16) as usize]
 }
 
-/// The number of a rank, from 0 for rank 1, whose digits have these bits.
+/// The number of a rank, from 0 for rank 1.
 #[inline(always)]
 fn pack_rank(bits: &DigitBits, rank: u32) -> u32
     requires { rank < 8 }
-    ensures { result ≡ number_by_bits bits.now rank }
+    ensures { (b : Board) → length b ≡ 64 → HasDigits bits.now b
+        → result ≡ rank_number (row b rank) }
 {
     spread(bits.ones, rank)
         + 2 * spread(bits.twos, rank)
@@ -146,31 +146,23 @@ fn pack_rank(bits: &DigitBits, rank: u32) -> u32
         + 8 * spread(bits.eights, rank)
 }
 
-/// The squares whose digits differ, and no others.
-#[inline(always)]
-fn changed_squares(old: &DigitBits, new: &DigitBits) -> u64
-    ensures { (q : ℕ) → bit_at result q ≡ 0 → HaveSameBits old.now new.now q }
+/// The numbers of the ranks, from rank 8 to rank 1.
+fn pack_ranks(setup: &Setup) -> [u32; 8]
+    ensures { result ≡ rank_numbers setup.now.board }
 {
-    (old.ones ^ new.ones)
-        | (old.twos ^ new.twos)
-        | (old.fours ^ new.fours)
-        | (old.eights ^ new.eights)
-}
-
-/// The numbers of the ranks whose digits have the new bits, made of those for the old bits.
-#[inline(always)]
-fn packed_anew(mut ranks: [u32; 8], old: &DigitBits, new: &DigitBits) -> [u32; 8]
-    requires { AreNumbers old.now ranks }
-    ensures { AreNumbers new.now result }
-{
-    let changed = changed_squares(old, new);
-    for row in 0..8 {
-        let rank = 7 - row;
-        if (changed >> (8 * rank)) % 256 != 0 {
-            ranks[row as usize] = pack_rank(new, rank);
-        }
-    }
-    ranks
+    // All are made for each setup: which of them differ from those of the setup before can't be
+    // foreseen, and branches on that cost more.
+    let bits = digit_bits_of(setup);
+    [
+        pack_rank(&bits, 7),
+        pack_rank(&bits, 6),
+        pack_rank(&bits, 5),
+        pack_rank(&bits, 4),
+        pack_rank(&bits, 3),
+        pack_rank(&bits, 2),
+        pack_rank(&bits, 1),
+        pack_rank(&bits, 0),
+    ]
 }
 
 /// The number of the castling rights in the order of their texts.
@@ -306,46 +298,17 @@ fn pair_of(first: u32, second: u32) -> u64
     4_294_967_296 * u64::from(first) + u64::from(second)
 }
 
-/// The ranks that were packed last, with the bits of their digits. A setup of the same game has
-/// most of them too, and only the others are packed anew.
-#[derive(Drop)]
-pub(crate) struct Packing {
-    bits: DigitBits,
-    ranks: [u32; 8],
-    ghost are: { AreNumbers bits ranks },
-}
-
-impl Packing {
-    /// The ranks of no setup.
-    pub(crate) fn new() -> Packing {
-        let bits = DigitBits {
-            ones: 0,
-            twos: 0,
-            fours: 0,
-            eights: 0,
-        };
-        Packing {
-            bits,
-            ranks: [0; 8],
-        }
-    }
-
-    /// The setup packed.
-    #[inline(always)]
-    pub(crate) fn pack(&mut self, setup: &Setup) -> PackedSetup
+impl PackedSetup {
+    /// The setup with this board, packed.
+    pub(crate) fn of(setup: &Setup) -> PackedSetup
         ensures { IsPacked result setup.now }
     {
-        let bits = digit_bits_of(setup);
-        let ranks = packed_anew(self.ranks, &self.bits, &bits);
-        *self = Packing { bits, ranks };
         PackedSetup {
-            ranks,
+            ranks: pack_ranks(setup),
             state: state_of(setup),
         }
     }
-}
 
-impl PackedSetup {
     /// The order of the texts of this setup and another. Ranks are compared two at a time.
     #[inline(always)]
     pub(crate) fn order(&self, other: &PackedSetup) -> Ordering

@@ -17,7 +17,7 @@ ghost use Rattle.pb_export.specs.Setups.{setups_before};
 ghost use Rattle.pb_export.specs.declared.setups.ListedSetup.{ListedSetup};
 
 use crate::indexed_book::IndexedBook;
-use crate::packed::{PackedSetup, Packing};
+use crate::packed::PackedSetup;
 use pb_accepted::Ledger;
 use pb_board::Setup;
 use pb_games::Game;
@@ -114,11 +114,10 @@ impl Listing {
         let KeyedSetups { keys, setups } = keyed_setups(alloc, table, game)?;
         let firsts = book.firsts_under(alloc, &keys)?;
         let moves = game.moves.as_slice();
-        let mut packing = Packing::new();
         for index in 0..setups.len() {
             let key = keys[index];
             let entries = book.under(firsts[index], key);
-            self.add_setup(&mut packing, entries, &setups[index], key, moves[index])?;
+            self.add_setup(entries, &setups[index], key, moves[index])?;
         }
         Ok(())
     }
@@ -127,7 +126,6 @@ impl Listing {
     /// setup.
     fn add_setup(
         &mut self,
-        packing: &mut Packing,
         entries: &[Entry],
         setup: &Setup,
         key: u64,
@@ -145,7 +143,7 @@ impl Listing {
         if entries.is_empty() {
             return Ok(());
         }
-        let packed = packing.pack(setup);
+        let packed = PackedSetup::of(setup);
         if self.is_recent(key, &packed) {
             return Ok(());
         }
@@ -255,7 +253,8 @@ fn in_32_bits(count: usize) -> Result<u32, AllocError>
     }
 }
 
-/// Adds the moves of entries under the key of a setup, one of which is played there.
+/// Adds the moves of entries under the key of a setup. The one that a game plays there is known,
+/// and isn't looked for.
 fn add_moves(
     moves: &mut Vec<(Move, u16)>,
     entries: &[Entry],
@@ -276,7 +275,7 @@ fn add_moves(
     Ok(())
 }
 
-/// The legal move with this code. One of which that is known already isn't looked for.
+/// The legal move with this code, which isn't looked for where it is the one that is known.
 #[inline(always)]
 fn move_by(setup: &Setup, code: u16, known: Move, known_code: u16) -> Option<Move>
     requires { HasCode setup.now known known_code }

@@ -1,4 +1,4 @@
-use Rattle.std.proofs.Common.{◌≡◌, ◌*◌, ◌+◌, ◌++◌, ◌∷◌, ◌∙◌, List, Result, Bool, false, true, ap, refl, sym, ℕ}
+use Rattle.std.proofs.Common.{◌≡◌, ◌*◌, ◌+◌, ◌++◌, ◌∷◌, ◌∙◌, List, Result, Bool, false, true, ap, sym, ℕ}
 use Rattle.std.specs.Prelude.{OnOk, codes, if◌then◌else◌, is_ok}
 use Rattle.std.proofs.lemmas.Result.{on_ok_weaker}
 use Rattle.pb_board.specs.Position.{Position}
