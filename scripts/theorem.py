@@ -26,13 +26,13 @@ from lib.specs import BEFORE, Specs, count_of, imports
 DOCUMENT = pathlib.Path("docs/THEOREM.md")
 HEADLINE = "pb_collecting.Headline.HasHeadline"
 # What carries the first and the last words of the theorem's sentence, and "in any order".
-LAWS = ("pb_accepted.Laws.HasOneEffect", "pb_accepted.Laws.SameBooks",
+LAWS = ("pb_accepted.Laws.CountsOnce", "pb_accepted.Laws.SameBooks",
         "pb_collecting.Laws.RefusalsLeaveTheGames", "pb_collecting.Answered.SayAnswers")
 # The files of specs in reading order. All others come after them, by their crates.
 ORDER = """
     pb_collecting.Headline
     pb_accepted.Replying pb_accepted.Refusals pb_games.Refusing pb_board.Refusal
-    pb_games.Submissions pb_games.Ids pb_games.Results pb_games.Words
+    pb_games.Submissions pb_games.Ids pb_games.Results pb_games.Tokens
     pb_io.Lines pb_board.Fields pb_board.Text pb_board.Rights pb_moves.Spelling
     pb_board.Board pb_board.Piece pb_board.Position
     pb_moves.Attacks pb_moves.Moved pb_moves.Successor pb_moves.Legal pb_moves.Played

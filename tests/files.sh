@@ -309,6 +309,16 @@ device_faults() {
     where flock:error=ENOLCK 0 is_new
 }
 
+# BOOK is opened at first and can't be at the end, where the system has no room for one more open
+# file. That is a fault, and nothing is written in place.
+full_of_files() {
+    with_old
+    runner="strace -f -o /dev/null -P $book -e trace=openat -e inject=openat:error=ENFILE:when=2"
+    holds collects 3 "$book"
+    holds is_old "$book"
+    holds no_draft
+}
+
 # A draft that can't get the old file's permissions is a fault, and nothing is written in place.
 unset_mode() {
     with_ledger
@@ -929,8 +939,8 @@ if [ $# -eq 0 ]; then
         ledger_of_long_name ledger_without_book rules two_journals
     choose 'test -c /dev/full' '/dev/full is wanted' torn_at_full_output
     choose 'has flock' 'flock is wanted' draft_in_use live_journal
-    choose can_trace 'strace is wanted' device_faults unset_mode unopened_folder \
-        killed_behind_links
+    choose can_trace 'strace is wanted' device_faults full_of_files unset_mode \
+        unopened_folder killed_behind_links
     choose can_be_other 'setpriv is wanted' no_permission folder_without_drafts unread_folder \
         closed_ledger ledger_without_drafts
     choose can_own 'root and setpriv are wanted' other_owner other_group ledger_of_another

@@ -138,8 +138,8 @@ use Rattle.pb_collecting.specs.Headline.{headline}
 abbrev pub least : ℕ
 least = 0
 
-abbrev pub HasOneEffect : ℕ
-HasOneEffect = headline + least
+abbrev pub CountsOnce : ℕ
+CountsOnce = headline + least
 END
 
 put crates/upper/src/shade.rt << 'END'

@@ -9,13 +9,12 @@ use pb_io::{Failed, Sink};
 use std::alloc::Global;
 use std::marker::Model;
 
-/// A file in memory that is open: what was answered of it so far, and the bytes that it took.
+/// Holds an open file in memory, and the bytes that it took.
 #[derive(Drop)]
 pub struct MemFile {
-    /// What was answered of it.
     pub(crate) notes: FileNotes,
     bytes: Vec<u8>,
-    // How many files were still to take its name when it was opened.
+    // Files that were still to take its name when it was opened.
     to_come: u32,
     ghost same: { bytes.items ≡ notes.handed },
 }
@@ -29,7 +28,6 @@ impl Model for MemFile {
 }
 
 impl MemFile {
-    /// Takes a file that has taken nothing. So many are still to take its name.
     pub(crate) fn new(alloc: Global, notes: FileNotes, to_come: u32) -> MemFile
         requires { notes.handed ≡ [] }
         ensures { result ≡ notes }
@@ -41,19 +39,17 @@ impl MemFile {
         }
     }
 
-    /// How many files were still to take its name.
     pub(crate) fn to_come(&self) -> u32 {
         self.to_come
     }
 
-    /// The bytes that it took.
     pub(crate) fn as_bytes(&self) -> &[u8]
         ensures { result.now ≡ self.now.handed }
     {
         self.bytes.as_slice()
     }
 
-    /// Takes the bytes, or none where there is no memory, and tells which.
+    /// Takes the bytes, or none where there is no memory.
     fn write(&mut self, bytes: &[u8]) -> bool
         ensures all { result ≡ true → self.new.handed ≡ self.old.handed ++ bytes.now }
         ensures none { result ≡ false → self.new.handed ≡ self.old.handed }
@@ -69,7 +65,6 @@ impl MemFile {
         true
     }
 
-    /// Puts it on the disk.
     fn sync(&mut self)
         requires { self.old.lost ≡ false }
         ensures { self.new ≡ record self.old { synced = true } }
@@ -78,8 +73,8 @@ impl MemFile {
     }
 }
 
-/// An end into a draft in memory, of which so many puts and flushes pass. A put that fails keeps
-/// half of its bytes, and want of memory none.
+/// Writes a draft in memory, of which so many puts and flushes pass. A put that fails takes half of
+/// its bytes, and want of memory none.
 #[derive(Drop)]
 pub struct MemDraft {
     file: MemFile,
@@ -93,7 +88,6 @@ pub struct MemDraft {
 }
 
 impl MemDraft {
-    /// An end into this draft of the run, which has taken nothing.
     pub(crate) fn new(file: MemFile, good: u32) -> MemDraft
         requires own { IsOwnDraft file }
         requires works { file.lost ≡ false }
@@ -109,7 +103,6 @@ impl MemDraft {
         }
     }
 
-    /// The draft, which is on the disk if the last of all was a flush that passed.
     pub(crate) fn into_file(self) -> MemFile
         ensures own { IsOwnDraft result }
         ensures all { (⟦<MemDraft as Sink>⟧.state self).bytes ≡ Some result.handed }
@@ -119,7 +112,6 @@ impl MemDraft {
         self.file
     }
 
-    /// Whether this put or flush passes.
     fn passes(&mut self) -> bool
         ensures { self.new ≡ record self.old { good = self.new.good } }
     {

@@ -1,4 +1,4 @@
-//! A name in a folder in memory, which tells all that is known of it.
+//! A name in a folder in memory.
 
 ghost use Rattle.std.specs.Option.{option_copied, option_map};
 ghost use Rattle.std.specs.Prelude.{◌≡◌, [], ◌∷◌, Some, IfOk, IfSome, OnErr, OnOk, false, length};
@@ -12,7 +12,7 @@ use crate::mem_file::{MemDraft, MemFile};
 use crate::mem_shelf::MemShelf;
 use crate::scene::Scene;
 use pb_folder::{Entry, FileNotes, Folder, Hold, Lock, Seen, Status};
-use pb_io::FuseSink;
+use pb_fuse::FuseSink;
 use pb_messages::{Left, Part};
 use std::alloc::{AllocError, Global};
 use std::cell::Cell;
@@ -21,10 +21,10 @@ use std::io::{self, ErrorKind};
 /// The mode of a draft until it is set.
 const DRAFT_MODE: u32 = 0o100_600;
 
-/// A name in memory. So many of its calls that may fail succeed, and then each fails.
+/// Holds a name in memory. So many of its calls that may fail succeed, and then each fails.
 #[derive(Drop)]
 pub struct MemFolder {
-    /// What is told of the file that has the name at first.
+    /// Of the file that has the name at first.
     pub status: Status,
     /// How many of the next calls succeed.
     pub calls: Cell<u32>,
@@ -34,21 +34,18 @@ pub struct MemFolder {
     part: Part,
     scene: Scene,
     shelf: MemShelf,
-    // How many drafts of this run stand there.
     drafts: u64,
-    // Nothing was seen under the name.
     is_free: bool,
     // A sync of the names has failed since the name was given.
     has_failed: bool,
-    // Whether the draft that the scene has is there.
+    // The draft that the scene has is there.
     is_drafted: Cell<bool>,
-    // How many files are still to take the name.
+    // Files that are still to take the name.
     to_come: Cell<u32>,
 }
 
 impl MemFolder {
-    /// The name of a file of this part and these bytes, or of none, which is on the disk. Each call
-    /// succeeds that the scene lets succeed.
+    /// Begins with a file of these bytes, or none, which is on the disk.
     pub fn new(
         alloc: Global,
         part: Part,
@@ -78,7 +75,7 @@ impl MemFolder {
         })
     }
 
-    /// What a reader finds.
+    /// Gives what a reader finds.
     pub fn found(&self) -> Option<&[u8]>
         ensures { IfSome (⟦<MemFolder as Folder>⟧.shelf self.now) (λ shelf.
             shelf.found ≡ option_copied result) }
@@ -86,7 +83,7 @@ impl MemFolder {
         self.shelf.found()
     }
 
-    /// Whether a crash may leave anything but what a reader finds.
+    /// Answers whether a crash may leave anything but what a reader finds.
     pub fn may_be_undone(&self) -> bool
         ensures several { IfSome (⟦<MemFolder as Folder>⟧.shelf self.now)
             (λ shelf. result ≡ nat_lt 1 (length shelf.leaves)) }
@@ -96,21 +93,19 @@ impl MemFolder {
         self.shelf.may_be_undone()
     }
 
-    /// Whether a crash might have left a part of a text.
+    /// Answers whether a crash might have left a front of a text.
     pub fn is_torn(&self) -> bool
         ensures { IfSome (⟦<MemFolder as Folder>⟧.shelf self.now) (λ shelf. shelf.torn ≡ result) }
     {
         self.shelf.is_torn()
     }
 
-    /// Whether what is opened is added to at its end.
     fn is_journal(&self) -> bool
         ensures { result ≡ is_journal self.now.part }
     {
         matches!(self.part, Part::Journal)
     }
 
-    /// Lets a call succeed, or fails it.
     fn let_pass(&self) -> io::Result<()> {
         let calls = self.calls.get();
         self.calls.set(calls.saturating_sub(1));
@@ -120,7 +115,7 @@ impl MemFolder {
         Ok(())
     }
 
-    /// Puts the name on the disk, unless that has failed before: then it does nothing.
+    /// Once it has failed it does nothing.
     fn settle(&mut self) -> io::Result<()>
         ensures settled { OnOk result (self.old.has_failed ≡ false
             → self.new.shelf ≡ settled self.old.shelf) }
@@ -134,7 +129,6 @@ impl MemFolder {
         Ok(())
     }
 
-    /// Locks the file, as far as the scene lets it be locked.
     fn lock_by(&self, f: &mut MemFile, hold: Hold) -> Lock
         ensures { f.new ≡ locked hold result f.old }
     {
@@ -150,7 +144,6 @@ impl MemFolder {
         lock
     }
 
-    /// What is told of the file.
     fn status_of(&self, f: &MemFile) -> Status {
         let mut status = self.status;
         if !f.notes.is_made() {

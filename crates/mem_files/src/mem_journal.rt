@@ -9,13 +9,12 @@ use pb_io::{Fault, FromRead};
 use std::alloc::Global;
 use std::io::Cursor;
 
-/// A file in memory. The first of its calls succeed, as many as were asked for, and the others
-/// fail. A write that is the last call to succeed takes half of the bytes. A sync that fails leaves
-/// what isn't on the disk as if it were, so that later ones pass over it.
+/// Holds a file in memory, of which so many calls succeed. A write that is the last of them takes
+/// half of the bytes. A sync that fails has later ones pass over what isn't on the disk.
 #[derive(Drop)]
 pub struct MemJournal {
     bytes: Vec<u8>,
-    // How many of them were there at first.
+    // At first.
     begun: usize,
     kept: usize,
     lost: bool,
@@ -27,7 +26,7 @@ pub struct MemJournal {
 }
 
 impl MemJournal {
-    /// A file that has these bytes, none of them on the disk, and of which this many calls succeed.
+    /// Begins with these bytes, none of them on the disk, and so many calls that succeed.
     pub fn new(bytes: Vec<u8>, calls: usize) -> MemJournal
         ensures handed { ⟦<MemJournal as JournalFile>⟧.handed result ≡ [] }
         ensures state { ⟦<MemJournal as JournalFile>⟧.state result
@@ -47,7 +46,7 @@ impl MemJournal {
         }
     }
 
-    /// The same after a sync has failed, so that the next ones put none of these bytes on the disk.
+    /// Begins after a sync has failed, so that the next ones put none of these bytes on the disk.
     pub fn after_failed_sync(bytes: Vec<u8>, calls: usize) -> MemJournal
         ensures handed { ⟦<MemJournal as JournalFile>⟧.handed result ≡ [] }
         ensures state { ⟦<MemJournal as JournalFile>⟧.state result
@@ -67,7 +66,7 @@ impl MemJournal {
         }
     }
 
-    /// What a reader finds, which is what a kill leaves.
+    /// Gives what a reader finds, which is what a kill leaves.
     pub fn found(&self) -> &[u8]
         ensures { IfSome (⟦<MemJournal as JournalFile>⟧.state self.now).told (λ disk.
             result.now ≡ disk.found) }
@@ -75,7 +74,7 @@ impl MemJournal {
         self.bytes.as_slice()
     }
 
-    /// What is on the disk, which is the least that a crash leaves.
+    /// Gives what is on the disk, the least that a crash leaves.
     pub fn after_crash(&self) -> &[u8]
         ensures { IfSome (⟦<MemJournal as JournalFile>⟧.state self.now).told (λ disk.
             result.now ≡ on_disk disk) }
@@ -83,7 +82,6 @@ impl MemJournal {
         &self.bytes[..self.kept]
     }
 
-    /// Whether this call succeeds.
     fn goes_well(&mut self) -> bool
         ensures bytes { self.new.bytes ≡ self.old.bytes }
         ensures begun { self.new.begun ≡ self.old.begun }

@@ -9,7 +9,7 @@ ghost use Rattle.mem_files.specs.MemFolder.{shelf_of};
 use std::alloc::{AllocError, Global};
 use std::marker::Model;
 
-/// What stands under a name: bytes, or no file.
+/// Bytes, or no file.
 #[derive(Drop)]
 struct MemContent {
     bytes: Option<Vec<u8>>,
@@ -25,7 +25,6 @@ impl Model for MemContent {
 }
 
 impl MemContent {
-    /// A file of these bytes.
     fn of(alloc: Global, bytes: &[u8]) -> Result<MemContent, AllocError>
         ensures { IfOk result (λ content. content ≡ Some bytes.now) }
     {
@@ -34,7 +33,6 @@ impl MemContent {
         })
     }
 
-    /// This content alone, in a list.
     fn alone(&self, alloc: Global) -> Result<Vec<MemContent>, AllocError>
         ensures { IfOk result (λ contents. contents.items ≡ self.now ∷ []) }
     {
@@ -48,7 +46,6 @@ impl MemContent {
     }
 }
 
-/// What a reader finds under a name, and what a crash may leave there.
 #[derive(Drop)]
 pub(crate) struct MemShelf {
     alloc: Global,
@@ -75,7 +72,6 @@ impl Model for MemShelf {
 }
 
 impl MemShelf {
-    /// A file of these bytes, or none, which is on the disk.
     pub(crate) fn new(alloc: Global, first: Option<Vec<u8>>) -> Result<MemShelf, AllocError>
         ensures { IfOk result (λ shelf. shelf ≡ shelf_of (option_map (λ v. v.items) first)) }
     {
@@ -89,7 +85,6 @@ impl MemShelf {
         })
     }
 
-    /// What a reader finds.
     pub(crate) fn found(&self) -> Option<&[u8]>
         ensures { self.now.found ≡ option_copied result }
     {
@@ -99,7 +94,6 @@ impl MemShelf {
         }
     }
 
-    /// Whether a crash may leave anything else.
     pub(crate) fn may_be_undone(&self) -> bool
         ensures several { result ≡ nat_lt 1 (length self.now.leaves) }
         ensures settled { result ≡ false → self.now.leaves ≡ self.now.found ∷ [] }
@@ -107,18 +101,13 @@ impl MemShelf {
         self.leaves.len() > 1
     }
 
-    /// Whether a crash might have left a part of a text.
     pub(crate) fn is_torn(&self) -> bool
         ensures { self.now.torn ≡ result }
     {
         self.torn
     }
 
-    /// Notes that a crash may leave these bytes too.
-    ///
-    /// # Errors
-    ///
-    /// There is no memory, and all is as it was. So it is with the calls below.
+    /// Has a crash leave these bytes too. For want of memory all stays, as with the calls below.
     pub(crate) fn may_leave(&mut self, bytes: &[u8]) -> Result<(), AllocError>
         ensures left { OnOk result (self.new ≡ record self.old {
           leaves = self.old.leaves ++ Some bytes.now ∷ [];
@@ -137,7 +126,6 @@ impl MemShelf {
         Ok(())
     }
 
-    /// Has the name lead to these bytes.
     pub(crate) fn name(&mut self, bytes: &[u8]) -> Result<(), AllocError>
         ensures named { OnOk result (self.new ≡ renamed (Some bytes.now) self.old) }
         ensures same { OnErr result (self.new ≡ self.old) }
@@ -148,7 +136,6 @@ impl MemShelf {
         Ok(())
     }
 
-    /// Has the name lead to an empty file, which is written in place.
     pub(crate) fn empty(&mut self) -> Result<(), AllocError>
         ensures emptied { OnOk result (Empties self.old self.new) }
         ensures same { OnErr result (self.new ≡ self.old) }
@@ -158,7 +145,6 @@ impl MemShelf {
         Ok(())
     }
 
-    /// Puts the name on the disk.
     pub(crate) fn settle(&mut self) -> Result<(), AllocError>
         ensures settled { OnOk result (self.new ≡ settled self.old) }
         ensures same { OnErr result (self.new ≡ self.old) }

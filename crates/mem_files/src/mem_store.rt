@@ -9,7 +9,7 @@ use pb_collecting::{Store, StoreError, Text};
 use pb_io::{MemSink, Sink};
 use std::alloc::Global;
 
-/// A store in memory. It fails only for want of memory, and then it keeps what it had.
+/// Keeps a text in memory. For want of memory it fails, and keeps what it had.
 #[derive(Drop)]
 pub struct MemStore {
     alloc: Global,
@@ -18,7 +18,7 @@ pub struct MemStore {
 }
 
 impl MemStore {
-    /// A store where nothing was kept yet.
+    /// Begins with nothing kept.
     pub fn new(alloc: Global) -> MemStore
         ensures { ⟦<MemStore as Store>⟧.state result
             ≡ record { handed = None; fault = None } }
@@ -30,7 +30,7 @@ impl MemStore {
         }
     }
 
-    /// The bytes that were kept last.
+    /// Gives the bytes that were kept last.
     pub fn kept(&self) -> Option<&[u8]>
         ensures { (⟦<MemStore as Store>⟧.state self.now).handed ≡ option_copied result }
     {

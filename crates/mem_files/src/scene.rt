@@ -3,10 +3,9 @@
 use pb_folder::{FileNotes, Status};
 use std::io::ErrorKind;
 
-/// The mode of a file in memory.
 const MODE: u32 = 0o100_644;
 
-/// What stands under a name and beside it, what other runs do there, and what the system refuses.
+/// Says what stands under a name, what other runs do there, and what the system refuses.
 #[derive(Clone, Copy, Debug)]
 pub enum Scene {
     /// A file that a draft can replace, or none, and no draft.
@@ -42,7 +41,6 @@ pub enum Scene {
 }
 
 impl Scene {
-    /// What is told of a file at first.
     pub(crate) fn status(self) -> Status {
         Status {
             device: 1,
@@ -61,12 +59,10 @@ impl Scene {
         }
     }
 
-    /// Whether a draft of the first number is there.
     pub(crate) fn has_draft(self) -> bool {
         matches!(self, Scene::LeftOver | Scene::Drafted)
     }
 
-    /// How many files are to take the name.
     pub(crate) fn to_come(self) -> u32 {
         match self {
             Scene::Replaced(times) => times,
@@ -74,7 +70,6 @@ impl Scene {
         }
     }
 
-    /// Whether another run keeps this one from locking a file of these notes.
     pub(crate) fn has_locked(self, notes: &FileNotes) -> bool {
         match (self, notes.draft_number()) {
             (Scene::Held, None) | (Scene::Drafted, Some(0)) => true,
@@ -83,7 +78,6 @@ impl Scene {
         }
     }
 
-    /// Why no draft gets the name.
     pub(crate) fn naming_fault(self) -> Option<ErrorKind> {
         match self {
             Scene::Refused => Some(ErrorKind::ResourceBusy),

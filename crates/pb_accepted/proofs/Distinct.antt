@@ -122,25 +122,25 @@ arrival cap A line L s r few agree law (inr (e, inr h)) = absurd (refused.unlawf
 arrivals : (cap : ℕ) (A : List Submission) (L : List (List ℕ)) (R : List Answer) → length A ≤ cap → OneGame L → Agree A L → AllowedRun cap A L R
     → (i : ℕ) (line : List ℕ) (s : Submission) (r : Answer) → slice_get L i ≡ Some line → IsLawful line s → slice_get R i ≡ Some r
     → (B : List Submission) → Accepted A (take i L) (take i R) B → Arrives cap B s r
-arrivals cap A [] [] few one agree run i line s r here law told B accepted = let none : None ≡ Some line = here in cc
-arrivals cap A (b ∷ L) (q ∷ R) few one agree run zero line s r here law told B accepted =
+arrivals cap A [] [] few one agree run i line s r here law said B accepted = let none : None ≡ Some line = here in cc
+arrivals cap A (b ∷ L) (q ∷ R) few one agree run zero line s r here law said B accepted =
     let e : Some b ≡ Some line = here in
     let same : b ≡ line = cc in
-    let f : Some q ≡ Some r = told in
+    let f : Some q ≡ Some r = said in
     let answer : q ≡ r = cc in
     subst (λ x. Arrives cap B s x) answer (subst (λ X. Arrives cap X s q) (sym accepted) (arrival cap A b L s q few agree (subst (λ x. IsLawful x s) (sym same) law) run.1))
-arrivals cap A (b ∷ L) (q ∷ R) few one agree run (suc i) line s r here law told B accepted =
+arrivals cap A (b ∷ L) (q ∷ R) few one agree run (suc i) line s r here law said B accepted =
     let same = Takes-unique A b q accepted.0 run.0 accepted.1 run.2 in
     arrivals cap run.0 L R (room-Takes cap A b q run.0 few run.1 run.2) (OneGame-tail b L one) (Agree-Takes A b L q run.0 one agree run.2) run.3
-    i line s r here law told B (subst (λ M. Accepted M (take i L) (take i R) B) same accepted.2)
-arrivals cap A [] (q ∷ R) few one agree run i line s r here law told B accepted = absurd run
-arrivals cap A (b ∷ L) [] few one agree run i line s r here law told B accepted = absurd run
+    i line s r here law said B (subst (λ M. Accepted M (take i L) (take i R) B) same accepted.2)
+arrivals cap A [] (q ∷ R) few one agree run i line s r here law said B accepted = absurd run
+arrivals cap A (b ∷ L) [] few one agree run i line s r here law said B accepted = absurd run
 
 pub lawful_arrives : (cap : ℕ) (L : List (List ℕ)) (R : List Answer) → OneGame L → AllowedRun cap [] L R
     → (i : ℕ) (line : List ℕ) (s : Submission) (r : Answer) → slice_get L i ≡ Some line → IsLawful line s → slice_get R i ≡ Some r
     → (A : List Submission) → Accepted [] (take i L) (take i R) A
     → ((n : ℕ) × (r ≡ Ok n)) ⊎ (((r ≡ Err Full) × IsNewId s.0 A × (length A ≡ cap)) ⊎ ((r ≡ Err Memory) × IsNewId s.0 A × (length A < cap)))
-lawful_arrives cap L R one run i line s r here law told A accepted = arrivals cap [] L R (omega arith) one (Agree-nil L) run i line s r here law told A accepted
+lawful_arrives cap L R one run i line s r here law said A accepted = arrivals cap [] L R (omega arith) one (Agree-nil L) run i line s r here law said A accepted
 
 -- ---- conflicts
 

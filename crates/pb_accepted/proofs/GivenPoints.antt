@@ -39,7 +39,7 @@ moves_back s (m ∷ ms) = ap (λ rest. m ∷ rest) (moves_back (after s m) ms)
 
 -- what the plies of one game give that count
 abbrev pub counted_of : Basis → Submission → List PlyPoints
-counted_of T s = map (given_by T.words s.1.outcome) (take T.rules.plies (plies s.1))
+counted_of T s = map (given_by T.randoms s.1.outcome) (take T.rules.plies (plies s.1))
 
 pub counted_one : (T : Basis) (s : Submission) → counted T (s ∷ []) ≡ counted_of T s
 counted_one T s = append-nil (counted_of T s)
@@ -51,7 +51,7 @@ counted_more T A s = flat_map-append (counted_of T) A (s ∷ [])
 -- no more plies than moves
 length-counted_of : (T : Basis) (s : Submission) → length (counted_of T s) ≤ length s.1.moves
 length-counted_of T s =
-    let many = length-map (take T.rules.plies (plies s.1)) (given_by T.words s.1.outcome) in
+    let many = length-map (take T.rules.plies (plies s.1)) (given_by T.randoms s.1.outcome) in
     omega (arith, many, length-take T.rules.plies (plies s.1), length-plies_from s.1.start.setup s.1.moves)
 
 pub length-counted_one : (T : Basis) (s : Submission) → length (counted T (s ∷ [])) ≤ length s.1.moves
@@ -66,9 +66,9 @@ length-counted T A games = omega (
 )
 
 -- what the first plies give is what the plies give that count
-pub counted_ply_points : (T : Basis) (s : Submission) (all first : List PlyPoints) → first ≡ take T.rules.plies all → all ≡ map (given_by T.words s.1.outcome) (plies s.1) → first ≡ counted T (s ∷ [])
+pub counted_ply_points : (T : Basis) (s : Submission) (all first : List PlyPoints) → first ≡ take T.rules.plies all → all ≡ map (given_by T.randoms s.1.outcome) (plies s.1) → first ≡ counted T (s ∷ [])
 counted_ply_points T s all first cut are =
-    cut ∙ ap (take T.rules.plies) are ∙ take-map (given_by T.words s.1.outcome) T.rules.plies (plies s.1) ∙ sym (counted_one T s)
+    cut ∙ ap (take T.rules.plies) are ∙ take-map (given_by T.randoms s.1.outcome) T.rules.plies (plies s.1) ∙ sym (counted_one T s)
 
 points_for-le : (o : Outcome) (side : Colour) → points_for o side ≤ 2
 points_for-le White side.White = omega arith
@@ -82,7 +82,7 @@ points_for-le Draw side.Black = omega arith
 small_of : (T : Basis) (s : Submission) → All (λ r. r.points ≤ 2) (counted_of T s)
 small_of T s =
     let first = take T.rules.plies (plies s.1) in
-    All-map (λ (r : PlyPoints). r.points ≤ 2) (given_by T.words s.1.outcome) first (λ j p lt. points_for-le s.1.outcome (get_or first j p).0.turn)
+    All-map (λ (r : PlyPoints). r.points ≤ 2) (given_by T.randoms s.1.outcome) first (λ j p lt. points_for-le s.1.outcome (get_or first j p).0.turn)
 
 pub small_ply_points : (T : Basis) (A : List Submission) → All (λ r. r.points ≤ 2) (counted T A)
 small_ply_points T [] = λ j d lt. absurd (omega (arith, lt))
@@ -141,7 +141,7 @@ stays : (o : Option Held) (b : Bool) (h : Held) → IsSome o → IsSome (if b th
 stays o true h there = refl
 stays o false h there = there
 
--- the ply at a place
+-- the ply at an index
 abbrev pub given_at : List PlyPoints → ℕ → PlyPoints
 given_at ply_points i = get_or ply_points i (record { key = 0; code = 0; points = 0 })
 
@@ -153,7 +153,7 @@ pub record Ensured (least : ℕ) (f g : Content) (ply_points : List PlyPoints) (
 pub Ensured-none : (least : ℕ) (f : Content) (ply_points : List PlyPoints) → Ensured least f f ply_points 0
 Ensured-none least f ply_points = record { same = λ k c. refl; there = λ j d lt _ _. absurd (omega (arith, lt)) }
 
--- at the next place is the ply that was looked at
+-- at the next index is the ply that was looked at
 at_next : (ply_points : List PlyPoints) (i j : ℕ) (d : PlyPoints) → j < i + 1 → i ≤ j → j < length ply_points → given_at ply_points i ≡ get_or ply_points j d
 at_next ply_points i j d lt from within =
     let same : j ≡ i = omega (arith, lt, from) in
@@ -165,15 +165,15 @@ Ensured-more least f g h ply_points i e made = record { same = λ k c. same_made
     r : PlyPoints
     r = given_at ply_points i
 
-    kept : (q : PlyPoints) → IsThere g q → IsThere h q
-    kept q had = subst IsSome (sym (made q.key q.code)) (stays (g q.key q.code) (is_pair r.key r.code q.key q.code) (held g q.key q.code) had)
+    stays_there : (q : PlyPoints) → IsThere g q → IsThere h q
+    stays_there q had = subst IsSome (sym (made q.key q.code)) (stays (g q.key q.code) (is_pair r.key r.code q.key q.code) (held g q.key q.code) had)
 
     now : IsThere h r
     now = subst IsSome (sym (made r.key r.code ∙ ap (λ b. if b then Some (held g r.key r.code) else g r.key r.code) (is_pair_itself r.key r.code))) refl
 
     there : (j : ℕ) (d : PlyPoints) → j < i + 1 → j < length ply_points → is_lost least (get_or ply_points j d) ≡ false → IsThere h (get_or ply_points j d)
     there j d lt within has = elim (cases_lt j i) [
-      | inl before ↦ kept (get_or ply_points j d) (e.there j d before within has)
+      | inl before ↦ stays_there (get_or ply_points j d) (e.there j d before within has)
       | inr from ↦ subst (IsThere h) (at_next ply_points i j d lt from within) now
     ]
 
@@ -278,14 +278,14 @@ pub Added-more : (least : ℕ) (f g h : Content) (old now ply_points : List PlyP
 Added-more least f g h old now ply_points i n lt has is e adds = record {
   sums = sums;
   beside = e.beside ∙ ap (λ l. old ++ l) (sym (lost_same least ply_points i lt has));
-  there = λ j d within there_j. kept (get_or ply_points j d) (e.there j d within there_j);
+  there = λ j d within there_j. stays_there (get_or ply_points j d) (e.there j d within there_j);
 }
   where
     r : PlyPoints
     r = given_at ply_points i
 
-    kept : (q : PlyPoints) → IsThere g q → IsThere h q
-    kept q had = subst IsSome (sym (adds q.key q.code)) (stays (g q.key q.code) (is_pair r.key r.code q.key q.code) (more n (held g q.key q.code)) had)
+    stays_there : (q : PlyPoints) → IsThere g q → IsThere h q
+    stays_there q had = subst IsSome (sym (adds q.key q.code)) (stays (g q.key q.code) (is_pair r.key r.code q.key q.code) (more n (held g q.key q.code)) had)
 
     held_now : (o : Option Held) (b : Bool) → unwrap_or (if b then Some (more n (unwrap_or o nothing)) else o) nothing ≡ (if b then more n (unwrap_or o nothing) else unwrap_or o nothing)
     held_now o true = refl

@@ -85,15 +85,15 @@ module _ {X : Type 0} where
   permutation_from_members [] [] h k to from = IsPermutation-refl []
   permutation_from_members [] (y ∷ ys) h k to from = absurd (none_in_nil y (from y (contains_head y ys)))
   permutation_from_members (x ∷ xs) ys h k to from =
-      let place = to x (contains_head x xs) in
-      let out = IsPermutation-remove ys place.0 x place.1 (sym place.2) in
-      let rest = permutation_from_members xs (remove ys place.0) (pairs_tail (λ x y. x ≢ y) x xs h) (all_pairs_remove (λ x y. x ≢ y) ys place.0 place.1 k)
-      (λ z c. elim (contains_cases x (remove ys place.0) z (Contains-permutation ys (x ∷ remove ys place.0) z out (to z (contains_tail x xs z c)))) [
+      let found = to x (contains_head x xs) in
+      let out = IsPermutation-remove ys found.0 x found.1 (sym found.2) in
+      let rest = permutation_from_members xs (remove ys found.0) (pairs_tail (λ x y. x ≢ y) x xs h) (all_pairs_remove (λ x y. x ≢ y) ys found.0 found.1 k)
+      (λ z c. elim (contains_cases x (remove ys found.0) z (Contains-permutation ys (x ∷ remove ys found.0) z out (to z (contains_tail x xs z c)))) [
         | inl e ↦ absurd (pairs_head (λ x y. x ≢ y) x xs z h c e)
         | inr here ↦ here
       ])
-      (λ z c. elim (contains_cases x xs z (from z (Contains-permutation (x ∷ remove ys place.0) ys z (IsPermutation-sym ys (x ∷ remove ys place.0) out) (contains_tail x (remove ys place.0) z c)))) [
-        | inl e ↦ absurd (gone ys place.0 x place.1 place.2 k (subst (Contains (remove ys place.0)) (sym e) c))
+      (λ z c. elim (contains_cases x xs z (from z (Contains-permutation (x ∷ remove ys found.0) ys z (IsPermutation-sym ys (x ∷ remove ys found.0) out) (contains_tail x (remove ys found.0) z c)))) [
+        | inl e ↦ absurd (gone ys found.0 x found.1 found.2 k (subst (Contains (remove ys found.0)) (sym e) c))
         | inr here ↦ here
       ]) in
-      IsPermutation-trans (x ∷ xs) (x ∷ remove ys place.0) ys (IsPermutation-cons x xs (remove ys place.0) rest) (IsPermutation-sym ys (x ∷ remove ys place.0) out)
+      IsPermutation-trans (x ∷ xs) (x ∷ remove ys found.0) ys (IsPermutation-cons x xs (remove ys found.0) rest) (IsPermutation-sym ys (x ∷ remove ys found.0) out)

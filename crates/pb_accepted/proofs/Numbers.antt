@@ -77,14 +77,14 @@ head_number cap A line r M b s n allowed taken e law f =
 
 pub repeats : (cap : ℕ) (A : List Submission) (L : List (List ℕ)) (R : List Answer) → AllowedRun cap A L R → HaveOwnIds A
     → (i j n : ℕ) (b c : List ℕ) (s : Submission) → i < j → slice_get L i ≡ Some b → IsLawful b s → slice_get R i ≡ Some (Ok n) → slice_get L j ≡ Some c → IsLawful c s → slice_get R j ≡ Some (Ok n)
-repeats cap A [] [] run own i j n b c s lt first law told here again = let no : None ≡ Some b = first in cc
-repeats cap A (line ∷ L) (r ∷ R) run own i zero n b c s lt first law told here again = absurd (omega (arith, lt))
-repeats cap A (line ∷ L) (r ∷ R) run own zero (suc j) n b c s lt first law told here again =
-    later cap run.0 L R run.3 (HaveOwnIds-Takes A line r run.0 run.2 own) n s (head_number cap A line r run.0 b s n run.1 run.2 first law told) j c here again
-repeats cap A (line ∷ L) (r ∷ R) run own (suc i) (suc j) n b c s lt first law told here again =
-    repeats cap run.0 L R run.3 (HaveOwnIds-Takes A line r run.0 run.2 own) i j n b c s (omega (arith, lt)) first law told here again
-repeats cap A [] (r ∷ R) run own i j n b c s lt first law told here again = absurd run
-repeats cap A (line ∷ L) [] run own i j n b c s lt first law told here again = absurd run
+repeats cap A [] [] run own i j n b c s lt first law said here again = let no : None ≡ Some b = first in cc
+repeats cap A (line ∷ L) (r ∷ R) run own i zero n b c s lt first law said here again = absurd (omega (arith, lt))
+repeats cap A (line ∷ L) (r ∷ R) run own zero (suc j) n b c s lt first law said here again =
+    later cap run.0 L R run.3 (HaveOwnIds-Takes A line r run.0 run.2 own) n s (head_number cap A line r run.0 b s n run.1 run.2 first law said) j c here again
+repeats cap A (line ∷ L) (r ∷ R) run own (suc i) (suc j) n b c s lt first law said here again =
+    repeats cap run.0 L R run.3 (HaveOwnIds-Takes A line r run.0 run.2 own) i j n b c s (omega (arith, lt)) first law said here again
+repeats cap A [] (r ∷ R) run own i j n b c s lt first law said here again = absurd run
+repeats cap A (line ∷ L) [] run own i j n b c s lt first law said here again = absurd run
 
 -- ---- the numbers that were given
 
@@ -94,14 +94,14 @@ Given L R n s = (j : ℕ) × (line : List ℕ) × (slice_get L j ≡ Some line) 
 -- what was answered is a number in the end
 given_number : (cap : ℕ) (A : List Submission) (L : List (List ℕ)) (R : List Answer) (B : List Submission) → AllowedRun cap A L R → Accepted A L R B
     → (n j : ℕ) (b : List ℕ) (s : Submission) → slice_get L j ≡ Some b → IsLawful b s → slice_get R j ≡ Some (Ok n) → IsNumber B n s
-given_number cap A [] [] B run accepted n j b s here law told = let no : None ≡ Some b = here in cc
-given_number cap A (line ∷ L) (r ∷ R) B run accepted n zero b s here law told =
-    IsNumber-Accepted accepted.0 L R B n s accepted.2 (head_number cap A line r accepted.0 b s n run.1 accepted.1 here law told)
-given_number cap A (line ∷ L) (r ∷ R) B run accepted n (suc j) b s here law told =
+given_number cap A [] [] B run accepted n j b s here law said = let no : None ≡ Some b = here in cc
+given_number cap A (line ∷ L) (r ∷ R) B run accepted n zero b s here law said =
+    IsNumber-Accepted accepted.0 L R B n s accepted.2 (head_number cap A line r accepted.0 b s n run.1 accepted.1 here law said)
+given_number cap A (line ∷ L) (r ∷ R) B run accepted n (suc j) b s here law said =
     let same = Takes-unique A line r run.0 accepted.0 run.2 accepted.1 in
-    given_number cap accepted.0 L R B (subst (λ M. AllowedRun cap M L R) same run.3) accepted.2 n j b s here law told
-given_number cap A [] (r ∷ R) B run accepted n j b s here law told = absurd run
-given_number cap A (line ∷ L) [] B run accepted n j b s here law told = absurd run
+    given_number cap accepted.0 L R B (subst (λ M. AllowedRun cap M L R) same run.3) accepted.2 n j b s here law said
+given_number cap A [] (r ∷ R) B run accepted n j b s here law said = absurd run
+given_number cap A (line ∷ L) [] B run accepted n j b s here law said = absurd run
 
 -- a number after one line stood before, or was answered
 number_before : (cap : ℕ) (A : List Submission) (line : List ℕ) (r : Answer) (M : List Submission) (n : ℕ) (s : Submission) → Allowed cap A line r → Takes A line r M → IsNumber M n s

@@ -1,5 +1,5 @@
 -- The games of a ledger by id.
-use Rattle.std.proofs.Common.{◌≡◌, ◌≢◌, ℕ, ◌+◌, ◌<◌, List, [], ◌∷◌, ◌++◌, length, Bool, true, false, Option, Some, None, IsSome, MatchOption, inl, inr, arith, refl, sym, ◌∙◌, true≢false}
+use Rattle.std.proofs.Common.{◌≡◌, ◌≢◌, ℕ, ◌+◌, ◌<◌, List, [], ◌∷◌, length, Bool, true, false, Option, Some, None, IsSome, MatchOption, inl, inr, arith, refl, sym, ◌∙◌, true≢false}
 use Rattle.std.specs.Bool.{Decides}
 use Rattle.std.specs.List.{AllByRecursion}
 use Rattle.std.specs.Map.{lookup, lookup_key}
@@ -9,7 +9,6 @@ use Rattle.std.proofs.lemmas.Map.{lookup-none, none_passes_from_lookup}
 use Rattle.std.proofs.lemmas.Map.Made.{lookup_key_same}
 use Rattle.std.proofs.lemmas.Option.{slice_get_cases}
 use Rattle.std.proofs.lemmas.Slice.Eq.{bytes_eq-Decides}
-use Rattle.pb_games.specs.declared.game.Game.{Game}
 use Rattle.pb_games.specs.Submissions.{Submission}
 use Rattle.pb_accepted.specs.Replying.{IsNewId, IsNumber}
 
@@ -29,25 +28,18 @@ IsNewId-absent A id none = All-from_recursion (λ s. s.0 ≢ id) A (by A (none_p
     by (s ∷ B) h = (λ e. true≢false (sym ((bytes_same id s.0).1 (sym e)) ∙ h.0), by B h.1)
 
 -- and a new one isn't found
-pub absent_from_new : (A : List Submission) (id own : List ℕ) → own ≡ id → IsNewId id A → lookup (bytes_eq own) A ≡ None
-absent_from_new A id own e fresh = lookup-none (bytes_eq own) A (by A (recursion_from_All (λ s. s.0 ≢ id) A fresh))
+pub absent_from_new : (A : List Submission) (id : List ℕ) → IsNewId id A → lookup (bytes_eq id) A ≡ None
+absent_from_new A id fresh = lookup-none (bytes_eq id) A (by A (recursion_from_All (λ s. s.0 ≢ id) A fresh))
   where
-    differ : (x : List ℕ) (b : Bool) → bytes_eq own x ≡ b → x ≢ id → b ≡ false
-    differ x true t apart = absurd (apart (sym ((bytes_same own x).0 t) ∙ e))
-    differ x false t apart = t_is
-      where
-        t_is : false ≡ false
-        t_is i = false
+    differ : (x : List ℕ) (b : Bool) → bytes_eq id x ≡ b → x ≢ id → b ≡ false
+    differ x true t apart = absurd (apart (sym ((bytes_same id x).0 t)))
+    differ x false t apart = refl
 
-    by : (B : List Submission) → AllByRecursion (λ s. s.0 ≢ id) B → AllByRecursion (λ s. bytes_eq own s.0 ≡ false) B
+    by : (B : List Submission) → AllByRecursion (λ s. s.0 ≢ id) B → AllByRecursion (λ s. bytes_eq id s.0 ≡ false) B
     by [] h = tt
-    by (s ∷ B) h = (differ s.0 (bytes_eq own s.0) (λ i. bytes_eq own s.0) h.0, by B h.1)
+    by (s ∷ B) h = (differ s.0 (bytes_eq id s.0) (λ i. bytes_eq id s.0) h.0, by B h.1)
 
--- what an insert of a new pair leaves
-pub inserted : (A B : List Submission) (own : List ℕ) (g : Game) (s : Submission) → own ≡ s.0 → g ≡ s.1 → B ≡ A ++ (own, g) ∷ [] → B ≡ A ++ s ∷ []
-inserted A B own g s f h b = b ∙ (λ i. A ++ (f i, h i) ∷ [])
-
--- below the length each place has a game
+-- below the length each index has a game
 pub game_there : {X : Type 0} (A : List Submission) (i : ℕ) (r : Option X) (P : X → Type 0) → i < length A → MatchOption r ((s : Submission) → ¬ IsNumber A (i + 1) s) P → IsSome r
 game_there A i None P lt none = elim (slice_get_cases A i).1 [
   | inl at ↦ absurd (none at.0 (i, refl, at.2))

@@ -13,12 +13,12 @@ use Rattle.pb_moves.specs.Attacks.{IsPlayable}
 use Rattle.pb_moves.specs.Played.{IsSpelled}
 use Rattle.pb_games.specs.declared.refusal.Refusal.{Refusal}
 use Rattle.pb_games.specs.declared.refusal.Refusal.TheVariants as refusal
-use Rattle.pb_games.specs.Header.{fields_of}
+use Rattle.pb_games.specs.Cuts.{fields_of}
 use Rattle.pb_games.specs.Ids.{IsId}
 use Rattle.pb_accepted.specs.Refusals.{IsRefused}
 use Rattle.pb_games.specs.Refusing.{SpellsStart}
 use Rattle.pb_games.specs.Refusing.{IsDue, Refuses}
-use Rattle.pb_games.specs.Words.{words_of}
+use Rattle.pb_games.specs.Tokens.{tokens_of}
 use Rattle.pb_games.proofs.Dues.{none_before, order}
 use Rattle.pb_accepted.specs.Replies.{named, reason}
 
@@ -28,31 +28,31 @@ why_of line e = named line (Err e) ++ 32 ∷ reason e
 
 -- where this refusal is the first, none before it is due, whatever is said
 module _ (line : List ℕ) (e : Refusal) (h : Refuses line e) where
-  abbrev parts : List (List ℕ)
-  parts = fields_of line
+  abbrev cells : List (List ℕ)
+  cells = fields_of line
 
   no_long : 1 < order e → ¬ (8192 < length line)
   no_long lt due = none_before line e h refusal.Long lt due
 
-  no_shape : 2 < order e → ¬ (length parts ≢ 4)
+  no_shape : 2 < order e → ¬ (length cells ≢ 4)
   no_shape lt due = none_before line e h refusal.Shape lt due
 
-  no_id : 3 < order e → ¬ ¬ IsId (field parts 0)
+  no_id : 3 < order e → ¬ ¬ IsId (field cells 0)
   no_id lt due = none_before line e h refusal.Id lt due
 
-  no_result : 4 < order e → ¬ IsDue line parts refusal.Result
+  no_result : 4 < order e → ¬ IsDue line cells refusal.Result
   no_result lt due = none_before line e h refusal.Result lt due
 
-  no_fen : 5 < order e → ¬ ((f : Record) → ¬ SpellsStart parts f)
-  no_fen lt due = complete (field parts 2) (λ c first. none_before line e h (refusal.Fen c) lt first) (λ f ok is. due f (ok, is))
+  no_fen : 5 < order e → ¬ ((f : Record) → ¬ SpellsStart cells f)
+  no_fen lt due = complete (field cells 2) (λ c first. none_before line e h (refusal.Fen c) lt first) (λ f ok is. due f (ok, is))
 
-  no_start : 6 < order e → (f : Record) → SpellsStart parts f → ¬ ¬ IsPlayable f.setup
+  no_start : 6 < order e → (f : Record) → SpellsStart cells f → ¬ ¬ IsPlayable f.setup
   no_start lt f spells bad = none_before line e h refusal.Start lt (f, spells, bad)
 
-  no_spelling : 7 < order e → (n : ℕ) → ¬ BreaksAt (All IsSpelled) (words_of (field parts 3)) n
+  no_spelling : 7 < order e → (n : ℕ) → ¬ BreaksAt (All IsSpelled) (tokens_of (field cells 3)) n
   no_spelling lt n due = none_before line e h (refusal.Spelling n) lt due
 
-  no_plies : 8 < order e → ¬ (1024 < length (words_of (field parts 3)))
+  no_plies : 8 < order e → ¬ (1024 < length (tokens_of (field cells 3)))
   no_plies lt due = none_before line e h refusal.Plies lt due
 
 pub refused_to : (line : List ℕ) (e : Refusal) → Refuses line e → IsRefused line (why_of line e)

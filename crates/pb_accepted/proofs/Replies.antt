@@ -30,11 +30,11 @@ game_of s = s.1
 pub one_submission : (b : List ℕ) (s t : Submission) → IsLawful b s → IsLawful b t → s ≡ t
 one_submission b s t h k = line.one_lawful b s t h k
 
--- ---- places of the list
+-- ---- indices of the list
 
--- what stands at a place has no new id
-pub place_of : (A : List Submission) (k : ℕ) (s : Submission) → slice_get A k ≡ Some s → IsNewId s.0 A → ⊥
-place_of A k s at new = new k s (slice_get_within A k s at) (ap id_of (get_or_from_slice_get A k s s at))
+-- what stands at an index has no new id
+pub held_not_new : (A : List Submission) (k : ℕ) (s : Submission) → slice_get A k ≡ Some s → IsNewId s.0 A → ⊥
+held_not_new A k s at new = new k s (slice_get_within A k s at) (ap id_of (get_or_from_slice_get A k s s at))
 
 -- ---- what may be answered to a lawful submission
 
@@ -66,9 +66,9 @@ pub new_answer : (cap : ℕ) (A : List Submission) (s : Submission) (r : Answer)
 new_answer cap A s r fresh h = by (answered cap A s r h)
   where
     by : Answered cap A s r → ((r ≡ Ok (length A + 1)) × (length A < cap)) ⊎ ((r ≡ Err Full) × (cap ≤ length A))
-    by (held n e at) = absurd (place_of A at.0 s at.2 fresh)
+    by (held n e at) = absurd (held_not_new A at.0 s at.2 fresh)
     by (new e _ room) = inl (e, room)
-    by (other n g e at _) = absurd (place_of A at.0 (s.0, g) at.2 fresh)
+    by (other n g e at _) = absurd (held_not_new A at.0 (s.0, g) at.2 fresh)
     by (full e _ many) = inr (e, many)
 
 -- ---- what `submit` answers and leaves, case by case
@@ -84,7 +84,7 @@ module _ (cap : ℕ) (A : List Submission) (line : List ℕ) (s : Submission) (l
   Allowed-memory fresh room = inr (refl, inl (s, lawful, inr (fresh, room, refl)))
 
   pub Takes-held : (k : ℕ) (g : Game) (r : Answer) → slice_get A k ≡ Some (s.0, g) → Takes A line r A
-  Takes-held k g r at = inr (λ t law fresh _. place_of A k (s.0, g) at (subst (λ x. IsNewId x A) (ap id_of (one_submission line t s law lawful)) fresh), refl)
+  Takes-held k g r at = inr (λ t law fresh _. held_not_new A k (s.0, g) at (subst (λ x. IsNewId x A) (ap id_of (one_submission line t s law lawful)) fresh), refl)
 
   pub Takes-new : (n : ℕ) → IsNewId s.0 A → Takes A line (Ok n) (A ++ s ∷ [])
   Takes-new n fresh = inl (s, lawful, fresh, (λ e. (cc), λ e. (cc)), refl)
@@ -153,9 +153,9 @@ room-Takes cap A line r M few allowed (inl t) =
 
 -- ---- where no id stands twice
 
--- an id has one place
-pub one_place : (A : List Submission) → HaveOwnIds A → (k l : ℕ) (s t : Submission) → slice_get A k ≡ Some s → slice_get A l ≡ Some t → s.0 ≡ t.0 → k ≡ l
-one_place A own k l s t h m e = by (cases_lt k l) (cases_lt l k)
+-- an id has one index
+pub one_index : (A : List Submission) → HaveOwnIds A → (k l : ℕ) (s t : Submission) → slice_get A k ≡ Some s → slice_get A l ≡ Some t → s.0 ≡ t.0 → k ≡ l
+one_index A own k l s t h m e = by (cases_lt k l) (cases_lt l k)
   where
     here : (d : Submission) → get_or A k d ≡ s
     here d = get_or_from_slice_get A k s d h
@@ -170,12 +170,12 @@ one_place A own k l s t h m e = by (cases_lt k l) (cases_lt l k)
 
 -- a submission has one number
 pub one_number : (A : List Submission) (m n : ℕ) (s : Submission) → HaveOwnIds A → IsNumber A m s → IsNumber A n s → m ≡ n
-one_number A m n s own h k = omega (arith, one_place A own h.0 k.0 s s h.2 k.2 refl, h.1, k.1)
+one_number A m n s own h k = omega (arith, one_index A own h.0 k.0 s s h.2 k.2 refl, h.1, k.1)
 
 -- one under another game's id has none
 no_number : (A : List Submission) (m n : ℕ) (s : Submission) (g : Game) → HaveOwnIds A → IsNumber A m (s.0, g) → g ≢ s.1 → IsNumber A n s → ⊥
 no_number A m n s g own h differs k =
-    let same = one_place A own h.0 k.0 (s.0, g) s h.2 k.2 refl in
+    let same = one_index A own h.0 k.0 (s.0, g) s h.2 k.2 refl in
     let both : Some (s.0, g) ≡ Some s = sym h.2 ∙ ap (slice_get A) same ∙ k.2 in
     let pair : (s.0, g) ≡ s = cc in
     differs (ap game_of pair)
@@ -183,9 +183,9 @@ no_number A m n s g own h differs k =
 -- a submission that is held is answered with its number
 held_answered : (cap : ℕ) (A : List Submission) (s : Submission) (n : ℕ) (r : Answer) → HaveOwnIds A → IsNumber A n s → Answered cap A s r → r ≡ Ok n
 held_answered cap A s n r own at (held m e h) = e ∙ ap (λ x. Ok x) (one_number A m n s own h at)
-held_answered cap A s n r own at (new e fresh room) = absurd (place_of A at.0 s at.2 fresh)
+held_answered cap A s n r own at (new e fresh room) = absurd (held_not_new A at.0 s at.2 fresh)
 held_answered cap A s n r own at (other m g e h differs) = absurd (no_number A m n s g own h differs at)
-held_answered cap A s n r own at (full e fresh many) = absurd (place_of A at.0 s at.2 fresh)
+held_answered cap A s n r own at (full e fresh many) = absurd (held_not_new A at.0 s at.2 fresh)
 
 reply_held : (cap : ℕ) (A : List Submission) (line : List ℕ) (s : Submission) (n : ℕ) (r : Answer) → HaveOwnIds A → IsLawful line s → IsNumber A n s → Reply cap A line r → r ≡ Ok n
 reply_held cap A line s n r own law at (inl h) =
@@ -204,17 +204,17 @@ one_answer : (cap : ℕ) (A : List Submission) (s : Submission) (q r : Answer) �
 one_answer cap A s q r own (held n e at) k = e ∙ sym (held_answered cap A s n r own at k)
 one_answer cap A s q r own (new e fresh room) (new f _ _) = e ∙ sym f
 one_answer cap A s q r own (new e fresh room) (full f _ many) = absurd (omega (arith, room, many))
-one_answer cap A s q r own (new e fresh room) (held n f at) = absurd (place_of A at.0 s at.2 fresh)
-one_answer cap A s q r own (new e fresh room) (other n g f at _) = absurd (place_of A at.0 (s.0, g) at.2 fresh)
+one_answer cap A s q r own (new e fresh room) (held n f at) = absurd (held_not_new A at.0 s at.2 fresh)
+one_answer cap A s q r own (new e fresh room) (other n g f at _) = absurd (held_not_new A at.0 (s.0, g) at.2 fresh)
 one_answer cap A s q r own (full e fresh many) (new f _ room) = absurd (omega (arith, room, many))
 one_answer cap A s q r own (full e fresh many) (full f _ _) = e ∙ sym f
-one_answer cap A s q r own (full e fresh many) (held n f at) = absurd (place_of A at.0 s at.2 fresh)
-one_answer cap A s q r own (full e fresh many) (other n g f at _) = absurd (place_of A at.0 (s.0, g) at.2 fresh)
+one_answer cap A s q r own (full e fresh many) (held n f at) = absurd (held_not_new A at.0 s at.2 fresh)
+one_answer cap A s q r own (full e fresh many) (other n g f at _) = absurd (held_not_new A at.0 (s.0, g) at.2 fresh)
 one_answer cap A s q r own (other n g e at differs) (held m f k) = absurd (no_number A n m s g own at differs k)
-one_answer cap A s q r own (other n g e at differs) (new f fresh _) = absurd (place_of A at.0 (s.0, g) at.2 fresh)
-one_answer cap A s q r own (other n g e at differs) (full f fresh _) = absurd (place_of A at.0 (s.0, g) at.2 fresh)
+one_answer cap A s q r own (other n g e at differs) (new f fresh _) = absurd (held_not_new A at.0 (s.0, g) at.2 fresh)
+one_answer cap A s q r own (other n g e at differs) (full f fresh _) = absurd (held_not_new A at.0 (s.0, g) at.2 fresh)
 one_answer cap A s q r own (other n g e at differs) (other m k f there _) =
-    let same = one_place A own at.0 there.0 (s.0, g) (s.0, k) at.2 there.2 refl in
+    let same = one_index A own at.0 there.0 (s.0, g) (s.0, k) at.2 there.2 refl in
     let number : n ≡ m = omega (arith, same, at.1, there.1) in
     e ∙ ap (λ x. Err (Conflict x)) number ∙ sym f
 

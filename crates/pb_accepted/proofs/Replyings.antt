@@ -7,7 +7,7 @@ use Rattle.std.proofs.lemmas.Option.{slice_get_within}
 use Rattle.pb_board.specs.Fields.{field}
 use Rattle.pb_board.specs.LineEnd.{with_end}
 use Rattle.pb_games.specs.declared.refusal.Refusal.TheVariants.{Conflict, Full, Memory}
-use Rattle.pb_games.specs.Header.{fields_of}
+use Rattle.pb_games.specs.Cuts.{fields_of}
 use Rattle.pb_games.specs.Submissions.{IsLawful, Submission}
 use Rattle.pb_games.proofs.Texts.{fields_back}
 use Rattle.pb_accepted.specs.Accepting.{Answer, Run, Step}
@@ -23,7 +23,7 @@ use Rattle.pb_accepted.proofs.Steps.{runs_number}
 
 -- the id that a lawful line names
 id_is : (line : List ℕ) (s : Submission) → IsLawful line s → field (fields_of line) 0 ≡ s.0
-id_is line s h = ap (λ (parts : List (List ℕ)). slice_index_or parts 0 []) (fields_back line s h)
+id_is line s h = ap (λ (cells : List (List ℕ)). slice_index_or cells 0 []) (fields_back line s h)
 
 module _ (line : List ℕ) (s : Submission) (law : IsLawful line s) where
   pub ok_is : (n : ℕ) → reply line (Ok n) ≡ ok s n
@@ -65,12 +65,12 @@ replies_are (line ∷ L) (r ∷ R) = ap (λ (rest : List ℕ). with_end (reply l
 one_some : {X : Type 0} (x y : X) → Some x ≡ Some y → x ≡ y
 one_some x y e = cc
 
-pub told : (L : List (List ℕ)) (R : List Answer) (i : ℕ) (line : List ℕ) (r : Answer) → slice_get L i ≡ Some line → slice_get R i ≡ Some r
+pub reply_at : (L : List (List ℕ)) (R : List Answer) (i : ℕ) (line : List ℕ) (r : Answer) → slice_get L i ≡ Some line → slice_get R i ≡ Some r
     → slice_get (reply_texts L R) i ≡ Some (reply line r)
-told [] R i line r here said = absurd (let no_line : None ≡ Some line = here in cc)
-told (l ∷ L) [] i line r here said = absurd (let no_answer : None ≡ Some r = said in cc)
-told (l ∷ L) (q ∷ R) zero line r here said = ap (λ (x : List ℕ). Some (reply x q)) (one_some l line here) ∙ ap (λ (x : Answer). Some (reply line x)) (one_some q r said)
-told (l ∷ L) (q ∷ R) (suc i) line r here said = told L R i line r here said
+reply_at [] R i line r here said = absurd (let no_line : None ≡ Some line = here in cc)
+reply_at (l ∷ L) [] i line r here said = absurd (let no_answer : None ≡ Some r = said in cc)
+reply_at (l ∷ L) (q ∷ R) zero line r here said = ap (λ (x : List ℕ). Some (reply x q)) (one_some l line here) ∙ ap (λ (x : Answer). Some (reply line x)) (one_some q r said)
+reply_at (l ∷ L) (q ∷ R) (suc i) line r here said = reply_at L R i line r here said
 
 pub told_back : (L : List (List ℕ)) (R : List Answer) (i : ℕ) (line text : List ℕ) → slice_get L i ≡ Some line → slice_get (reply_texts L R) i ≡ Some text
     → (r : Answer) × (slice_get R i ≡ Some r) × (text ≡ reply line r)
@@ -97,7 +97,7 @@ module _ (L : List (List ℕ)) (R : List Answer) (games : List Submission) (run 
   numbers = runs_number most_games L R games run
 
   ok_to : (i n : ℕ) (s : Submission) → (a : Arrives L i s) → slice_get R i ≡ Some (Ok n) → slice_get (reply_texts L R) i ≡ Some (ok s n)
-  ok_to i n s a at = told L R i a.0 (Ok n) a.1 at ∙ ap (λ (t : List ℕ). Some t) (ok_is a.0 s a.2 n)
+  ok_to i n s a at = reply_at L R i a.0 (Ok n) a.1 at ∙ ap (λ (t : List ℕ). Some t) (ok_is a.0 s a.2 n)
 
   -- the number of a game that is held is no more than a million
   small : (m : ℕ) (s : Submission) → IsNumber games m s → m ≤ 1000000

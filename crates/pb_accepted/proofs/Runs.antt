@@ -8,7 +8,7 @@ use Rattle.pb_accepted.proofs.Replies.{Takes-unique, HaveOwnIds-Takes}
 
 -- ---- steps
 
--- what each step keeps is kept
+-- what each step keeps stays
 pub Along-keeps : (Step : List Submission → List ℕ → Answer → List Submission → Type 0) (P : List Submission → Type 0)
     → ((A : List Submission) (line : List ℕ) (r : Answer) (B : List Submission) → Step A line r B → P A → P B)
     → (A : List Submission) (L : List (List ℕ)) (R : List Answer) (B : List Submission) → Along Step A L R B → P A → P B

@@ -151,14 +151,14 @@ scaled-le n M le = by (nat_le M 65535) refl
 abbrev Fits : PlyPoints → Type 0
 Fits p = (p.key < 2 ^ 64) × (p.code < 2 ^ 16)
 
-fits_of : (T : Basis) → IsTable T.words → (s : Submission) → IsSubmission s → All Fits (counted_of T s)
+fits_of : (T : Basis) → IsTable T.randoms → (s : Submission) → IsSubmission s → All Fits (counted_of T s)
 fits_of T table s legal =
     let first = take T.rules.plies (plies s.1) in
-    All-map Fits (given_by T.words s.1.outcome) first (all_of (λ (p : Ply). Fits (given_by T.words s.1.outcome p)) first (λ p here.
+    All-map Fits (given_by T.randoms s.1.outcome) first (all_of (λ (p : Ply). Fits (given_by T.randoms s.1.outcome p)) first (λ p here.
     let move : IsMove p.1 = All-contains IsMove s.1.moves p.1 legal.game.moves (moves_of_plies s.1.start.setup s.1.moves p (contains_take T.rules.plies (plies s.1) p here)) in
-    (key_below T.words p.0 table, code_below p.0 p.1 move)))
+    (key_below T.randoms p.0 table, code_below p.0 p.1 move)))
 
-fits : (T : Basis) → IsTable T.words → (S : List Submission) → All IsSubmission S → All Fits (counted T S)
+fits : (T : Basis) → IsTable T.randoms → (S : List Submission) → All IsSubmission S → All Fits (counted T S)
 fits T table [] legal = λ j d lt. absurd (omega (arith, lt))
 fits T table (s ∷ S) legal = All-append Fits (counted_of T s) (counted T S) (fits_of T table s (All-head IsSubmission s S legal)) (fits T table S (All-tail IsSubmission s S legal))
 

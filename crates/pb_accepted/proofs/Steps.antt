@@ -94,8 +94,8 @@ one_step most A line q r B C own h k no_q no_r =
     (same, Takes-unique A line q B C p.1 (subst (λ x. Takes A line x C) (sym same) t.1))
   where
     reply : (x : Answer) → Allowed most A line x → x ≢ Err Memory → Reply most A line x
-    reply x (inl h) kept = h
-    reply x (inr h) kept = absurd (kept h.0)
+    reply x (inl h) known = h
+    reply x (inr h) known = absurd (known h.0)
 
 pub held_step : laws.HeldIsAnswered
 held_step cap A line s n r B own law at h = allowed_held cap A line s n r own law at (step_to cap A line r B h).0
@@ -152,13 +152,13 @@ runs_number cap L R A run =
       repeats = λ i j n s lt was here. repeats_keep cap L R p.0 i j n was.0.0 here.0 s lt was.0.1 was.0.2 was.1 here.1 here.2;
     }
 
-pub one_effect : laws.HasOneEffect
+pub one_effect : laws.CountsOnce
 one_effect cap L R A one run =
     let p = run_to cap [] L R A run in record {
       taken = accepts_the_taken L R A one p.1;
       no_conflict = no_conflict cap L R one p.0;
-      arrivals = λ i s r B here told front.
-          lawful_arrives cap L R one p.0 i here.0 s r here.1 here.2 told B (run_to cap [] (take i L) (take i R) B front).1;
+      arrivals = λ i s r B here said front.
+          lawful_arrives cap L R one p.0 i here.0 s r here.1 here.2 said B (run_to cap [] (take i L) (take i R) B front).1;
     }
 
 -- no submission stands twice

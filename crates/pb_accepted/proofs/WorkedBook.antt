@@ -41,9 +41,9 @@ replied = (worked_submission ∷ [], new worked_submission (line.lawful, All-nil
 small : (j d : ℕ) → j < 781 → get_or (map (λ n. n * n) (range_with_len 0 781)) j d < 2 ^ 64
 small j d on = let below : j ≤ 781 = omega (arith, on) in omega (arith, get_or-map-range_with_len (λ n. n * n) 0 781 j j d on (omega arith), mul-le-mul_left j below)
 
-pub table : IsTable worked_basis.words
+pub table : IsTable worked_basis.randoms
 table =
-    let all : length worked_basis.words ≡ 781 = length-map-range_with_len (λ n. n * n) 0 781 in
+    let all : length worked_basis.randoms ≡ 781 = length-map-range_with_len (λ n. n * n) 0 781 in
     record { all = all; fit = λ j d lt. small j d (omega (arith, lt, all)) }
 
 -- ---- the plies that count

@@ -2,7 +2,7 @@
 use Rattle.std.specs.Prelude.{ℕ, List}
 use Rattle.pb_accepted.specs.Rules.{CountingRules}
 
--- the table's words, of which keys are made, and what of the games counts
+-- the random numbers of the table, of which keys are made, and what of the games counts
 pub record Basis : Type 0 where
-  pub words : List ℕ
+  pub randoms : List ℕ
   pub rules : CountingRules

@@ -32,7 +32,7 @@ given_by words o p =
 
 -- what the plies that count give: the first ones of each game
 abbrev pub counted : Basis → List Submission → List PlyPoints
-counted T S = flat_map (λ s. map (given_by T.words s.1.outcome) (take T.rules.plies (plies s.1))) S
+counted T S = flat_map (λ s. map (given_by T.randoms s.1.outcome) (take T.rules.plies (plies s.1))) S
 
 -- how often a key and a code occur, and their count, which is the sum of their points
 abbrev pub times : List PlyPoints → ℕ → ℕ → ℕ

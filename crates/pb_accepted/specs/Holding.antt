@@ -20,7 +20,7 @@ most_games = 1000000
 
 -- the rules that every ledger meets
 pub record IsLedger (l : LedgerState) : Type 0 where
-  pub table : IsTable l.basis.words
+  pub table : IsTable l.basis.randoms
   pub counting : AreRules l.basis.rules
   pub few : l.cap ≤ most_games
   pub room : length l.accepted ≤ l.cap

@@ -94,8 +94,8 @@ pub record OneEffect (cap : ℕ) (L : List (List ℕ)) (R : List Answer) (A : Li
       ⊎ ((r ≡ Err Memory) × IsNewId s.0 B × (length B < cap)))
 
 -- so it is in each run
-abbrev pub HasOneEffect : Type 0
-HasOneEffect = (cap : ℕ) (L : List (List ℕ)) (R : List Answer) (A : List Submission) → OneGame L
+abbrev pub CountsOnce : Type 0
+CountsOnce = (cap : ℕ) (L : List (List ℕ)) (R : List Answer) (A : List Submission) → OneGame L
     → Run cap [] L R A → OneEffect cap L R A
 
 -- ---- lists without repeats

@@ -12,24 +12,24 @@ use Rattle.pb_games.specs.declared.outcome.Outcome.{Outcome}
 use Rattle.pb_games.specs.Ids.{IsId}
 use Rattle.pb_games.specs.Refusing.{SpellsMoves, SpellsStart}
 use Rattle.pb_games.specs.Results.{outcome_text}
-use Rattle.pb_games.specs.Words.{words_of}
+use Rattle.pb_games.specs.Tokens.{tokens_of}
 
 -- each reason with what the reply says, in the order in which they are looked for; a move is named
 -- by its number, from 1
 abbrev pub reasons : List ℕ → List (List ℕ) → List (List ℕ → Type 0)
-reasons line parts = let id = field parts 0 in let words = words_of (field parts 3) in
+reasons line cells = let id = field cells 0 in let tokens = tokens_of (field cells 3) in
     (λ why. (why ≡ codes "- long") × (8192 < length line))
-    ∷ (λ why. (why ≡ codes "- shape") × (length parts ≢ 4))
+    ∷ (λ why. (why ≡ codes "- shape") × (length cells ≢ 4))
     ∷ (λ why. (why ≡ codes "- id") × ¬ IsId id)
-    ∷ (λ why. (why ≡ id ++ codes " result") × ((o : Outcome) → field parts 1 ≢ outcome_text o))
-    ∷ (λ why. (why ≡ id ++ codes " fen") × ((f : Record) → ¬ SpellsStart parts f))
+    ∷ (λ why. (why ≡ id ++ codes " result") × ((o : Outcome) → field cells 1 ≢ outcome_text o))
+    ∷ (λ why. (why ≡ id ++ codes " fen") × ((f : Record) → ¬ SpellsStart cells f))
     ∷ (λ why. (why ≡ id ++ codes " start")
-    × (f : Record) × SpellsStart parts f × ¬ IsPlayable f.setup)
+    × (f : Record) × SpellsStart cells f × ¬ IsPlayable f.setup)
     ∷ (λ why. (n : ℕ) × (why ≡ id ++ codes " spelling " ++ decimal n)
-    × BreaksAt (All IsSpelled) words n)
-    ∷ (λ why. (why ≡ id ++ codes " plies") × (1024 < length words))
+    × BreaksAt (All IsSpelled) tokens n)
+    ∷ (λ why. (why ≡ id ++ codes " plies") × (1024 < length tokens))
     ∷ (λ why. (n : ℕ) × (f : Record) × (moves : List Moved)
-    × (why ≡ id ++ codes " illegal " ++ decimal n) × SpellsStart parts f × SpellsMoves words moves
+    × (why ≡ id ++ codes " illegal " ++ decimal n) × SpellsStart cells f × SpellsMoves tokens moves
     × BreaksAt (AreLegal f.setup) moves n)
     ∷ []
 
@@ -38,6 +38,6 @@ abbrev pub IsFirst : List (List ℕ → Type 0) → List ℕ → Type 0
 IsFirst [] why = ⊥
 IsFirst (IsDue ∷ others) why = IsDue why ⊎ (((w : List ℕ) → ¬ IsDue w) × IsFirst others why)
 
--- the parts are those between TABs, of the line without one final CR
+-- the cells are those between TABs, of the line without one final CR
 abbrev pub IsRefused : List ℕ → List ℕ → Type 0
 IsRefused line why = IsFirst (reasons line (fields 9 (strip_carriage_return line))) why

@@ -7,7 +7,7 @@ use Rattle.pb_accepted.specs.Rules.{all_plies}
 
 -- the squares of the numbers from 0 to 780 stand for the random ones
 abbrev pub worked_basis : Basis
-worked_basis = record { words = map (λ n. n * n) (range_with_len 0 781); rules = all_plies }
+worked_basis = record { randoms = map (λ n. n * n) (range_with_len 0 781); rules = all_plies }
 
 -- Black's two moves, d8h4 and e7e5; White's have no points
 abbrev pub worked_book : List Entry

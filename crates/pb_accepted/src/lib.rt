@@ -1,6 +1,5 @@
 //! The ledger: games by id, each counted once however often it comes, and their book. Begin with
-//! `Ledger::new`, `submit` and `make_book`; `Reply` answers a line. Streams and files are the
-//! business of the crates above.
+//! `Ledger::new`, `submit` and `make_book`; `Reply` answers a line.
 #![tactic(auto)]
 
 pub mod laws;

@@ -6,8 +6,7 @@ ghost use Rattle.pb_accepted.specs.Counting.{times};
 use crate::ply_points::PlyPoints;
 use std::marker::Model;
 
-/// A ply of the side that lost: the key of the setup before the move, and the code of the move. It
-/// takes 10 bytes, and not 16, as a row of the tally does.
+/// Takes 10 bytes, and not 16, as a row of the tally does.
 #[derive(Drop)]
 pub(crate) struct LostPly {
     key: [u8; 8],
@@ -24,7 +23,6 @@ impl Model for LostPly {
 }
 
 impl LostPly {
-    /// Takes over a ply without points.
     #[inline(always)]
     pub(crate) fn of(given: &PlyPoints) -> LostPly
         requires { given.now.points ≡ 0 }
@@ -36,7 +34,6 @@ impl LostPly {
         }
     }
 
-    /// Tells whether the ply is of this key and this code.
     #[inline(always)]
     fn is_of(&self, key: u64, code: u16) -> bool
         ensures { result ≡ (self.now.key == key && self.now.code == code) }
@@ -45,7 +42,6 @@ impl LostPly {
     }
 }
 
-/// Counts the plies of a key and a code.
 pub(crate) fn lost_times(lost: &[LostPly], key: u64, code: u16) -> u64
     ensures { result ≡ times lost.now key code }
 {

@@ -8,7 +8,7 @@ use pb_games::MAX_PLIES;
 use pb_moves::Move;
 use std::alloc::{AllocError, Global};
 
-/// Plies and moves in two buffers, each with room for the most plies of a game.
+/// Has room for the most plies of a game.
 #[derive(Drop)]
 pub(crate) struct PlyLog {
     pub(crate) ply_points: Vec<PlyPoints>,
@@ -18,7 +18,6 @@ pub(crate) struct PlyLog {
 }
 
 impl PlyLog {
-    /// Empty buffers.
     pub(crate) fn new(alloc: Global) -> Result<PlyLog, AllocError> {
         Ok(PlyLog {
             ply_points: Vec::with_capacity(alloc, MAX_PLIES as usize)?,
@@ -26,7 +25,7 @@ impl PlyLog {
         })
     }
 
-    /// Empties the buffers, and keeps their memory.
+    /// Keeps the memory.
     pub(crate) fn clear(&mut self)
         ensures ply_points { self.new.ply_points.items ≡ [] }
         ensures moves { self.new.moves.items ≡ [] }
@@ -35,7 +34,6 @@ impl PlyLog {
         self.moves.clear();
     }
 
-    /// Adds a ply, for which there is room.
     #[inline(always)]
     pub(crate) fn add(&mut self, given: PlyPoints, m: Move)
         requires ply_points { vec_len self.old.ply_points < MAX_PLIES }

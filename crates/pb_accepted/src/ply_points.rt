@@ -13,19 +13,15 @@ use pb_games::Outcome;
 use pb_points::Tally;
 use std::alloc::AllocError;
 
-/// What a ply gives: its points, 0 to 2, to a move in a setup.
 #[derive(Clone, Copy)]
 pub(crate) struct PlyPoints {
     /// The key of the setup before the move.
     pub(crate) key: u64,
-    /// The code of the move.
     pub(crate) code: u16,
-    /// Two points for a ply of the side that won, one in a drawn game, none for a ply of the side
-    /// that lost.
+    /// 2 for a ply of the side that won, 1 in a drawn game, 0 for the side that lost.
     pub(crate) points: u8,
 }
 
-/// The points of a ply of this side.
 pub(crate) fn points_for(outcome: Outcome, side: Colour) -> u8
     ensures { result ≡ points_for_by outcome side }
 {
@@ -36,14 +32,13 @@ pub(crate) fn points_for(outcome: Outcome, side: Colour) -> u8
     }
 }
 
-/// The first of the game's plies, as many as the rules count.
 pub(crate) fn counted(ply_points: &[PlyPoints], rules: Rules) -> &[PlyPoints]
     ensures { result.now ≡ take rules.plies ply_points.now }
 {
     &ply_points[..ply_points.len().min(rules.plies() as usize)]
 }
 
-/// Tells whether a ply stands beside the tally, where an entry needs so many occurrences.
+/// Tells whether a ply stands beside the tally, and has no row in it.
 #[inline(always)]
 fn is_lost(given: &PlyPoints, least: u32) -> bool
     ensures { result ≡ is_lost least given.now }
@@ -51,8 +46,7 @@ fn is_lost(given: &PlyPoints, least: u32) -> bool
     least == 1 && given.points == 0
 }
 
-/// Makes a row for each ply that has one, and room for the others beside the tally. No points
-/// change.
+/// Makes a row for each ply that has one, and room for the others beside the tally.
 pub(crate) fn make_room<T: Tally>(
     tally: &mut T,
     lost: &mut Vec<LostPly>,
@@ -77,7 +71,6 @@ pub(crate) fn make_room<T: Tally>(
     lost.reserve(count)
 }
 
-/// Adds each ply with its points to the tally, or puts it into the list beside it.
 pub(crate) fn add_ply_points<T: Tally>(
     tally: &mut T,
     lost: &mut Vec<LostPly>,

@@ -1,8 +1,8 @@
-//! A visitor that writes down what each ply gives, so that a line is read once and its moves are
-//! played once.
+//! Writes down what each ply of a line gives, so that its moves are played once.
 
-ghost use Rattle.std.specs.Prelude.{◌≡◌, IfErr, IfOk, Ok};
+ghost use Rattle.std.specs.Prelude.{◌≡◌, ℕ, List, IfErr, IfOk, Ok};
 ghost use Rattle.pb_board.specs.Initial.{initial};
+ghost use Rattle.pb_games.specs.Cuts.{IsCut};
 ghost use Rattle.pb_games.specs.Refusing.{Refuses};
 ghost use Rattle.pb_games.specs.Submissions.{IsLawful, Submission};
 ghost use Rattle.pb_poly.specs.Key.{key as key_by};
@@ -11,13 +11,12 @@ ghost use Rattle.pb_accepted.specs.Noting.{HasNoted};
 use crate::ply_log::PlyLog;
 use crate::ply_points::{PlyPoints, points_for};
 use pb_board::{Colour, Setup};
-use pb_games::{Game, Line, MoveList, MoveVisitor, Outcome, Refusal, judge_line};
+use pb_games::{Game, Line, LineFields, MoveList, MoveVisitor, Outcome, Refusal, judge_fields};
 use pb_moves::{Move, legal_effect};
 use pb_poly::{Table, code_by, key_next, key_of};
 use std::alloc::{AllocError, Global};
 
-/// Plays the moves of a game, and writes down what each gives. Its buffers are made with it, so
-/// that a ply takes no memory.
+/// Its buffers are made with it, so that a ply takes no memory.
 #[derive(Drop)]
 pub(crate) struct Recorder {
     table: Table,
@@ -32,7 +31,6 @@ pub(crate) struct Recorder {
 }
 
 impl Recorder {
-    /// A recorder that makes keys by a copy of this table.
     pub(crate) fn new(alloc: Global, table: &Table) -> Result<Recorder, AllocError>
         ensures { IfOk result (λ r. r.table ≡ table.now) }
     {
@@ -46,26 +44,27 @@ impl Recorder {
         })
     }
 
-    /// The table.
     pub(crate) fn table(&self) -> &Table
         ensures { result.now ≡ self.now.table }
     {
         &self.table
     }
 
-    /// Judges a line as `check_line` does. Where it submits a legal game, the game's moves and what
-    /// they give are written down.
-    pub(crate) fn judge<'a>(&mut self, line: &'a [u8]) -> Result<Line<'a>, Refusal>
-        ensures found { IfOk result (λ s. IsLawful line.now s) }
-        ensures only { (s : Submission) → IsLawful line.now s → result ≡ Ok s }
-        ensures refused { IfErr result (λ e. Refuses line.now e) }
+    pub(crate) fn judge<'a>(&mut self, fields: LineFields<'a>) -> Result<Line<'a>, Refusal>
+        requires { (line : List ℕ) × IsCut line fields }
+        ensures found { (line : List ℕ) → IsCut line fields.entry
+            → IfOk result (λ s. IsLawful line s) }
+        ensures only { (line : List ℕ) → IsCut line fields.entry
+            → (s : Submission) → IsLawful line s → result ≡ Ok s }
+        ensures refused { (line : List ℕ) → IsCut line fields.entry
+            → IfErr result (λ e. Refuses line e) }
         ensures noted { IfOk result (λ s. HasNoted self.new.table self.new.log s.1) }
         ensures table { self.new.table ≡ self.old.table }
     {
-        judge_line(line, self)
+        judge_fields(fields, self)
     }
 
-    /// The game of the line that was judged last. Memory is taken for its moves.
+    /// Gives the game of the line that was judged last.
     pub(crate) fn game(&self, alloc: Global, line: &Line<'_>) -> Result<Game, AllocError>
         requires { HasNoted self.now.table self.now.log line.now.1 }
         ensures { IfOk result (λ g. g ≡ line.now.1) }
@@ -77,7 +76,6 @@ impl Recorder {
         })
     }
 
-    /// What the plies of the game give that was judged last.
     pub(crate) fn ply_points(&self) -> &[PlyPoints]
         ensures { result.now ≡ self.now.log.ply_points.items }
     {

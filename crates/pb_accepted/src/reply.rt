@@ -11,8 +11,8 @@ use pb_board::{cut_once, without_return};
 use pb_games::Refusal;
 use std::marker::Model;
 
-/// The reply line to a submission line, with its LF: `ok ID NUMBER`, or `refused ID REASON` with a
-/// `-` in place of an id that isn't there. It has at most 93 bytes and takes no memory of its own.
+/// Holds the reply line to a submission line, with its LF: `ok ID NUMBER`, or `refused ID REASON`
+/// with a `-` in place of an id that isn't there. It takes no memory of its own.
 #[derive(Drop)]
 pub struct Reply {
     bytes: ArrayVec<u8, 96>,
@@ -27,8 +27,8 @@ impl Model for Reply {
 }
 
 impl Reply {
-    /// The reply to the line, without its LF, that was answered so. A line that is refused as
-    /// `Long`, `Shape` or `Id` isn't looked at, and its reply names `-`.
+    /// Makes the reply to the line, without its LF, that was answered so. It names `-` where the
+    /// line is refused as `Long`, `Shape` or `Id`.
     pub fn new(line: &[u8], answer: Result<u32, Refusal>) -> Reply
         requires { length (named line.now answer) ≤ 64 }
         ensures { result ≡ reply_line line.now answer }
@@ -53,14 +53,13 @@ impl Reply {
         reply
     }
 
-    /// The bytes of the line.
+    /// Gives the bytes of the line.
     pub fn as_bytes(&self) -> &[u8]
         ensures { result.now ≡ self.now }
     {
         self.bytes.as_slice()
     }
 
-    /// Adds why a line is refused.
     fn add_reason(&mut self, refusal: Refusal)
         requires { length self.old + 19 ≤ 96 }
         ensures text { self.new ≡ self.old ++ reason refusal }
@@ -82,27 +81,24 @@ impl Reply {
         }
     }
 
-    /// Adds a word and a number in decimal.
-    fn add_number(&mut self, word: &[u8], number: u32)
-        requires { length self.old + length word.now + 10 ≤ 96 }
-        ensures text { self.new ≡ self.old ++ (word.now ++ decimal number) }
+    fn add_number(&mut self, before: &[u8], number: u32)
+        requires { length self.old + length before.now + 10 ≤ 96 }
+        ensures text { self.new ≡ self.old ++ (before.now ++ decimal number) }
         ensures short { length (decimal number) ≤ 10 }
     {
-        self.add(word);
+        self.add(before);
         let mut digits = Buffer::new();
         self.add(digits.format(number).as_bytes());
     }
 
-    /// Adds bytes at the end.
-    fn add(&mut self, part: &[u8])
-        requires { length self.old + length part.now ≤ 96 }
-        ensures { self.new ≡ self.old ++ part.now }
+    fn add(&mut self, text: &[u8])
+        requires { length self.old + length text.now ≤ 96 }
+        ensures { self.new ≡ self.old ++ text.now }
     {
-        self.bytes.try_extend_from_slice(part).unwrap();
+        self.bytes.try_extend_from_slice(text).unwrap();
     }
 }
 
-/// The id that stands in the reply to a refused line.
 fn id_beside(line: &[u8], refusal: Refusal) -> &[u8]
     ensures { result.now ≡ named line.now (Err refusal) }
 {
@@ -112,8 +108,7 @@ fn id_beside(line: &[u8], refusal: Refusal) -> &[u8]
     }
 }
 
-/// The first field of a line that is cut at every TAB.
-pub(crate) fn first_field(line: &[u8]) -> &[u8]
+fn first_field(line: &[u8]) -> &[u8]
     ensures { result.now ≡ field (fields tab (strip_carriage_return line.now)) 0 }
 {
     let line = without_return(line);

@@ -6,12 +6,12 @@ ghost use Rattle.pb_accepted.specs.Rules.{AreRules, CountingRules, all_plies};
 use pb_games::MAX_PLIES;
 use std::marker::Model;
 
-/// The most occurrences that a move may be asked for.
+/// Bounds the occurrences that a move may be asked for.
 pub const MAX_LEAST: u32 = 1_000_000;
 
-/// How many first plies of each game count, and how often a move must occur in them to be in the
-/// book.
-#[derive(Clone, Copy, Debug, PartialEq, Eq)]
+/// Tells how many first plies of each game count, and how often a move must occur in them to be in
+/// the book.
+#[derive(Clone, Copy, Debug)]
 pub struct Rules {
     plies: u32,
     least: u32,
@@ -30,8 +30,7 @@ impl Model for Rules {
 }
 
 impl Rules {
-    /// The rules with these numbers. None exactly where `plies` isn't in 1 to 1,024, or `least` not
-    /// in 1 to 1,000,000.
+    /// Makes rules where `plies` is in 1 to 1,024 and `least` in 1 to 1,000,000, and of no others.
     pub fn new(plies: u32, least: u32) -> Option<Rules>
         ensures { SomeIff result (AreRules (record { plies = plies; least = least }))
             (record { plies = plies; least = least }) }
@@ -43,7 +42,7 @@ impl Rules {
         }
     }
 
-    /// All plies of each game count, and no move is left out since it occurs too seldom.
+    /// Makes rules by which all plies count, and each move.
     pub fn all_plies() -> Rules
         ensures { result ≡ all_plies }
     {
@@ -53,7 +52,7 @@ impl Rules {
         }
     }
 
-    /// How many first plies of each game count, 1 to 1,024.
+    /// Tells how many first plies of each game count, 1 to 1,024.
     pub fn plies(self) -> u32
         ensures value { result ≡ self.plies }
         ensures rules { AreRules self }
@@ -61,7 +60,7 @@ impl Rules {
         self.plies
     }
 
-    /// How often a move must occur in the plies that count to be in the book, 1 to 1,000,000.
+    /// Tells how often a move must occur to be in the book, 1 to 1,000,000.
     pub fn least(self) -> u32
         ensures value { result ≡ self.least }
         ensures rules { AreRules self }

@@ -16,7 +16,7 @@ use Rattle.pb_board.specs.declared.bitboards.Bitboards.{Bitboards}
 use Rattle.pb_board.specs.declared.setup.MovedPiece.{MovedPiece}
 use Rattle.pb_board.specs.declared.setup.Rights.{Rights}
 use Rattle.pb_board.specs.MovedPiece.{with_moved}
-use Rattle.pb_board.specs.Kept.{KeepsBitboards}
+use Rattle.pb_board.specs.SetupRules.{HasBitboards}
 use Rattle.pb_board.specs.Position.{IsSetup, Position, position_of}
 use Rattle.pb_board.specs.Piece.{colour_number, kind_number, piece_of}
 use Rattle.pb_board.specs.Board.{Place, Board, Holds, at, is_piece}
@@ -100,7 +100,7 @@ place_told (Some p) false c k stands side kind = absurd (false≢true (stands.1 
 
 -- bitboards of a board that makes a setup keep it
 pub keeps_setup : (m : Bitboards) (b : Board) (turn : Colour) (rights : Rights) (ep : Option ℕ) → m ≡ bitboards_of b → IsSetup (position_of b turn rights ep)
-    → KeepsBitboards (position_of (board_of m) turn rights ep) m
+    → HasBitboards (position_of (board_of m) turn rights ep) m
 keeps_setup m b turn rights ep e rules = rw (board_back m b rules.places e) (record { rules = rules; bitboards_are = e })
 
 pub setup_is : (m : Bitboards) (b : Board) (turn : Colour) (rights : Rights) (ep : Option ℕ) → length b ≡ 64 → m ≡ bitboards_of b
@@ -108,9 +108,9 @@ pub setup_is : (m : Bitboards) (b : Board) (turn : Colour) (rights : Rights) (ep
 setup_is m b turn rights ep full e = ap (λ (x : Board). position_of x turn rights ep) (board_back m b full e)
 
 -- what an opened setup's invariant tells of the position that it is seen as
-pub opened : (m : Bitboards) (turn : Colour) (rights : Rights) (ep : Option ℕ) (s : Position) → KeepsBitboards (position_of (board_of m) turn rights ep) m
-    → position_of (board_of m) turn rights ep ≡ s → KeepsBitboards s m
-opened m turn rights ep s kept is = subst (λ (p : Position). KeepsBitboards p m) is kept
+pub opened : (m : Bitboards) (turn : Colour) (rights : Rights) (ep : Option ℕ) (s : Position) → HasBitboards (position_of (board_of m) turn rights ep) m
+    → position_of (board_of m) turn rights ep ≡ s → HasBitboards s m
+opened m turn rights ep s kept is = subst (λ (p : Position). HasBitboards p m) is kept
 
 pub length-moved : (b : Board) (moved : MovedPiece) → length b ≡ 64 → length (with_moved b moved) ≡ 64
 length-moved b moved full = length-set (slice_set b moved.from None) moved.to (Some moved.piece) ∙ length-set b moved.from None ∙ full

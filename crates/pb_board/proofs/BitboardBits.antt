@@ -14,7 +14,7 @@ use Rattle.pb_board.specs.declared.piece.Kind.TheVariants.{Pawn}
 use Rattle.pb_board.specs.declared.piece.Piece.{Piece}
 use Rattle.pb_board.specs.declared.bitboards.Bitboards.{Bitboards}
 use Rattle.pb_board.specs.Board.{Place, Board, at, Holds, IsEmpty, is_piece}
-use Rattle.pb_board.proofs.PieceTests.{colour_one, kind_one, is_piece-is, is_piece-passes, piece_number-parts}
+use Rattle.pb_board.proofs.PieceTests.{colour_one, kind_one, is_piece-is, is_piece-passes, piece_number-halves}
 use Rattle.pb_board.specs.Piece.{colour_number, kind_number, piece_of}
 use Rattle.pb_board.specs.Bitboards.{is_side, is_kind, bit_for, bitboard_of, bitboards_of, colours, kinds}
 
@@ -197,7 +197,7 @@ kind_told x k = (
 
 both_bits : (x : Place) (p : Piece) → min (bit_for (is_side p.colour x)) (bit_for (is_kind p.kind x)) ≡ bit_for (is_piece p x)
 both_bits None p = refl
-both_bits (Some r) p = min_bits (colour_number r.colour == colour_number p.colour) (kind_number r.kind == kind_number p.kind) ∙ ap bit_for (piece_number-parts r p)
+both_bits (Some r) p = min_bits (colour_number r.colour == colour_number p.colour) (kind_number r.kind == kind_number p.kind) ∙ ap bit_for (piece_number-halves r p)
 
 -- the bit of a square in the bitboards of a piece's side and kind
 pub piece_bit : (b : Board) (q : ℕ) (p : Piece)

@@ -90,9 +90,9 @@ board_rank text board after n rest first next squares h lt cut is size put = rec
       };
   spells = λ b len a.
       let both : rank_of b n ++ drop (8 * suc n) b ≡ squares ++ drop (8 * suc n) board = sym (rank_cut b n) ∙ a.done ∙ put in
-      let parts = same_front (rank_of b n) squares (drop (8 * suc n) b) (drop (8 * suc n) board) (rank_len b n len lt ∙ sym is.len) both in
-      let spelt : RankText (rank_of b n) first = (is.same (rank_of b n) (rank_len b n len lt)).1 parts.0 in
-      h.spells b len (record { done = parts.1; below = subst (λ (ts : List (List ℕ)). AllZip RankText (rank_of b n ∷ ranks_down b n) ts) (sym cut) (spelt, a.below) });
+      let halves = same_front (rank_of b n) squares (drop (8 * suc n) b) (drop (8 * suc n) board) (rank_len b n len lt ∙ sym is.len) both in
+      let spelt : RankText (rank_of b n) first = (is.same (rank_of b n) (rank_len b n len lt)).1 halves.0 in
+      h.spells b len (record { done = halves.1; below = subst (λ (ts : List (List ℕ)). AllZip RankText (rank_of b n ∷ ranks_down b n) ts) (sym cut) (spelt, a.below) });
 }
 
 pub board_uncut : (text : List ℕ) (board : List Place) (n : ℕ) (rest : List ℕ) → InBoard text board (suc (suc n)) rest → rows rest ≡ rest ∷ [] → (b : List Place) → length b ≡ 64 → PlacementText b text → ⊥
@@ -125,10 +125,10 @@ board_done text board after rest squares h is size put b len = (
       rank_cut b 0 ∙ ap (λ (w : List Place). w ++ drop 8 b) same ∙ ap (λ (w : List Place). squares ++ w) a.done ∙ sym put,
   λ e.
       let both : rank_of b 0 ++ drop 8 b ≡ squares ++ drop 8 board = sym (rank_cut b 0) ∙ e ∙ put in
-      let parts = same_front (rank_of b 0) squares (drop 8 b) (drop 8 board) (rank_len b 0 len (omega arith) ∙ sym is.len) both in
-      let spelt : RankText (rank_of b 0) rest = (is.same (rank_of b 0) (rank_len b 0 len (omega arith))).1 parts.0 in
+      let halves = same_front (rank_of b 0) squares (drop 8 b) (drop 8 board) (rank_len b 0 len (omega arith) ∙ sym is.len) both in
+      let spelt : RankText (rank_of b 0) rest = (is.same (rank_of b 0) (rank_len b 0 len (omega arith))).1 halves.0 in
       h.spells b len (record {
-        done = parts.1;
+        done = halves.1;
         below = subst (λ (ts : List (List ℕ)). AllZip RankText (rank_of b 0 ∷ []) ts) (sym (split_one 47 rest (rank_above (rank_of b 0) rest spelt))) (spelt, tt);
       }),
 )
@@ -157,5 +157,5 @@ row_turn text board ys squares row a k rest first next lt h a-is k-is cut same l
     let put : drop (8 * (7 - row)) (put_mid a k board ys) ≡ squares ++ drop (8 * suc (7 - row)) board = rw (← low, ← high) (put_rank a k board ys squares fits k-is same) in
     rw n-is (board_rank text board (put_mid a k board ys) (7 - row) rest first next squares here (omega arith) cut (record { len = sym (ap length same) ∙ len; same = is }) (length-put a k board ys fits k-is len ∙ h.size) put)
 
-pub length-part : (a k : ℕ) (xs : List Place) → a + 8 ≤ length xs → k ≡ 8 → length (take k (drop a xs)) ≡ 8
-length-part a k xs fits k-is = omega (arith, length-take k (drop a xs), length-drop a xs)
+pub length-chunk : (a k : ℕ) (xs : List Place) → a + 8 ≤ length xs → k ≡ 8 → length (take k (drop a xs)) ≡ 8
+length-chunk a k xs fits k-is = omega (arith, length-take k (drop a xs), length-drop a xs)

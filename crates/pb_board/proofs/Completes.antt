@@ -25,29 +25,29 @@ six_are (_ ∷ _ ∷ _ ∷ _ ∷ _ ∷ _ ∷ []) six = refl
 six_are (_ ∷ _ ∷ _ ∷ _ ∷ _ ∷ _ ∷ _ ∷ _) six = absurd (omega (arith, six))
 
 module _ (text : List ℕ) where
-  abbrev parts : List (List ℕ)
-  parts = fields 32 text
+  abbrev texts : List (List ℕ)
+  texts = fields 32 text
 
   -- none of these errors is the first that is due
   abbrev NoneOf : List FenError → Type 0
-  NoneOf errors = (e : FenError) → ¬ IsFirstOf errors (IsDueFen parts) e
+  NoneOf errors = (e : FenError) → ¬ IsFirstOf errors (IsDueFen texts) e
 
-  not_due : (d : FenError) (errors : List FenError) → NoneOf (d ∷ errors) → ¬ IsDueFen parts d
-  not_due d errors none due = none d (first_here (IsDueFen parts) d errors due)
+  not_due : (d : FenError) (errors : List FenError) → NoneOf (d ∷ errors) → ¬ IsDueFen texts d
+  not_due d errors none due = none d (first_here (IsDueFen texts) d errors due)
 
   later : (d : FenError) (errors : List FenError) → NoneOf (d ∷ errors) → NoneOf errors
-  later d errors none e first = none e (first_later (IsDueFen parts) d e errors (not_due d errors none) first)
+  later d errors none e first = none e (first_later (IsDueFen texts) d e errors (not_due d errors none) first)
 
-  -- so the text is that of the record of the parts
-  is_text : (f : Record) → length parts ≡ 6 → field parts 0 ≡ placement_text f.setup.board → field parts 1 ≡ turn_text f.setup.turn → field parts 2 ≡ castling_text f.setup.rights
-      → field parts 3 ≡ en_passant_text f.setup.ep → field parts 4 ≡ decimal f.half → field parts 5 ≡ decimal f.full → text ≡ fen_text f
+  -- so the text is that of the record of the texts
+  is_text : (f : Record) → length texts ≡ 6 → field texts 0 ≡ placement_text f.setup.board → field texts 1 ≡ turn_text f.setup.turn → field texts 2 ≡ castling_text f.setup.rights
+      → field texts 3 ≡ en_passant_text f.setup.ep → field texts 4 ≡ decimal f.half → field texts 5 ≡ decimal f.full → text ≡ fen_text f
   is_text f six a b c d e g =
-      let six_parts : List (List ℕ) = field parts 0 ∷ field parts 1 ∷ field parts 2 ∷ field parts 3 ∷ field parts 4 ∷ field parts 5 ∷ [] in
-      let same : six_parts ≡ setup_fields f.setup ++ decimal f.half ∷ decimal f.full ∷ [] = rw (a, b, c, d, e, g) refl in
-      sym (join_with_byte-slice_split 32 text) ∙ ap (join_with_byte 32) (six_are parts six ∙ same)
+      let six_texts : List (List ℕ) = field texts 0 ∷ field texts 1 ∷ field texts 2 ∷ field texts 3 ∷ field texts 4 ∷ field texts 5 ∷ [] in
+      let same : six_texts ≡ setup_fields f.setup ++ decimal f.half ∷ decimal f.full ∷ [] = rw (a, b, c, d, e, g) refl in
+      sym (join_with_byte-slice_split 32 text) ∙ ap (join_with_byte 32) (six_are texts six ∙ same)
 
-  -- boards that the first part spells are one
-  one_board : (P : Board → Type 0) (other board : Board) → SpellsBoard parts other → SpellsBoard parts board → P other → P board
+  -- boards that the first text spells are one
+  one_board : (P : Board → Type 0) (other board : Board) → SpellsBoard texts other → SpellsBoard texts board → P other → P board
   one_board P other board o b = subst P (placement_injective other board o.0 b.0 (sym o.1 ∙ b.1))
 
   pub complete : NoneOf fen_errors → ((f : Record) → IsRecord f → text ≢ fen_text f) → ⊥
@@ -61,7 +61,7 @@ module _ (text : List ℕ) where
       let n7 = later fen.Full _ n6 in
       let n8 = later fen.Kings _ n7 in
       let n9 = later fen.Pawns _ n8 in
-      elim (cases_eq (length parts) 6) [
+      elim (cases_eq (length texts) 6) [
         | inr differs ↦ not_due fen.Fields _ n0 differs
         | inl six ↦
             not_due fen.Castling _ n3 (λ rights c.

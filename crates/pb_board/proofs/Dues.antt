@@ -8,7 +8,7 @@ use Rattle.pb_board.specs.Refusal.{IsDueFen, IsFirstOf}
 
 -- the first of these refusals that is due
 abbrev pub IsFirstDue : List FenError → FenError → List (List ℕ) → Type 0
-IsFirstDue errors e parts = IsFirstOf errors (IsDueFen parts) e
+IsFirstDue errors e texts = IsFirstOf errors (IsDueFen texts) e
 
 module _ {E : Type 0} (due : E → Type 0) where
   abbrev pub NotDue : E → Type 0

@@ -12,7 +12,7 @@ use Rattle.pb_board.specs.declared.refusal.FenError.TheVariants as refusal
 use Rattle.pb_board.specs.Board.{Place}
 use Rattle.pb_board.specs.Position.{Position, Record, IsSetup, HasKings, HasNoEdgePawn, EnPassantHolds, OnEnPassantRank}
 use Rattle.pb_board.specs.Fields.{field, fields}
-use Rattle.pb_board.specs.Parts.{AreParts, IsRefusedAs, refusal_of}
+use Rattle.pb_board.specs.FourFields.{SpellFour, IsRefusedAs, refusal_of}
 use Rattle.pb_board.specs.Text.{castling_text, en_passant_text, fen_text, placement_text, setup_fields, turn_text}
 use Rattle.pb_board.specs.Position.{IsRecord, record_of}
 use Rattle.pb_board.specs.Refusal.{IsDueFen, IsFault, IsFirstFault, SpellsBoard, SpellsSquare, fen_errors, of_setup}
@@ -45,7 +45,7 @@ all_three P x y z h k l = All-cons P x (y ∷ z ∷ []) h (all_two P y z k l)
 all_four : {A : Type 0} (P : A → Type 0) (w x y z : A) → P w → P x → P y → P z → All P (w ∷ x ∷ y ∷ z ∷ [])
 all_four P w x y z g h k l = All-cons P w (x ∷ y ∷ z ∷ []) g (all_three P x y z h k l)
 
-module _ (pieces four : List (List ℕ)) (p : Position) (cut : Begins pieces four) (h : AreParts p four) where
+module _ (pieces four : List (List ℕ)) (p : Position) (cut : Begins pieces four) (h : SpellFour p four) where
   placement_is : field pieces 0 ≡ placement_text p.board
   placement_is = cut.first ∙ ap (λ w. field w 0) h.fields_are
 
@@ -102,7 +102,7 @@ module _ (pieces four : List (List ℕ)) (p : Position) (cut : Begins pieces fou
 
 -- ---- four texts
 
-pub setup_fault : (e : FenError) (p : Position) (four : List (List ℕ)) → AreParts p four → IsRefusedAs e p → IsFirstDue of_setup e four
+pub setup_fault : (e : FenError) (p : Position) (four : List (List ℕ)) → SpellFour p four → IsRefusedAs e p → IsFirstDue of_setup e four
 setup_fault e p four h r =
     let cut : Begins four four = record { first = refl; second = refl; third = refl; fourth = refl } in
     subst (λ x. IsFirstDue of_setup x four) (sym r.is)
@@ -143,7 +143,7 @@ module _ (text a b c d e f : List ℕ) (cut : fields 32 text ≡ a ∷ b ∷ c �
       first_later (IsDueFen (fields 32 text)) refusal.Fields x _ are_six
       (first_front (IsDueFen (fields 32 text)) of_texts (refusal.Half ∷ refusal.Full ∷ of_parts) x (subst (IsFirstDue of_texts x) (sym cut) here))
 
-  module _ (p : Position) (h : AreParts p (a ∷ b ∷ c ∷ d ∷ [])) where
+  module _ (p : Position) (h : SpellFour p (a ∷ b ∷ c ∷ d ∷ [])) where
     -- the fields before the fifth are no cause
     no_field_due : All (NotDue (fields 32 text)) (refusal.Fields ∷ of_texts)
     no_field_due = All-cons (NotDue (fields 32 text)) refusal.Fields of_texts are_six (no_text_due (fields 32 text) (a ∷ b ∷ c ∷ d ∷ []) p six_begin h)
@@ -183,7 +183,7 @@ module _ (text a b c d e f : List ℕ) (cut : fields 32 text ≡ a ∷ b ∷ c �
 -- ---- the other way: a text of a record
 
 -- the fields of a setup are its parts
-parts_of : (p : Position) → IsSetup p → AreParts p (setup_fields p)
+parts_of : (p : Position) → IsSetup p → SpellFour p (setup_fields p)
 parts_of p lawful = record { places = lawful.places; fields_are = refl; rank_is = on_rank p.board p.turn p.ep lawful.en_passant }
 
 -- where the text spells a record, no refusal is due
@@ -243,10 +243,10 @@ owes_setup r four found refused = record { found = found; only = λ p. only_setu
 pub four_texts : (four : List (Bor (List ℕ))) (d : Bor (List ℕ)) → length four ≡ 4 → map (λ t. t.now) four ≡ (get_or four 0 d).now ∷ (get_or four 1 d).now ∷ (get_or four 2 d).now ∷ (get_or four 3 d).now ∷ []
 four_texts four d e = ap (λ (w : List (Bor (List ℕ))). map (λ t. t.now) w) (four_cells four d e)
 
-pub built_found : (r : Result Position FenError) (p : Position) (four : List (List ℕ)) (a b c d : List ℕ) → four ≡ a ∷ b ∷ c ∷ d ∷ [] → AreParts p (a ∷ b ∷ c ∷ d ∷ []) → MatchResult r (λ s. (s ≡ p) × IsSetup p) (λ e. IsRefusedAs e p) → IfOk r (λ s. IsSetup s × (four ≡ setup_fields s))
+pub built_found : (r : Result Position FenError) (p : Position) (four : List (List ℕ)) (a b c d : List ℕ) → four ≡ a ∷ b ∷ c ∷ d ∷ [] → SpellFour p (a ∷ b ∷ c ∷ d ∷ []) → MatchResult r (λ s. (s ≡ p) × IsSetup p) (λ e. IsRefusedAs e p) → IfOk r (λ s. IsSetup s × (four ≡ setup_fields s))
 built_found (Ok s) p four a b c d is h built = (subst IsSetup (sym built.0) built.1, is ∙ h.fields_are ∙ ap setup_fields (sym built.0))
 built_found (Err e) p four a b c d is h built = tt
 
-pub built_refused : (r : Result Position FenError) (p : Position) (four : List (List ℕ)) (a b c d : List ℕ) → four ≡ a ∷ b ∷ c ∷ d ∷ [] → AreParts p (a ∷ b ∷ c ∷ d ∷ []) → MatchResult r (λ s. (s ≡ p) × IsSetup p) (λ e. IsRefusedAs e p) → IfErr r (λ e. IsFirstDue of_setup e four)
+pub built_refused : (r : Result Position FenError) (p : Position) (four : List (List ℕ)) (a b c d : List ℕ) → four ≡ a ∷ b ∷ c ∷ d ∷ [] → SpellFour p (a ∷ b ∷ c ∷ d ∷ []) → MatchResult r (λ s. (s ≡ p) × IsSetup p) (λ e. IsRefusedAs e p) → IfErr r (λ e. IsFirstDue of_setup e four)
 built_refused (Ok s) p four a b c d is h built = tt
 built_refused (Err e) p four a b c d is h built = subst (IsFirstDue of_setup e) (sym is) (setup_fault e p (a ∷ b ∷ c ∷ d ∷ []) h built)

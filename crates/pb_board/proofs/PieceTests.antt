@@ -43,5 +43,5 @@ pub is_piece-passes : (piece : Piece) → is_piece piece (Some piece) ≡ true
 is_piece-passes piece = eq-eqb (piece_number piece) (piece_number piece) refl
 
 -- pieces of one number are of one kind and one colour
-pub piece_number-parts : (p q : Piece) → (kind_number p.kind == kind_number q.kind && colour_number p.colour == colour_number q.colour) ≡ (piece_number p == piece_number q)
-piece_number-parts p q = let small = colour_small p.colour in let other = colour_small q.colour in grind (arith, nat_tests)
+pub piece_number-halves : (p q : Piece) → (kind_number p.kind == kind_number q.kind && colour_number p.colour == colour_number q.colour) ≡ (piece_number p == piece_number q)
+piece_number-halves p q = let small = colour_small p.colour in let other = colour_small q.colour in grind (arith, nat_tests)

@@ -11,9 +11,9 @@ pub mod Ranks
 pub mod First
 pub mod Numeral
 pub mod Bitboards
-pub mod Kept
+pub mod SetupRules
 pub mod Initial
 pub mod Refusal
-pub mod Parts
+pub mod FourFields
 pub mod Words
 pub mod LineEnd

@@ -71,7 +71,7 @@ pub record Record : Type 0 where
 abbrev pub record_of : Position → ℕ → ℕ → Record
 record_of setup half full = record { setup = setup; half = half; full = full }
 
--- the rules that every record meets: the clocks are kept in 16 bits
+-- the rules that every record meets: the clocks fit in 16 bits
 pub record IsRecord (f : Record) : Type 0 where
   pub setup : IsSetup f.setup
   pub half : f.half < 2 ^ 16

@@ -23,9 +23,9 @@ IsFirstOf {E} errors due e = (before : List E) × (after : List E)
 abbrev pub BreaksAt : {A : Type 0} → (List A → Type 0) → List A → ℕ → Type 0
 BreaksAt rule xs n = rule (take (n - 1) xs) × ¬ rule (take n xs)
 
--- ---- a setup of parts
+-- ---- a setup
 
--- when parts are no setup
+-- when there is no setup
 abbrev pub IsFault : SetupError → Position → Type 0
 IsFault fault.Kings p = ¬ HasKings p.board
 IsFault fault.Pawns p = ¬ HasNoEdgePawn p.board
@@ -35,31 +35,31 @@ IsFault fault.EnPassant p = ¬ EnPassantHolds p.board p.turn p.ep
 abbrev pub IsFirstFault : SetupError → Position → Type 0
 IsFirstFault e p = IsFirstOf (fault.Kings ∷ fault.Pawns ∷ fault.EnPassant ∷ []) (λ d. IsFault d p) e
 
--- ---- a FEN record, of which these are the parts between spaces
+-- ---- a FEN record, of which these are the texts between spaces
 
--- the first part spells the board
+-- the first text spells the board
 abbrev pub SpellsBoard : List (List ℕ) → Board → Type 0
-SpellsBoard parts board = (length board ≡ 64) × (field parts 0 ≡ placement_text board)
+SpellsBoard texts board = (length board ≡ 64) × (field texts 0 ≡ placement_text board)
 
--- the second part names the side, and the fourth no square or one of the rank that en passant
+-- the second text tells the side, and the fourth no square or one of the rank that en passant
 -- squares of this side are on
 abbrev pub SpellsSquare : List (List ℕ) → Colour → Option ℕ → Type 0
-SpellsSquare parts turn ep = (field parts 1 ≡ turn_text turn)
-    × (field parts 3 ≡ en_passant_text ep) × IfSome ep (OnEnPassantRank turn)
+SpellsSquare texts turn ep = (field texts 1 ≡ turn_text turn)
+    × (field texts 3 ≡ en_passant_text ep) × IfSome ep (OnEnPassantRank turn)
 
 -- when each error is due
 abbrev pub IsDueFen : List (List ℕ) → FenError → Type 0
-IsDueFen parts fen.Fields = length parts ≢ 6
-IsDueFen parts fen.Placement = (board : Board) → ¬ SpellsBoard parts board
-IsDueFen parts fen.Turn = (turn : Colour) → field parts 1 ≢ turn_text turn
-IsDueFen parts fen.Castling = (rights : Rights) → field parts 2 ≢ castling_text rights
-IsDueFen parts fen.EnPassantText = (turn : Colour) (ep : Option ℕ) → ¬ SpellsSquare parts turn ep
-IsDueFen parts fen.Half = (n : ℕ) → n < 2 ^ 16 → field parts 4 ≢ decimal n
-IsDueFen parts fen.Full = (n : ℕ) → 0 < n → n < 2 ^ 16 → field parts 5 ≢ decimal n
-IsDueFen parts fen.Kings = (board : Board) → SpellsBoard parts board → ¬ HasKings board
-IsDueFen parts fen.Pawns = (board : Board) → SpellsBoard parts board → ¬ HasNoEdgePawn board
-IsDueFen parts fen.EnPassantPawn = (board : Board) (turn : Colour) (ep : Option ℕ)
-    → SpellsBoard parts board → SpellsSquare parts turn ep → ¬ EnPassantHolds board turn ep
+IsDueFen texts fen.Fields = length texts ≢ 6
+IsDueFen texts fen.Placement = (board : Board) → ¬ SpellsBoard texts board
+IsDueFen texts fen.Turn = (turn : Colour) → field texts 1 ≢ turn_text turn
+IsDueFen texts fen.Castling = (rights : Rights) → field texts 2 ≢ castling_text rights
+IsDueFen texts fen.EnPassantText = (turn : Colour) (ep : Option ℕ) → ¬ SpellsSquare texts turn ep
+IsDueFen texts fen.Half = (n : ℕ) → n < 2 ^ 16 → field texts 4 ≢ decimal n
+IsDueFen texts fen.Full = (n : ℕ) → 0 < n → n < 2 ^ 16 → field texts 5 ≢ decimal n
+IsDueFen texts fen.Kings = (board : Board) → SpellsBoard texts board → ¬ HasKings board
+IsDueFen texts fen.Pawns = (board : Board) → SpellsBoard texts board → ¬ HasNoEdgePawn board
+IsDueFen texts fen.EnPassantPawn = (board : Board) (turn : Colour) (ep : Option ℕ)
+    → SpellsBoard texts board → SpellsSquare texts turn ep → ¬ EnPassantHolds board turn ep
 
 -- in the order in which they are looked for
 abbrev pub fen_errors : List FenError
@@ -67,7 +67,7 @@ fen_errors =
     fen.Fields ∷ fen.Placement ∷ fen.Turn ∷ fen.Castling ∷ fen.EnPassantText ∷ fen.Half ∷ fen.Full
     ∷ fen.Kings ∷ fen.Pawns ∷ fen.EnPassantPawn ∷ []
 
--- those of the first four parts alone, in order
+-- those of the first four texts alone, in order
 abbrev pub of_setup : List FenError
 of_setup = fen.Placement ∷ fen.Turn ∷ fen.Castling ∷ fen.EnPassantText ∷ fen.Kings ∷ fen.Pawns
     ∷ fen.EnPassantPawn ∷ []

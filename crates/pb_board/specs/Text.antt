@@ -1,4 +1,4 @@
--- The texts of FEN records and of their parts (PGN Standard 1994, section 16.1).
+-- The texts of FEN records and of their fields (PGN Standard 1994, section 16.1).
 use Rattle.std.specs.Prelude.{ℕ, ◌+◌, ◌*◌, ◌==◌, not, List, [], ◌∷◌, ◌++◌, length, map, take, drop}
 use Rattle.std.specs.Prelude.{codes, decimal, slice_index, Option, Some, None, if◌then◌else◌}
 use Rattle.std.specs.List.{join_with_byte}

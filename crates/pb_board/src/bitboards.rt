@@ -1,8 +1,9 @@
-//! Bitboards: what stands on the squares of a board, in sets of squares.
+//! Bitboards: what stands on the squares of a board, as sets of squares.
 
 ghost use Rattle.std.specs.Prelude.{◌≡◌, ◌<◌, ◌↔◌, ℕ, IsTrue, None, length, slice_set};
 ghost use Rattle.std.specs.Int.{bit_at};
 ghost use Rattle.pb_board.specs.Board.{Board, IsEmpty, Holds, at};
+ghost use Rattle.pb_board.specs.Initial.{initial_board};
 ghost use Rattle.pb_board.specs.MovedPiece.{with_moved};
 ghost use Rattle.pb_board.specs.Piece.{colour_number, kind_number, piece_of};
 ghost use Rattle.pb_board.specs.Bitboards.{bitboards_of};
@@ -14,7 +15,7 @@ use crate::piece::{Colour, Kind, Piece};
 use crate::setup::MovedPiece;
 use crate::square::Square;
 
-/// The kinds by their numbers, and kings for the numbers up to 7 that no kind has.
+/// Has kings for the numbers up to 7 that no kind has.
 static KINDS: [Kind; 8] = [
     Kind::Pawn,
     Kind::Knight,
@@ -26,15 +27,13 @@ static KINDS: [Kind; 8] = [
     Kind::King,
 ];
 
-/// The squares of each side's pieces and of each kind's, as numbers: bit `i` stands for the square
-/// of index `i`.
+/// Bit `i` stands for the square of index `i`.
 #[derive(Clone, Copy, Debug, PartialEq, Eq, Hash)]
 pub(crate) struct Bitboards {
     pub(crate) sides: [u64; 2],
     pub(crate) kinds: [u64; 6],
 }
 
-/// The place of a side's squares.
 #[inline(always)]
 fn colour_number(colour: Colour) -> usize
     ensures value { result ≡ colour_number colour }
@@ -46,7 +45,6 @@ fn colour_number(colour: Colour) -> usize
     }
 }
 
-/// The place of a kind's squares.
 #[inline(always)]
 fn kind_number(kind: Kind) -> usize
     ensures value { result ≡ kind_number kind }
@@ -62,7 +60,6 @@ fn kind_number(kind: Kind) -> usize
     }
 }
 
-/// Notes what stands on the square of this index, where nothing stood before.
 #[inline(always)]
 fn set_down(bitboards: &mut Bitboards, index: u8, place: Option<Piece>)
     requires { index < 64 }
@@ -76,7 +73,6 @@ fn set_down(bitboards: &mut Bitboards, index: u8, place: Option<Piece>)
     }
 }
 
-/// Takes away what stands on the square of this index.
 #[inline(always)]
 fn clear(bitboards: &mut Bitboards, index: u8)
     requires { index < 64 }
@@ -94,7 +90,6 @@ fn clear(bitboards: &mut Bitboards, index: u8)
     bitboards.kinds[5] &= others;
 }
 
-/// Moves a piece from one square to another, in the place of what stood there.
 #[inline(always)]
 pub(crate) fn move_piece(bitboards: &mut Bitboards, moved: MovedPiece)
     ensures { (b : Board) → length b ≡ 64 → bitboards.old ≡ bitboards_of b
@@ -105,7 +100,6 @@ pub(crate) fn move_piece(bitboards: &mut Bitboards, moved: MovedPiece)
     set_down(bitboards, moved.to.index(), Some(moved.piece));
 }
 
-/// The squares of a board's pieces.
 pub(crate) fn bitboards_of(board: &[Option<Piece>; 64]) -> Bitboards
     ensures { result ≡ bitboards_of board.now }
 {
@@ -119,7 +113,6 @@ pub(crate) fn bitboards_of(board: &[Option<Piece>; 64]) -> Bitboards
     bitboards
 }
 
-/// The squares on which something stands.
 #[inline(always)]
 pub(crate) fn occupied(bitboards: Bitboards) -> u64
     ensures { (b : Board) (q : ℕ) → bitboards ≡ bitboards_of b
@@ -128,7 +121,6 @@ pub(crate) fn occupied(bitboards: Bitboards) -> u64
     bitboards.sides[0] | bitboards.sides[1]
 }
 
-/// The squares on which a piece of this side stands.
 #[inline(always)]
 pub(crate) fn by_colour(bitboards: Bitboards, colour: Colour) -> u64
     ensures { (b : Board) (q : ℕ) → bitboards ≡ bitboards_of b
@@ -137,7 +129,6 @@ pub(crate) fn by_colour(bitboards: Bitboards, colour: Colour) -> u64
     bitboards.sides[colour_number(colour)]
 }
 
-/// The squares on which this piece stands.
 #[inline(always)]
 pub(crate) fn by_piece(bitboards: Bitboards, piece: Piece) -> u64
     ensures { (b : Board) (q : ℕ) → bitboards ≡ bitboards_of b
@@ -146,7 +137,6 @@ pub(crate) fn by_piece(bitboards: Bitboards, piece: Piece) -> u64
     bitboards.sides[colour_number(piece.colour)] & bitboards.kinds[kind_number(piece.kind)]
 }
 
-/// The squares on which a piece of this kind stands, of either side.
 #[inline(always)]
 pub(crate) fn by_kind(bitboards: Bitboards, kind: Kind) -> u64
     ensures { (b : Board) (q : ℕ) → bitboards ≡ bitboards_of b
@@ -155,7 +145,7 @@ pub(crate) fn by_kind(bitboards: Bitboards, kind: Kind) -> u64
     bitboards.kinds[kind_number(kind)]
 }
 
-/// Whether the square of this index is among these, as a number: no branch is made of it.
+// A number, of which no branch is made.
 #[inline(always)]
 fn bit(squares: u64, index: u8) -> u64
     requires { index < 64 }
@@ -165,7 +155,6 @@ fn bit(squares: u64, index: u8) -> u64
     squares >> index & 1
 }
 
-/// Whether the square of this index is among these.
 #[inline(always)]
 fn has(squares: u64, index: u8) -> bool
     requires { index < 64 }
@@ -174,7 +163,6 @@ fn has(squares: u64, index: u8) -> bool
     bit(squares, index) == 1
 }
 
-/// The side of what stands on the square of this index, where something does.
 #[inline(always)]
 fn colour_at(bitboards: &Bitboards, index: u8) -> Colour
     requires { index < 64 }
@@ -188,7 +176,7 @@ fn colour_at(bitboards: &Bitboards, index: u8) -> Colour
     }
 }
 
-/// The kind with this number. It is looked up, so no branch is made of it.
+// Looked up, so no branch is made of it.
 #[inline(always)]
 fn kind_of(number: u64) -> Kind
     requires { number < 8 }
@@ -197,8 +185,7 @@ fn kind_of(number: u64) -> Kind
     KINDS[number as usize]
 }
 
-/// The kind of what stands on the square of this index, where something does. Which kind it is
-/// can't be foretold, so it is made of the bits without a branch.
+// Which kind it is can't be foretold, so it is made of the bits without a branch.
 #[inline(always)]
 fn kind_at(bitboards: &Bitboards, index: u8) -> Kind
     requires { index < 64 }
@@ -212,7 +199,6 @@ fn kind_at(bitboards: &Bitboards, index: u8) -> Kind
     kind_of(low + 2 * middle + 4 * high)
 }
 
-/// What stands on the square of this index.
 #[inline(always)]
 pub(crate) fn piece_at(bitboards: &Bitboards, index: u8) -> Option<Piece>
     requires { index < 64 }
@@ -224,7 +210,6 @@ pub(crate) fn piece_at(bitboards: &Bitboards, index: u8) -> Option<Piece>
     })
 }
 
-/// What stands on each square, by index.
 pub(crate) fn board_of(bitboards: &Bitboards) -> [Option<Piece>; 64]
     ensures { (b : Board) → length b ≡ 64 → bitboards.now ≡ bitboards_of b → result ≡ b }
 {
@@ -233,4 +218,21 @@ pub(crate) fn board_of(bitboards: &Bitboards) -> [Option<Piece>; 64]
         board[index as usize] = piece_at(bitboards, index);
     }
     board
+}
+
+// Written down, since nearly all games start there.
+pub(crate) fn initial_bitboards() -> Bitboards
+    ensures { result ≡ bitboards_of initial_board }
+{
+    Bitboards {
+        sides: [0x0000_0000_0000_FFFF, 0xFFFF_0000_0000_0000],
+        kinds: [
+            0x00FF_0000_0000_FF00,
+            0x4200_0000_0000_0042,
+            0x2400_0000_0000_0024,
+            0x8100_0000_0000_0081,
+            0x0800_0000_0000_0008,
+            0x1000_0000_0000_0010,
+        ],
+    }
 }

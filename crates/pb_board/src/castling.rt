@@ -7,8 +7,8 @@ use crate::piece::Colour;
 use crate::setup::Rights;
 use crate::square::Square;
 
-/// A castling: whose it is, and to which side of the board the king goes.
-#[derive(Clone, Copy, Debug, PartialEq, Eq)]
+/// Tells whose a castling is, and to which side of the board the king goes.
+#[derive(Clone, Copy, Debug)]
 pub enum Castling {
     /// White's on the king's side, e1g1.
     WhiteShort,
@@ -20,21 +20,18 @@ pub enum Castling {
     BlackLong,
 }
 
-/// The squares between which king and rook go.
-#[derive(Clone, Copy, Debug, PartialEq, Eq)]
+/// Holds the squares between which king and rook go.
+#[derive(Clone, Copy, Debug)]
 pub struct CastlingSquares {
-    /// Where the king begins.
     pub king_from: Square,
-    /// Where the king arrives.
     pub king_to: Square,
-    /// Where the rook begins.
     pub rook_from: Square,
     /// Where the rook arrives: the square that the king crosses.
     pub rook_to: Square,
 }
 
 impl Castling {
-    /// The castling whose king goes between these squares.
+    /// Finds the castling whose king goes between these squares.
     #[inline(always)]
     pub fn of(from: Square, to: Square) -> Option<Castling>
         ensures { result ≡ castling_of from to }
@@ -48,7 +45,7 @@ impl Castling {
         }
     }
 
-    /// The castling whose king and rook begin on these squares.
+    /// Finds the castling whose king and rook begin on these squares.
     #[inline(always)]
     pub fn from_home(king: Square, rook: Square) -> Option<Castling>
         ensures { result ≡ castling_from_home king rook }
@@ -62,7 +59,7 @@ impl Castling {
         }
     }
 
-    /// Whether a king or a rook that may castle begins on the square.
+    /// Tells whether a king or a rook that may castle begins on the square.
     #[inline(always)]
     pub fn is_home(square: Square) -> bool
         ensures { IsTrue result ↔ IsHome square }
@@ -73,7 +70,7 @@ impl Castling {
         )
     }
 
-    /// The side that castles so.
+    /// Gives the side that castles so.
     #[inline(always)]
     pub fn colour(self) -> Colour
         ensures { result ≡ (castling_row self).colour }
@@ -84,7 +81,7 @@ impl Castling {
         }
     }
 
-    /// Whether the rights have this castling.
+    /// Tells whether the rights have this castling.
     #[inline(always)]
     pub fn is_allowed(self, rights: Rights) -> bool
         ensures { result ≡ (castling_row self).right rights }
@@ -97,8 +94,8 @@ impl Castling {
         }
     }
 
-    /// Whether a move between these squares loses the right to castle so: it leaves or reaches the
-    /// king's or the rook's first square.
+    /// Tells whether a move between these squares loses the right: it leaves or reaches the king's or
+    /// the rook's first square.
     #[inline(always)]
     pub fn is_lost_by(self, from: Square, to: Square) -> bool
         ensures { let row = castling_row self in
@@ -113,7 +110,7 @@ impl Castling {
         from == king_from || to == king_from || from == rook_from || to == rook_from
     }
 
-    /// The squares between which king and rook go.
+    /// Gives the squares between which king and rook go.
     #[inline(always)]
     pub fn squares(self) -> CastlingSquares
         ensures king_from { result.king_from ≡ (castling_row self).king_from }

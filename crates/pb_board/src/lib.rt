@@ -9,12 +9,9 @@
 
 mod bitboards;
 mod castling;
-mod cut;
 mod fen;
 mod fields;
-mod initial;
 pub mod laws;
-mod line_end;
 mod number;
 mod piece;
 mod placement;
@@ -25,15 +22,16 @@ mod setup;
 mod setup_rules;
 mod square;
 mod state_fields;
+mod text;
 mod write;
 
 pub use castling::{Castling, CastlingSquares};
-pub use cut::cut_once;
 pub use fen::{Fen, FenBytes};
-pub use line_end::without_return;
+pub use fields::{cut_once, without_return};
 pub use piece::{Colour, Kind, Piece};
 pub use read::{read_fen, read_setup};
 pub use refusal::{FenError, SetupError};
 pub use setup::{MovedPiece, Rights, Setup};
 pub use square::Square;
+pub use text::Text;
 pub use write::{write_fen, write_setup};

@@ -4,11 +4,10 @@ ghost use Rattle.std.specs.Prelude.{◌≡◌, ◌≢◌, List, length, MatchOpt
 ghost use Rattle.pb_board.specs.Board.{Place};
 ghost use Rattle.pb_board.specs.Text.{placement_text};
 
-use crate::cut::cut_once;
+use crate::fields::cut_once;
 use crate::piece::Piece;
 use crate::rank::read_rank;
 
-/// The board that the text spells.
 pub(crate) fn read_placement(text: &[u8]) -> Option<[Option<Piece>; 64]>
     ensures { MatchOption result ((b : List Place) → length b ≡ 64 → text.now ≢ placement_text b)
         (λ board. (length board ≡ 64) × (text.now ≡ placement_text board)) }

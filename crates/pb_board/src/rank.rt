@@ -9,7 +9,6 @@ ghost use Rattle.pb_board.specs.declared.piece.Piece.{Piece};
 
 use crate::piece::{Colour, Kind, Piece};
 
-/// The piece of this letter.
 fn piece_of(letter: u8) -> Option<Piece>
     ensures { MatchOption result ((p : Piece) → piece_letter p ≢ letter) (λ p.
         letter ≡ piece_letter p) }
@@ -32,7 +31,6 @@ fn piece_of(letter: u8) -> Option<Piece>
     Some(Piece { colour, kind })
 }
 
-/// The eight squares, from file a on, that the text spells.
 pub(crate) fn read_rank(text: &[u8]) -> Option<[Option<Piece>; 8]>
     ensures { MatchOption result ((s : List Place) → length s ≡ 8 → ¬ RankText s text.now)
         (λ squares. (s : List Place) → length s ≡ 8 → (RankText s text.now ↔ s ≡ squares)) }
@@ -60,7 +58,6 @@ pub(crate) fn read_rank(text: &[u8]) -> Option<[Option<Piece>; 8]>
     if file == 8 { Some(squares) } else { None }
 }
 
-/// How many empty squares the digit stands for.
 fn digit(byte: u8) -> Option<usize>
     ensures { SomeIff result ((49 ≤ byte) × (byte ≤ 56)) (byte - 48) }
 {

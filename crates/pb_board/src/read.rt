@@ -1,9 +1,9 @@
-//! Reading a FEN record.
+//! Reads FEN records.
 
 ghost use Rattle.std.specs.Prelude.{◌≡◌, ◌∷◌, [], map, take, Ok, IfOk, IfErr, MatchResult};
 ghost use Rattle.pb_board.specs.Position.{Position, Record, IsSetup, position_of};
 ghost use Rattle.pb_board.specs.Fields.{fields, space};
-ghost use Rattle.pb_board.specs.Parts.{AreParts, IsRefusedAs, refusal_of};
+ghost use Rattle.pb_board.specs.FourFields.{SpellFour, IsRefusedAs, refusal_of};
 ghost use Rattle.pb_board.specs.Position.{IsRecord};
 ghost use Rattle.pb_board.specs.Refusal.{IsDueFen, IsFirstOf, fen_errors, of_setup};
 ghost use Rattle.pb_board.specs.Text.{fen_text, setup_fields};
@@ -18,23 +18,21 @@ use crate::setup::{Rights, Setup};
 use crate::square::Square;
 use crate::state_fields::{read_en_passant, read_rights, read_turn};
 
-/// What the first four fields spell.
 #[derive(Clone, Copy)]
-struct Parts {
+struct FourFields {
     board: [Option<Piece>; 64],
     turn: Colour,
     rights: Rights,
     ep: Option<Square>,
 }
 
-/// What the first four fields spell, or the first refusal that is due among theirs.
-fn read_parts(
+fn read_four(
     placement: &[u8],
     turn: &[u8],
     castling: &[u8],
     en_passant: &[u8],
-) -> Result<Parts, FenError>
-    ensures { MatchResult result (λ p. AreParts (position_of p.board p.turn p.rights p.ep)
+) -> Result<FourFields, FenError>
+    ensures { MatchResult result (λ p. SpellFour (position_of p.board p.turn p.rights p.ep)
         (placement.now ∷ turn.now ∷ castling.now ∷ en_passant.now ∷ []))
         (IsFirstOf (take 4 of_setup) (IsDueFen (placement.now ∷ turn.now ∷ castling.now
         ∷ en_passant.now ∷ []))) }
@@ -51,7 +49,7 @@ fn read_parts(
     let Some(ep) = read_en_passant(en_passant, turn) else {
         return Err(FenError::EnPassantText);
     };
-    Ok(Parts {
+    Ok(FourFields {
         board,
         turn,
         rights,
@@ -59,7 +57,6 @@ fn read_parts(
     })
 }
 
-/// The setup of parts whose en passant square is on the right rank.
 fn build(
     board: [Option<Piece>; 64],
     turn: Colour,
@@ -75,8 +72,7 @@ fn build(
     }
 }
 
-/// The refusal of a text whose parts are no setup, where the rank of the en passant square was
-/// judged before.
+// The rank of the en passant square was judged before.
 fn refusal_of(error: SetupError) -> FenError
     ensures { result ≡ refusal_of error }
 {
@@ -87,43 +83,36 @@ fn refusal_of(error: SetupError) -> FenError
     }
 }
 
-/// The setup that the first four fields of a record spell (PGN Standard 16.1.3.1 to 16.1.3.4).
+/// Reads the setup that the first four fields of a record spell (PGN Standard 16.1.3.1 to 16.1.3.4).
 ///
 /// # Errors
 ///
-/// The first that is due of `Placement`, `Turn`, `Castling` and `EnPassantText`, each where a field
-/// isn't spelled so, and then of `Kings`, `Pawns` and `EnPassantPawn`, where the parts are no
-/// setup.
+/// The first that is due of `Placement`, `Turn`, `Castling` and `EnPassantText`, and then of `Kings`,
+/// `Pawns` and `EnPassantPawn`.
 pub fn read_setup(four: [&[u8]; 4]) -> Result<Setup, FenError>
-    // What is read is a setup, and the texts spell it.
     ensures found { IfOk result (λ s. IsSetup s × (map (λ t. t.now) four.entry ≡ setup_fields s)) }
-    // The texts of a setup are read.
     ensures only { (p : Position) → IsSetup p → map (λ t. t.now) four.entry ≡ setup_fields p
         → result ≡ Ok p }
-    // A refusal is the first whose condition holds.
     ensures refused { IfErr result (IsFirstOf of_setup (IsDueFen (map (λ t. t.now) four.entry))) }
 {
-    let parts = read_parts(four[0], four[1], four[2], four[3])?;
-    build(parts.board, parts.turn, parts.rights, parts.ep)
+    let spelt = read_four(four[0], four[1], four[2], four[3])?;
+    build(spelt.board, spelt.turn, spelt.rights, spelt.ep)
 }
 
-/// The record that the text spells: six fields with single spaces between (PGN Standard 16.1).
+/// Reads the record that the text spells: six fields with single spaces between (PGN Standard 16.1).
 ///
 /// # Errors
 ///
 /// The first that is due, in the order of `FenError`'s variants.
 pub fn read_fen(text: &[u8]) -> Result<Fen, FenError>
-    // What is read is a record, and the text spells it.
     ensures found { IfOk result (λ f. IsRecord f × (text.now ≡ fen_text f)) }
-    // The text of a record is read.
     ensures only { (f : Record) → IsRecord f → text.now ≡ fen_text f → result ≡ Ok f }
-    // A refusal is the first whose condition holds.
     ensures refused { IfErr result (IsFirstOf fen_errors (IsDueFen (fields space text.now))) }
 {
     let Some(fields) = cut_fields(text) else {
         return Err(FenError::Fields);
     };
-    let parts = read_parts(
+    let spelt = read_four(
         fields.placement,
         fields.turn,
         fields.castling,
@@ -135,6 +124,6 @@ pub fn read_fen(text: &[u8]) -> Result<Fen, FenError>
     let Some(full) = read_positive(fields.full) else {
         return Err(FenError::Full);
     };
-    let setup = build(parts.board, parts.turn, parts.rights, parts.ep)?;
+    let setup = build(spelt.board, spelt.turn, spelt.rights, spelt.ep)?;
     Ok(Fen::with_clocks(setup, half, full))
 }

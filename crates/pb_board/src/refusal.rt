@@ -4,49 +4,41 @@ ghost use Rattle.std.specs.Prelude.{◌≡◌};
 
 use thiserror::Error;
 
-/// Why there is no setup of these parts, in the order in which the causes are looked for.
-#[derive(Clone, Copy, Debug, PartialEq, Eq, Hash, Error)]
+/// Says why there is no setup, in the order in which the causes are looked for.
+#[derive(Clone, Copy, Debug, Error)]
 pub enum SetupError {
-    /// There isn't exactly one king of each colour.
     #[error("it doesn't have one king of each colour")]
     Kings,
-    /// A pawn stands on rank 1 or 8.
     #[error("it has a pawn on rank 1 or 8")]
     Pawns,
-    /// The en passant square isn't on rank 6 with White to move or on rank 3 with Black to move, or
-    /// isn't empty, or no enemy pawn stands directly beyond it.
+    /// The square isn't on rank 6 with White to move or rank 3 with Black to move, isn't empty, or no
+    /// enemy pawn stands directly beyond it.
     #[error("no pawn has just passed over its en passant square")]
     EnPassant,
 }
 
-/// Why bytes are no FEN record, in the order in which the causes are looked for.
+/// Says why bytes are no FEN record, in the order in which the causes are looked for.
 #[derive(Clone, Copy, Debug, PartialEq, Eq, Hash, Error)]
 pub enum FenError {
-    /// Cutting at every space doesn't give six fields.
     #[error("it doesn't have six fields, one space between each two")]
     Fields,
-    /// The first field isn't eight ranks.
     #[error("its first field isn't eight ranks of pieces and empty squares")]
     Placement,
-    /// The second field isn't `w` or `b`.
     #[error("its second field isn't w or b")]
     Turn,
-    /// The third field is neither `-` nor a selection of `KQkq` in this order.
     #[error("its third field isn't - or letters of KQkq in this order")]
     Castling,
     /// The fourth field is neither `-` nor a square of the rank that fits the side to move.
     #[error("its fourth field isn't - or a square that a pawn can have passed over")]
     EnPassantText,
-    /// The fifth field isn't a decimal number from 0 to 65,535 without leading zeros.
+    /// Leading zeros are refused.
     #[error("its fifth field isn't a number from 0 to 65535")]
     Half,
-    /// The sixth field isn't a decimal number from 1 to 65,535 without leading zeros.
+    /// Leading zeros are refused.
     #[error("its sixth field isn't a number from 1 to 65535")]
     Full,
-    /// There isn't exactly one king of each colour.
     #[error("it doesn't have one king of each colour")]
     Kings,
-    /// A pawn stands on rank 1 or 8.
     #[error("it has a pawn on rank 1 or 8")]
     Pawns,
     /// The en passant square isn't empty, or no enemy pawn stands directly beyond it.
@@ -57,7 +49,7 @@ pub enum FenError {
 impl FenError {
     ghost use Rattle.pb_board.specs.Words.{word_of};
 
-    /// The word that stands for the refusal in the program's lines.
+    /// Gives the word that stands for the refusal in the program's lines.
     pub fn word(self) -> &'static str
         ensures { result.now ≡ word_of self }
     {

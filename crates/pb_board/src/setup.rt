@@ -2,8 +2,7 @@
 
 ghost use Rattle.std.specs.Prelude.{◌≡◌, ◌↔◌, ℕ, IsTrue, MatchResult};
 
-use crate::bitboards::{self, Bitboards};
-use crate::initial::initial_bitboards;
+use crate::bitboards::{self, Bitboards, initial_bitboards};
 use crate::piece::{Colour, Piece};
 use crate::refusal::SetupError;
 use crate::setup_rules::{has_no_edge_pawn, is_en_passant_square, one_king, only_king};
@@ -11,24 +10,17 @@ use crate::square::Square;
 use crate::state_fields::en_passant_rank;
 use std::marker::Model;
 
-/// The castling rights: one flag for each side of the board and each colour (PGN Standard
-/// 16.1.3.3).
-///
-/// A flag is kept as it was given, even where the king or the rook isn't at home.
+/// Holds the castling rights (PGN Standard 16.1.3.3), as they were given, even where the king or the
+/// rook isn't at home.
 #[derive(Clone, Copy, Debug, PartialEq, Eq, Hash)]
 pub struct Rights {
-    /// White may castle on the king's side, the letter `K`.
     pub white_short: bool,
-    /// White may castle on the queen's side, the letter `Q`.
     pub white_long: bool,
-    /// Black may castle on the king's side, the letter `k`.
     pub black_short: bool,
-    /// Black may castle on the queen's side, the letter `q`.
     pub black_long: bool,
 }
 
 impl Rights {
-    // Every castling is open.
     const ALL: Rights = Rights {
         white_short: true,
         white_long: true,
@@ -37,22 +29,16 @@ impl Rights {
     };
 }
 
-/// A piece that goes from one square to another, in the place of what stood there.
-#[derive(Clone, Copy, Debug, PartialEq, Eq)]
+/// Names a piece that goes from one square to another, and takes what stood there.
+#[derive(Clone, Copy, Debug)]
 pub struct MovedPiece {
-    /// The square that it leaves.
     pub from: Square,
-    /// The square that it reaches.
     pub to: Square,
-    /// What arrives there.
     pub piece: Piece,
 }
 
-/// A setup: the board, the side to move, the castling rights and the en passant square.
-///
-/// Each setup has one king of each colour and no pawn on rank 1 or 8. A given en passant square is
-/// empty, on rank 6 with White to move and on rank 3 with Black to move, and an enemy pawn stands
-/// directly beyond it.
+/// Holds a board, the side to move, the castling rights and the en passant square, which meet the rules
+/// of `SetupError`.
 #[derive(Clone, Copy, Debug, PartialEq, Eq, Hash)]
 pub struct Setup {
     bitboards: Bitboards,
@@ -62,7 +48,7 @@ pub struct Setup {
 }
 
 impl Model for Setup {
-    ghost use Rattle.pb_board.specs.Kept.{KeepsBitboards, bitboards-back};
+    ghost use Rattle.pb_board.specs.SetupRules.{HasBitboards, bitboards-back};
     ghost use Rattle.pb_board.specs.Bitboards.{bitboards_of, board_of};
     ghost use Rattle.pb_board.specs.Position.{Position, position_of};
 
@@ -70,7 +56,7 @@ impl Model for Setup {
 
     ghost view = { λ s. position_of (board_of s.bitboards) s.turn s.rights s.ep };
 
-    ghost invariant = { λ s. KeepsBitboards (position_of (board_of s.bitboards) s.turn s.rights
+    ghost invariant = { λ s. HasBitboards (position_of (board_of s.bitboards) s.turn s.rights
         s.ep) s.bitboards };
 
     ghost inverse = { λ p. record {
@@ -95,11 +81,11 @@ impl Setup {
     ghost use Rattle.pb_board.specs.MovedPiece.{with_two_moved};
     ghost use Rattle.pb_board.specs.Refusal.{IsFirstFault};
 
-    /// The setup of these parts, with the board by square index.
+    /// Makes a setup, of a board by square index.
     ///
     /// # Errors
     ///
-    /// The first of `Kings`, `Pawns` and `EnPassant` whose rule the parts break.
+    /// The first of `Kings`, `Pawns` and `EnPassant` whose rule is broken.
     pub fn build(
         board: [Option<Piece>; 64],
         turn: Colour,
@@ -133,8 +119,8 @@ impl Setup {
         })
     }
 
-    /// Moves a piece from one square to another, in place: the other side is then to move, with
-    /// these rights and this en passant square. The caller has to know that the result is a setup.
+    /// Moves a piece in place: the other side is then to move, with these rights and this en passant
+    /// square.
     #[inline(always)]
     pub fn move_piece(
         &mut self,
@@ -156,8 +142,7 @@ impl Setup {
         next.ep = ep;
     }
 
-    /// Moves two pieces one after the other, in place, as when king and rook castle. The rest is as
-    /// for `move_piece`.
+    /// Moves two pieces, as when king and rook castle, and else does as `move_piece`.
     pub fn move_two(
         &mut self,
         first: MovedPiece,
@@ -178,7 +163,7 @@ impl Setup {
         next.ep = ep;
     }
 
-    /// The initial array, with White to move and every castling open.
+    /// Gives the initial array, with White to move and every castling open.
     pub fn start() -> Setup
         ensures { result ≡ initial }
     {
@@ -190,7 +175,7 @@ impl Setup {
         }
     }
 
-    /// Whether it is the initial array, with White to move and every castling open.
+    /// Tells whether it is `Setup::start()`.
     pub fn is_start(&self) -> bool
         ensures { IsTrue result ↔ (self.now ≡ initial) }
     {
@@ -206,14 +191,14 @@ impl Setup {
             && bitboards == initial_bitboards()
     }
 
-    /// The places of the board by square index, from a1 to h8.
+    /// Gives what stands on each square, by square index.
     pub fn board(&self) -> [Option<Piece>; 64]
         ensures { result ≡ self.now.board }
     {
         bitboards::board_of(&self.bitboards)
     }
 
-    /// What stands on the square.
+    /// Gives what stands on the square.
     #[inline(always)]
     pub fn at(&self, square: Square) -> Option<Piece>
         ensures value { result ≡ at self.now.board square }
@@ -222,7 +207,7 @@ impl Setup {
         bitboards::piece_at(&self.bitboards, square.index())
     }
 
-    /// The side to move.
+    /// Gives the side to move.
     pub fn turn(&self) -> Colour
         ensures value { result ≡ self.now.turn }
         ensures rules { IsSetup self.now }
@@ -230,14 +215,14 @@ impl Setup {
         self.turn
     }
 
-    /// The castling rights.
+    /// Gives the castling rights.
     pub fn rights(&self) -> Rights
         ensures { result ≡ self.now.rights }
     {
         self.rights
     }
 
-    /// The en passant square, where there is one.
+    /// Gives the en passant square, where there is one.
     pub fn ep(&self) -> Option<Square>
         ensures value { result ≡ self.now.ep }
         ensures rules { IsSetup self.now }
@@ -245,7 +230,7 @@ impl Setup {
         self.ep
     }
 
-    /// The squares on which something stands: bit `i` stands for the square of index `i`.
+    /// Gives the squares on which something stands: bit `i` stands for the square of index `i`.
     #[inline(always)]
     pub fn occupied(&self) -> u64
         ensures squares { (q : ℕ) → (bit_at result q ≡ 1) ↔ ¬ IsEmpty self.now.board q }
@@ -254,7 +239,7 @@ impl Setup {
         bitboards::occupied(self.bitboards)
     }
 
-    /// The squares on which this side's pieces stand: bit `i` stands for the square of index `i`.
+    /// Gives the squares of this side's pieces, as `occupied` does.
     #[inline(always)]
     pub fn by_colour(&self, colour: Colour) -> u64
         ensures squares { (q : ℕ) → (bit_at result q ≡ 1)
@@ -264,7 +249,7 @@ impl Setup {
         bitboards::by_colour(self.bitboards, colour)
     }
 
-    /// The squares on which this piece stands: bit `i` stands for the square of index `i`.
+    /// Gives the squares of this piece, as `occupied` does.
     #[inline(always)]
     pub fn by_piece(&self, piece: Piece) -> u64
         ensures { (q : ℕ) → (bit_at result q ≡ 1) ↔ Holds self.now.board q piece }
@@ -272,7 +257,7 @@ impl Setup {
         bitboards::by_piece(self.bitboards, piece)
     }
 
-    /// The square of this colour's king.
+    /// Gives the square of this colour's king.
     pub fn king(&self, colour: Colour) -> Square
         ensures { IsOnlyKing self.now.board colour result }
     {

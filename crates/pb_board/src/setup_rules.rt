@@ -4,7 +4,6 @@ ghost use Rattle.std.specs.Prelude.{◌≡◌, ◌↔◌, ℕ, IsTrue, MatchOpti
 ghost use Rattle.pb_board.specs.declared.piece.Colour.{Colour};
 ghost use Rattle.pb_board.specs.Board.{Board};
 ghost use Rattle.pb_board.specs.Bitboards.{bitboards_of};
-ghost use Rattle.pb_board.specs.Piece.{pawn_of};
 ghost use Rattle.pb_board.specs.Position.{EnPassantHolds, HasNoEdgePawn, IsOnlyKing};
 ghost use Rattle.pb_board.specs.Position.{OnEnPassantRank};
 
@@ -12,7 +11,6 @@ use crate::bitboards::{self, Bitboards};
 use crate::piece::{Colour, Kind, Piece};
 use crate::square::Square;
 
-/// The square of this colour's king, if exactly one stands on the board that these squares are of.
 pub(crate) fn one_king(bitboards: Bitboards, colour: Colour) -> Option<Square>
     ensures { (b : Board) → bitboards ≡ bitboards_of b
         → MatchOption result ((king : ℕ) → ¬ IsOnlyKing b colour king) (IsOnlyKing b colour) }
@@ -27,7 +25,6 @@ pub(crate) fn one_king(bitboards: Bitboards, colour: Colour) -> Option<Square>
     }
 }
 
-/// The square of this colour's king, where it is known that one stands there alone.
 #[inline(always)]
 pub(crate) fn only_king(bitboards: Bitboards, colour: Colour) -> Square
     ensures { (b : Board) (king : ℕ) → bitboards ≡ bitboards_of b → IsOnlyKing b colour king
@@ -40,10 +37,8 @@ pub(crate) fn only_king(bitboards: Bitboards, colour: Colour) -> Square
     Square::from_index((kings.trailing_zeros() % 64) as u8).unwrap()
 }
 
-/// The squares of ranks 1 and 8.
 const EDGE_RANKS: u64 = 0xFF00_0000_0000_00FF;
 
-/// Tells whether no pawn stands on rank 1 or 8 of the board that these squares are of.
 pub(crate) fn has_no_edge_pawn(bitboards: Bitboards) -> bool
     ensures { (b : Board) → length b ≡ 64 → bitboards ≡ bitboards_of b
         → (IsTrue result ↔ HasNoEdgePawn b) }
@@ -51,7 +46,6 @@ pub(crate) fn has_no_edge_pawn(bitboards: Bitboards) -> bool
     bitboards::by_kind(bitboards, Kind::Pawn) & EDGE_RANKS == 0
 }
 
-/// Tells whether the square is empty, with an enemy pawn directly beyond it.
 pub(crate) fn is_en_passant_square(
     board: &[Option<Piece>; 64],
     turn: Colour,
@@ -65,13 +59,9 @@ pub(crate) fn is_en_passant_square(
         Colour::White => square - 8,
         Colour::Black => square + 8,
     };
-    board[square].is_none() && is_pawn(board[beyond], turn.opponent())
-}
-
-/// Tells whether a pawn of this colour stands there.
-fn is_pawn(place: Option<Piece>, colour: Colour) -> bool
-    ensures { IsTrue result ↔ (place ≡ Some (pawn_of colour)) }
-{
-    let kind = Kind::Pawn;
-    place == Some(Piece { colour, kind })
+    let pawn = Piece {
+        colour: turn.opponent(),
+        kind: Kind::Pawn,
+    };
+    board[square].is_none() && board[beyond] == Some(pawn)
 }

@@ -4,8 +4,8 @@ ghost use Rattle.std.specs.Prelude.{◌≡◌, ◌<◌, ◌+◌, ◌*◌, ◌/�
 
 use std::marker::Model;
 
-/// A square, seen as its number `8 * rank + file`: a1 is 0, and h8 is 63.
-#[derive(Clone, Copy, Debug, PartialEq, Eq, PartialOrd, Ord, Hash)]
+/// Names a square by its number `8 * rank + file`: a1 is 0, and h8 is 63.
+#[derive(Clone, Copy, Debug, PartialEq, Eq, Hash)]
 pub struct Square {
     index: u8,
 }
@@ -23,7 +23,6 @@ impl Model for Square {
 }
 
 impl Square {
-    // The squares between which kings and rooks castle.
     pub(crate) const A1: Square = Square { index: 0 };
 
     pub(crate) const C1: Square = Square { index: 2 };
@@ -52,8 +51,7 @@ impl Square {
 
     pub(crate) const H8: Square = Square { index: 63 };
 
-    /// The square on a file and a rank, both counted from 0. None exactly where one of them is
-    /// above 7.
+    /// Finds the square on a file and a rank, both counted from 0. None exactly where one is above 7.
     pub fn new(file: u8, rank: u8) -> Option<Square>
         ensures { SomeIff result ((file < 8) × (rank < 8)) (8 * rank + file) }
     {
@@ -66,7 +64,7 @@ impl Square {
         }
     }
 
-    /// The square of this number, `8 * rank + file`. None exactly where it is above 63.
+    /// Finds the square of this number, `8 * rank + file`. None exactly where it is above 63.
     pub fn from_index(index: u8) -> Option<Square>
         ensures { SomeIff result (index < 64) index }
     {
@@ -77,7 +75,7 @@ impl Square {
         }
     }
 
-    /// The file, from 0 for the a-file.
+    /// Gives the file, from 0 for the a-file.
     pub fn file(self) -> u8
         ensures below { result < 8 }
         ensures value { result ≡ self % 8 }
@@ -85,7 +83,7 @@ impl Square {
         self.index % 8
     }
 
-    /// The rank, from 0 for rank 1.
+    /// Gives the rank, from 0 for rank 1.
     pub fn rank(self) -> u8
         ensures below { result < 8 }
         ensures value { result ≡ self / 8 }
@@ -93,7 +91,7 @@ impl Square {
         self.index / 8
     }
 
-    /// The number of the square.
+    /// Gives the number of the square.
     pub fn index(self) -> u8
         ensures below { result < 64 }
         ensures value { result ≡ self }

@@ -13,7 +13,6 @@ use crate::piece::Colour;
 use crate::setup::Rights;
 use crate::square::Square;
 
-/// The side to move.
 pub(crate) fn read_turn(text: &[u8]) -> Option<Colour>
     ensures { MatchOption result ((turn : Colour) → text.now ≢ turn_text turn) (λ turn.
         text.now ≡ turn_text turn) }
@@ -25,7 +24,6 @@ pub(crate) fn read_turn(text: &[u8]) -> Option<Colour>
     }
 }
 
-/// The castling flags.
 pub(crate) fn read_rights(text: &[u8]) -> Option<Rights>
     ensures { MatchOption result ((rights : Rights) → text.now ≢ castling_text rights) (λ rights.
         text.now ≡ castling_text rights) }
@@ -53,7 +51,6 @@ pub(crate) fn read_rights(text: &[u8]) -> Option<Rights>
     })
 }
 
-/// Tells whether the text begins with the letter, and gives what is left without it.
 fn strip(text: &[u8], letter: u8) -> (bool, &[u8])
     ensures { MatchBool result.0 (text.now ≡ letter ∷ result.1.now)
         ((result.1.now ≡ text.now) × NotFirst letter text.now) }
@@ -64,7 +61,6 @@ fn strip(text: &[u8], letter: u8) -> (bool, &[u8])
     }
 }
 
-/// The en passant square, on the rank that fits the side to move.
 pub(crate) fn read_en_passant(text: &[u8], turn: Colour) -> Option<Option<Square>>
     ensures { MatchOption result ((ep : Option ℕ) → text.now ≡ en_passant_text ep
         → ¬ IfSome ep (OnEnPassantRank turn))
@@ -79,7 +75,6 @@ pub(crate) fn read_en_passant(text: &[u8], turn: Colour) -> Option<Option<Square
     }
 }
 
-/// The rank, from 0, of an en passant square with this side to move.
 pub(crate) fn en_passant_rank(turn: Colour) -> u8
     ensures is { (q : ℕ) → (rank q ≡ result) ↔ OnEnPassantRank turn q }
     ensures on_board { result < 8 }

@@ -1,4 +1,4 @@
-//! Writing a FEN record.
+//! Writes FEN records.
 
 ghost use Rattle.std.specs.Prelude.{◌≡◌, ◌≤◌, ◌<◌, ◌+◌, ◌++◌, IfOk, decimal, length};
 ghost use Rattle.pb_board.specs.Text.{piece_letter, empty_squares, rank_text, placement_text};
@@ -9,9 +9,9 @@ use crate::fen::{Fen, FenBytes};
 use crate::piece::{Colour, Piece};
 use crate::setup::{Rights, Setup};
 use crate::square::Square;
+use crate::text::Text;
 use std::alloc::{AllocError, Global};
 
-/// The letter of a piece.
 fn letter_of(piece: Piece) -> u8
     ensures { result ≡ piece_letter piece }
 {
@@ -22,7 +22,6 @@ fn letter_of(piece: Piece) -> u8
     }
 }
 
-/// Writes the text of a rank.
 fn put_rank(out: &mut FenBytes, squares: &[Option<Piece>])
     requires room { length out.old + length squares.now ≤ 93 }
     requires eight { length squares.now ≤ 8 }
@@ -43,7 +42,6 @@ fn put_rank(out: &mut FenBytes, squares: &[Option<Piece>])
     put_run(out, run);
 }
 
-/// Writes the digit of a run of empty squares, if there is one.
 fn put_run(out: &mut FenBytes, run: u8)
     requires room { length out.old + run ≤ 93 }
     requires small { run ≤ 8 }
@@ -54,10 +52,10 @@ fn put_run(out: &mut FenBytes, run: u8)
     }
 }
 
-/// Writes a number.
-fn put_number(out: &mut FenBytes, number: u16)
-    requires { length out.old + length (decimal number) ≤ 93 }
-    ensures { out.new ≡ out.old ++ decimal number }
+pub(crate) fn put_number(out: &mut FenBytes, number: u16)
+    requires { length out.old + 5 ≤ 93 }
+    ensures short { length (decimal number) ≤ 5 }
+    ensures text { out.new ≡ out.old ++ decimal number }
 {
     if number >= 10 {
         put_number(out, number / 10);
@@ -65,16 +63,6 @@ fn put_number(out: &mut FenBytes, number: u16)
     out.push(b'0' + (number % 10) as u8);
 }
 
-/// Writes a clock, of at most five digits.
-fn put_clock(out: &mut FenBytes, number: u16)
-    requires { length out.old + 5 ≤ 93 }
-    ensures short { length (decimal number) ≤ 5 }
-    ensures text { out.new ≡ out.old ++ decimal number }
-{
-    put_number(out, number);
-}
-
-/// Writes the text of a board.
 fn put_placement(out: &mut FenBytes, board: &[Option<Piece>; 64])
     requires { length out.old ≡ 0 }
     ensures short { length (placement_text board.now) ≤ 71 }
@@ -88,7 +76,6 @@ fn put_placement(out: &mut FenBytes, board: &[Option<Piece>; 64])
     }
 }
 
-/// Writes the letters of the castling flags.
 fn put_rights(out: &mut FenBytes, rights: Rights)
     requires { length out.old + 4 ≤ 93 }
     ensures short { length (castling_text rights) ≤ 4 }
@@ -112,7 +99,6 @@ fn put_rights(out: &mut FenBytes, rights: Rights)
     }
 }
 
-/// Writes the en passant square.
 fn put_en_passant(out: &mut FenBytes, ep: Option<Square>)
     requires { length out.old + 2 ≤ 93 }
     ensures short { length (en_passant_text ep) ≤ 2 }
@@ -127,7 +113,6 @@ fn put_en_passant(out: &mut FenBytes, ep: Option<Square>)
     }
 }
 
-/// Writes the side to move.
 fn put_turn(out: &mut FenBytes, turn: Colour)
     requires { length out.old < 93 }
     ensures { out.new ≡ out.old ++ turn_text turn }
@@ -138,7 +123,6 @@ fn put_turn(out: &mut FenBytes, turn: Colour)
     });
 }
 
-/// Writes the first four fields.
 pub(crate) fn put_setup(out: &mut FenBytes, setup: &Setup)
     requires { length out.old ≡ 0 }
     ensures short { length (setup_text setup.now) ≤ 81 }
@@ -153,7 +137,7 @@ pub(crate) fn put_setup(out: &mut FenBytes, setup: &Setup)
     put_en_passant(out, setup.ep());
 }
 
-/// The text of a record, in memory of its own; `Fen::text` gives it without taking any.
+/// Gives the text of a record; `Fen::text` gives it without taking memory.
 ///
 /// # Errors
 ///
@@ -164,7 +148,7 @@ pub fn write_fen(alloc: Global, fen: &Fen) -> Result<Vec<u8>, AllocError>
     fen.text().as_bytes().to_vec(alloc)
 }
 
-/// The first four fields of a record's text, with single spaces between.
+/// Gives the first four fields of a record's text, with single spaces between.
 ///
 /// # Errors
 ///
@@ -172,20 +156,7 @@ pub fn write_fen(alloc: Global, fen: &Fen) -> Result<Vec<u8>, AllocError>
 pub fn write_setup(alloc: Global, setup: &Setup) -> Result<Vec<u8>, AllocError>
     ensures { IfOk result (λ v. v.items ≡ setup_text setup.now) }
 {
-    let mut out = FenBytes::new();
+    let mut out = Text::new();
     put_setup(&mut out, setup);
     out.as_bytes().to_vec(alloc)
-}
-
-/// The text of a record.
-pub(crate) fn fen_text(fen: &Fen) -> FenBytes
-    ensures { result ≡ fen_text fen.now }
-{
-    let mut out = FenBytes::new();
-    put_setup(&mut out, &fen.setup());
-    out.push(b' ');
-    put_clock(&mut out, fen.half());
-    out.push(b' ');
-    put_clock(&mut out, fen.full());
-    out
 }

@@ -1,27 +1,35 @@
--- Which orders the words of a command would give.
-use Rattle.std.proofs.Common.{◌≡◌, ◌==◌, List, Some, ap, codes, slice_index_or}
+-- Which orders the arguments of a command would give.
+use Rattle.std.proofs.Common.{◌≡◌, ◌==◌, List, Some, ap, codes, refl, slice_index_or, subst}
 use Rattle.std.proofs.lemmas.Bool.{false≢true}
 use Rattle.clap.specs.Walk.{texts}
 use Rattle.clap.specs.Words.{Row, Text, all_of}
 use Rattle.pb_accepted.specs.Rules.{CountingRules}
 use Rattle.pb_cli.specs.declared.order.Keeping.{Keeping}
+use Rattle.pb_cli.specs.declared.order.CollectOrder.{CollectOrder}
+use Rattle.pb_cli.specs.declared.order.Order.{Order}
 use Rattle.pb_cli.specs.declared.order.Order.TheVariants as order
 use Rattle.pb_cli.specs.declared.order.ParseFault.{ParseFault}
 use Rattle.pb_cli.specs.declared.order.ParseFault.TheVariants.{Memory}
-use Rattle.pb_cli.specs.Orders.{HasKeeping, HasRules, RefusesFor}
+use Rattle.pb_cli.specs.Orders.{HasArguments, HasKeeping, HasRules, RefusesFor, name_of}
+
+collects : (o : Order) → name_of o ≡ codes "collect" → (given : CollectOrder) × (o ≡ order.Collect given)
+collects (order.Fen fen moves) named = absurd (cc named)
+collects order.Epd named = absurd (cc named)
+collects (order.Show book) named = absurd (cc named)
+collects (order.Probe table book fen) named = absurd (cc named)
+collects (order.Lookup table book) named = absurd (cc named)
+collects order.Check named = absurd (cc named)
+collects (order.Collect given) named = (given, refl)
+collects (order.Export given) named = absurd (cc named)
+collects (order.Games files) named = absurd (cc named)
+
+collected : (rows : List Row) (o : Order) → HasArguments o rows → (c : (given : CollectOrder) × (o ≡ order.Collect given)) → HasArguments (order.Collect c.0) rows
+collected rows o has c = subst (λ (x : Order). HasArguments x rows) c.1 has
 
 module _ (rows : List Row) (fault : ParseFault) (none : (rules : CountingRules) → HasRules rules rows → fault ≡ Memory) where
   -- without rules the two commands that take games have no order
   pub refuses_collect : RefusesFor (codes "collect") rows fault
-  refuses_collect (order.Fen fen moves) named has = absurd (cc named)
-  refuses_collect order.Epd named has = absurd (cc named)
-  refuses_collect (order.Show book) named has = absurd (cc named)
-  refuses_collect (order.Probe table book fen) named has = absurd (cc named)
-  refuses_collect (order.Lookup table book) named has = absurd (cc named)
-  refuses_collect order.Check named has = absurd (cc named)
-  refuses_collect (order.Collect given) named has = none given.rules has.0
-  refuses_collect (order.Export given) named has = absurd (cc named)
-  refuses_collect (order.Games files) named has = absurd (cc named)
+  refuses_collect o named has = let c = collects o named in none c.0.rules (collected rows o has c).0
 
   pub refuses_export : RefusesFor (codes "export") rows fault
   refuses_export (order.Fen fen moves) named has = absurd (cc named)
@@ -34,18 +42,9 @@ module _ (rows : List Row) (fault : ParseFault) (none : (rules : CountingRules) 
   refuses_export (order.Export given) named has = none given.rules has.0
   refuses_export (order.Games files) named has = absurd (cc named)
 
-module _ (rows : List Row) (fault : ParseFault) (none : (kept : Keeping) → HasKeeping kept rows → fault ≡ Memory) where
-  -- nor has `collect` without what it keeps
-  pub refuses_kept : RefusesFor (codes "collect") rows fault
-  refuses_kept (order.Fen fen moves) named has = absurd (cc named)
-  refuses_kept order.Epd named has = absurd (cc named)
-  refuses_kept (order.Show book) named has = absurd (cc named)
-  refuses_kept (order.Probe table book fen) named has = absurd (cc named)
-  refuses_kept (order.Lookup table book) named has = absurd (cc named)
-  refuses_kept order.Check named has = absurd (cc named)
-  refuses_kept (order.Collect given) named has = none given.kept has.1
-  refuses_kept (order.Export given) named has = absurd (cc named)
-  refuses_kept (order.Games files) named has = absurd (cc named)
+-- nor has `collect` without what it keeps
+pub refuses_kept : (rows : List Row) (fault : ParseFault) → ((kept : Keeping) → HasKeeping kept rows → fault ≡ Memory) → RefusesFor (codes "collect") rows fault
+refuses_kept rows fault none o named has = let c = collects o named in none c.0.kept (collected rows o has c).1
 
 module _ (rows : List Row) (fault : ParseFault) (none : (files : List Text) → all_of (codes "FILE") rows ≡ Some files → fault ≡ Memory) where
   -- nor has `games` without a file

@@ -1,17 +1,17 @@
--- The command line of `pbook`: one level of commands, each with its words.
+-- The command line of `pbook`: one level of commands, each with its arguments.
 use Rattle.std.specs.Prelude.{ℕ, Some, [], ◌∷◌, codes, true}
 use Rattle.clap.specs.Words.{App, Rule, Text, new_app, new_rule, with_rule, with_subcommand}
 use Rattle.clap.specs.Simple.{on_top}
 use Rattle.clap.specs.Lexer.{usize_max}
 use Rattle.clap.specs.declared.builder.action.ArgAction.TheVariants.{Append, Set, SetTrue}
 
--- a word that has to be given
-abbrev pub required_word : Text → Rule
-required_word id = record (new_rule id) { required = true; action = Some Set }
+-- an argument that has to be given
+abbrev pub required_argument : Text → Rule
+required_argument id = record (new_rule id) { required = true; action = Some Set }
 
--- words, so many at least
-abbrev pub words_from : ℕ → Text → Rule
-words_from least id = record (new_rule id) {
+-- arguments, so many at least
+abbrev pub arguments_from : ℕ → Text → Rule
+arguments_from least id = record (new_rule id) {
   action = Some Append;
   range = Some (record { start_inclusive = least; end_inclusive = usize_max });
 }
@@ -43,40 +43,40 @@ abbrev pub with_games : App → App
 with_games app = with_rule (with_rule (with_rule
     (with_rule (with_rule app (option_with (codes "plies") (codes "1024")))
     (option_with (codes "least") (codes "1"))) (flag (codes "summary"))) quiet_flag)
-    (required_word (codes "TABLE"))
+    (required_argument (codes "TABLE"))
 
 abbrev pub fen_command : App
-fen_command = with_rule (with_rule (new_app (codes "fen")) (required_word (codes "FEN")))
-    (words_from 0 (codes "MOVES"))
+fen_command = with_rule (with_rule (new_app (codes "fen")) (required_argument (codes "FEN")))
+    (arguments_from 0 (codes "MOVES"))
 
 abbrev pub epd_command : App
 epd_command = new_app (codes "epd")
 
 abbrev pub show_command : App
-show_command = with_rule (new_app (codes "show")) (required_word (codes "BOOK"))
+show_command = with_rule (new_app (codes "show")) (required_argument (codes "BOOK"))
 
 abbrev pub probe_command : App
 probe_command = with_rule (with_rule (with_rule (new_app (codes "probe"))
-    (required_word (codes "TABLE"))) (required_word (codes "BOOK")))
-    (required_word (codes "FEN"))
+    (required_argument (codes "TABLE"))) (required_argument (codes "BOOK")))
+    (required_argument (codes "FEN"))
 
 abbrev pub lookup_command : App
-lookup_command = with_rule (with_rule (new_app (codes "lookup")) (required_word (codes "TABLE")))
-    (required_word (codes "BOOK"))
+lookup_command = with_rule (with_rule (new_app (codes "lookup")) (required_argument (codes "TABLE")))
+    (required_argument (codes "BOOK"))
 
 abbrev pub check_command : App
 check_command = new_app (codes "check")
 
 abbrev pub collect_command : App
 collect_command =
-    with_rule (with_games (with_keeping (new_app (codes "collect")))) (required_word (codes "BOOK"))
+    with_rule (with_games (with_keeping (new_app (codes "collect")))) (required_argument (codes "BOOK"))
 
 abbrev pub export_command : App
 export_command = with_games (new_app (codes "export"))
 
 abbrev pub games_command : App
 games_command = with_rule (new_app (codes "games"))
-    (record (words_from 1 (codes "FILE")) { required = true })
+    (record (arguments_from 1 (codes "FILE")) { required = true })
 
 -- the program, before its commands
 abbrev pub program_alone : App

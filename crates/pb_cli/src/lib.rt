@@ -1,17 +1,16 @@
-//! Parses the command line of `pbook` into an `Order`. Re-exports a function for each command, and
-//! the stores where a ledger and its book are kept. What a command does is known below.
+//! Parses the command line of `pbook` into an `Order`, and re-exports a function for each command and
+//! the stores where a ledger and its book are kept.
 #![tactic(auto)]
 
 mod grammar;
-pub mod laws;
 mod order;
 
 pub use order::{CollectOrder, ExportOrder, Keeping, Order, ParseFault, parse};
-// What counts is said by the words alone: a program that knows no `Rules` has no others to hand on.
+// What counts is said by the arguments alone: a program that knows no `Rules` has no others.
 pub use pb_collecting::{
     Accepted, Continued, Ends, JournalEnds, LedgerEnds, LoadError, MAX_LEAST, MAX_PLIES, Made,
-    NoBook, NotContinued, NotWhole, Refusal, Report, Store, StoreError, Text, Totals, Unread,
-    Watcher, collect_into, continue_into, export_submissions, journal_into, pick_games, run_check,
+    NoBook, NotWhole, Refusal, Report, Store, StoreError, Text, Totals, Unread, Watcher,
+    collect_into, continue_into, export_submissions, journal_into, pick_games, run_check,
     run_collect, run_continue, run_export,
 };
 pub use pb_commands::{

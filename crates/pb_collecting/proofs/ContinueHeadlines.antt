@@ -44,7 +44,7 @@ module _ (rules : CountingRules) (fills : â„•) (e : EndStates) (randoms : List â
       let collects = took.done.collects in
       let leads = collects.leads in
       let table = found_table fills e.table.old e.table.new randoms read in
-      let T : Basis = record { words = randoms; rules = rules } in
+      let T : Basis = record { randoms = randoms; rules = rules } in
       record {
         at = record {
           file = table.came;

@@ -1,5 +1,5 @@
 -- What a run of the command `export` blames, from how it ends.
-use Rattle.std.proofs.Common.{◌≡◌, ◌∙◌, ◌≢◌, ℕ, Result, Ok, Err, ap, false, inl, inr, refl, subst, sym, true}
+use Rattle.std.proofs.Common.{◌≡◌, ◌∙◌, ◌≢◌, ℕ, Result, Ok, Err, ap, false, refl, subst, sym, true}
 use Rattle.std.specs.Prelude.{IfErr}
 use Rattle.pb_io.specs.Sink.{AwaitsFlush, SinkState}
 use Rattle.pb_io.specs.declared.fault.Fault.{Fault}

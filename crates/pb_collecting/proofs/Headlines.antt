@@ -1,5 +1,5 @@
 -- The theorem of `pbook collect`, from what a run does.
-use Rattle.std.proofs.Common.{◌≡◌, ℕ, List, [], All, Ok, Err, inl, inr, refl, subst, sym}
+use Rattle.std.proofs.Common.{◌≡◌, ℕ, List, [], All, Ok, Err, refl, subst, sym}
 use Rattle.pb_io.specs.Lines.{lines}
 use Rattle.pb_poly.proofs.EntryBytes.{book_is_one}
 use Rattle.pb_poly.proofs.ToldReads.{handed_out}
@@ -52,7 +52,7 @@ module _ (rules : CountingRules) (fills : ℕ) (e : EndStates) where
       let took = takes.0 in
       let collects = took.done.collects in
       let bytes = took.came in
-      let T : Basis = record { words = randoms; rules = rules } in (
+      let T : Basis = record { randoms = randoms; rules = rules } in (
         (
           record {
             file = table.came;

@@ -3,7 +3,7 @@ use Rattle.std.proofs.Common.{◌≡◌, ℕ, ◌⊎◌, List, Result, Ok, Err, 
 use Rattle.pb_ledger.specs.Change.{across}
 use Rattle.pb_ledger.specs.Streams.{Puts}
 use Rattle.pb_io.specs.Source.{HandsOut}
-use Rattle.pb_io.specs.Sink.{AllLasts, LastsFirst, SinkState}
+use Rattle.pb_io.specs.Sink.{LastsFirst, SinkState}
 use Rattle.pb_io.specs.declared.fault.Fault.TheVariants.{Memory}
 use Rattle.pb_poly.proofs.ToldReads.{handed_out}
 use Rattle.pb_poly.specs.Book.{book_bytes}
@@ -11,7 +11,7 @@ use Rattle.pb_accepted.specs.Ledger.{LedgerState}
 use Rattle.pb_accepted.specs.Rules.{CountingRules}
 use Rattle.pb_ledger.proofs.Changes.{from_to}
 use Rattle.pb_collecting.specs.Ends.{EndStates, IsSame, JournalStates}
-use Rattle.pb_collecting.specs.JournalHeadline.{HasHeadlineOfJournal, HoldsAnswered, LosesNone, LosesNoneLater, Survives}
+use Rattle.pb_collecting.specs.JournalHeadline.{HasHeadlineOfJournal, LosesNone, LosesNoneLater, Survives}
 use Rattle.pb_collecting.specs.Run.{LeavesLedger}
 use Rattle.pb_collecting.specs.Runs as runs
 use Rattle.pb_collecting.specs.Runs.{Collected, JournalRun, new_ledger}

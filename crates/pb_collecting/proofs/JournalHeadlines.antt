@@ -1,5 +1,5 @@
 -- The theorem of a run with a journal, from what it does.
-use Rattle.std.proofs.Common.{◌≡◌, ℕ, List, ◌++◌, All, Ok, subst}
+use Rattle.std.proofs.Common.{◌≡◌, ℕ, List, All, Ok, subst}
 use Rattle.std.proofs.KnownBytes.{Appends-trans}
 use Rattle.pb_io.specs.Sink.{SinkState}
 use Rattle.pb_io.specs.Lines.{lines}

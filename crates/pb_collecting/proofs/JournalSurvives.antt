@@ -1,5 +1,5 @@
 -- However a run with a journal ends, no acknowledged game is lost.
-use Rattle.std.proofs.Common.{◌≡◌, ◌∙◌, ℕ, ◌+◌, ◌⊎◌, List, ◌∷◌, [], ◌++◌, Some, Ok, append_assoc, ap, inl, inr, length, refl, slice_get, subst, sym, take, Option, None, IfSome, append-nil}
+use Rattle.std.proofs.Common.{◌≡◌, ◌∙◌, ℕ, ◌+◌, ◌⊎◌, List, ◌∷◌, [], ◌++◌, Some, Ok, append_assoc, ap, inl, inr, length, refl, slice_get, subst, sym, take, Option, None, append-nil}
 use Rattle.std.specs.Io.KnownBytes.{Appends}
 use Rattle.std.proofs.KnownBytes.{Appends-trans}
 use Rattle.std.proofs.Math.Seq.{take-append-add, take-length}

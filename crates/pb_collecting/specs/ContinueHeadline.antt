@@ -32,7 +32,7 @@ pub record GoesOn (rules : CountingRules) (e : EndStates) (held games : List Sub
   -- is that of one run of the lines of both. So the book is that of the games that were answered
   -- `ok` in both, each of them once.
   pub effect : (K : List (List ℕ)) (Q : List Answer) → Run most_games [] K Q held
-      → Effect (record { words = randoms; rules = rules }) (K ++ lines at.bytes)
+      → Effect (record { randoms = randoms; rules = rules }) (K ++ lines at.bytes)
       (reply_texts (K ++ lines at.bytes) (Q ++ answers)) games entries book
 
 -- The saved ledger, of which its source handed out all bytes, wasn't cut; its games were held

@@ -40,7 +40,7 @@ pub record Headline (rules : CountingRules) (file bytes put : List ℕ) (entries
   -- the lines of the submissions are replied to, and just the replies were put, each as a line
   pub replies : List (List ℕ)
   pub games : List Submission
-  pub effect : Effect (record { words = randoms; rules = rules })
+  pub effect : Effect (record { randoms = randoms; rules = rules })
       (lines bytes) replies games entries book
   pub replied : put ≡ flat_map (λ r. r ++ 10 ∷ []) replies
 

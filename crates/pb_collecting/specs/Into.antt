@@ -8,9 +8,7 @@ use Rattle.pb_ledger.specs.Change.{across}
 use Rattle.pb_ledger.specs.Saving.{Saved}
 use Rattle.pb_collecting.specs.Ends.{Change, IsSame}
 use Rattle.pb_collecting.specs.Runs.{Collected, Left}
-use Rattle.pb_collecting.specs.Store.{Keeps, StoreState}
-use Rattle.pb_collecting.specs.declared.continuing_into.NotContinued.{NotContinued}
-use Rattle.pb_collecting.specs.declared.continuing_into.NotContinued.TheVariants as unkept
+use Rattle.pb_collecting.specs.Store.{KeepsBytes, StoreState}
 use Rattle.pb_collecting.specs.declared.keeping.NoBook.{NoBook}
 use Rattle.pb_collecting.specs.declared.keeping.NoBook.TheVariants as no
 use Rattle.pb_collecting.specs.declared.made.Made.{Made}
@@ -22,7 +20,7 @@ use Rattle.pb_collecting.specs.declared.store.StoreError.{StoreError}
 
 -- the bytes of these entries were kept with this answer, which counts them
 abbrev pub KeepsEntries : Change StoreState → List Entry → Result ℕ StoreError → Type 0
-KeepsEntries store entries answer = across Keeps store answer (book_bytes entries)
+KeepsEntries store entries answer = across KeepsBytes store answer (book_bytes entries)
     × IfOk answer (λ n. n ≡ min (length entries) (2 ^ 64 - 1))
 
 -- how a run ends that keeps its book: at the store, and the report counts its entries; with the
@@ -34,6 +32,7 @@ Into run store (Ok (Book report)) = (made : Collected) × run (Ok made)
     × KeepsEntries store made.entries (Ok report.entries) × (report.totals ≡ made.totals)
 Into run store (Ok (Unread why)) = run (Err (stopped.Unread why)) × IsSame store
 Into run store (Err (no.Run fault)) = run (Err (stopped.Fault fault)) × IsSame store
+Into run store (Err (no.Ledger why)) = ⊥
 Into run store (Err (no.Keep why)) =
     (made : Collected) × run (Ok made) × KeepsEntries store made.entries (Err why)
 
@@ -44,7 +43,7 @@ pub record KeepsLedger (run : Result Left Stopped → Type 0) (store : Change St
   pub ran : run (Ok (record { ledger = left; made = made }))
   pub bytes : List ℕ
   pub saved : Saved left.accepted bytes
-  pub keeps : across Keeps store answer bytes
+  pub keeps : across KeepsBytes store answer bytes
 
 -- A run that keeps its ledger before its book: what was made of it, once the ledger was kept; or
 -- why nothing was, and then the ledger was kept if its store took it, or there is none.
@@ -58,14 +57,10 @@ LedgerFirst run store (Err why) = (run (Err why) × IsSame store)
 -- how a run ends that keeps its ledger and then its book: as one that keeps its book, once the
 -- ledger was kept; or without the ledger at its store, and the book's as it was
 abbrev pub ContinuesInto : (Result Left Stopped → Type 0) → Change StoreState → Change StoreState
-    → Result Made NotContinued → Type 0
-ContinuesInto run ledger book (Ok made) = Into (LedgerFirst run ledger) book (Ok made)
-ContinuesInto run ledger book (Err (unkept.Run fault)) =
-    Into (LedgerFirst run ledger) book (Err (no.Run fault))
-ContinuesInto run ledger book (Err (unkept.Book why)) =
-    Into (LedgerFirst run ledger) book (Err (no.Keep why))
-ContinuesInto run ledger book (Err (unkept.Ledger why)) =
+    → Result Made NoBook → Type 0
+ContinuesInto run ledger book (Err (no.Ledger why)) =
     (made : Collected) × KeepsLedger run ledger (Ok made) (Err why) × IsSame book
+ContinuesInto run ledger book result = Into (LedgerFirst run ledger) book result
 
 -- how an export ends: with a report, with the line that says why it read no submission, or with a
 -- fault

@@ -1,6 +1,6 @@
 -- How runs end that take submissions: one form for all, by what comes between the table and the
 -- submissions and by what is made of them.
-use Rattle.std.specs.Prelude.{◌≡◌, ◌⊎◌, ℕ, All, Bool, false, true, List, []}
+use Rattle.std.specs.Prelude.{◌≡◌, ◌⊎◌, ℕ, All, Bool, false, List, []}
 use Rattle.std.specs.Prelude.{IsOkAnd, is_some, Option, Some, None, Result, Ok, Err}
 use Rattle.std.specs.Result.{result_map_both}
 use Rattle.pb_io.specs.Sink.{SinkState}
@@ -11,7 +11,6 @@ use Rattle.pb_poly.specs.Entry.{IsEntry}
 use Rattle.pb_poly.specs.TableReading.{ReadsTable}
 use Rattle.pb_poly.specs.declared.entry.Entry.{Entry}
 use Rattle.pb_poly.specs.declared.table_file.TableFault.{TableFault}
-use Rattle.pb_games.specs.Submissions.{Submission}
 use Rattle.pb_accepted.specs.Counting.{IsBook, counted}
 use Rattle.pb_accepted.specs.Holding.{most_games}
 use Rattle.pb_accepted.specs.Ledger.{LedgerState}
@@ -56,7 +55,7 @@ pub record Left : Type 0 where
 -- a ledger of a table with these random numbers, without games
 abbrev pub new_ledger : CountingRules → List ℕ → LedgerState
 new_ledger rules randoms =
-    record { basis = record { words = randoms; rules = rules }; cap = most_games; accepted = [] }
+    record { basis = record { randoms = randoms; rules = rules }; cap = most_games; accepted = [] }
 
 -- there is nothing, for this reason: the line that says so was put, or a fault came
 abbrev pub IsRefused : {X : Type 0} → Unread → Change SinkState → Result X Stopped → Type 0

@@ -3,8 +3,8 @@
 use Rattle.std.specs.Prelude.{◌≡◌, ◌⊎◌, ℕ, List, Option, Some, Result, IfErr, IfOk, OnOk}
 use Rattle.std.specs.Prelude.{take}
 use Rattle.std.specs.Result.{result_err}
-use Rattle.pb_ledger.specs.declared.booking.WriteFault.{WriteFault}
-use Rattle.pb_ledger.specs.declared.booking.WriteFault.TheVariants as fault
+use Rattle.pb_export.specs.declared.exporting.ExportFault.{ExportFault}
+use Rattle.pb_export.specs.declared.exporting.ExportFault.TheVariants as fault
 use Rattle.pb_collecting.specs.declared.store.StoreError.{StoreError}
 use Rattle.pb_collecting.specs.declared.store.StoreError.TheVariants.{Open, Write, Memory}
 
@@ -23,7 +23,7 @@ Spoils new why bytes = (count : ℕ) × (new.handed ≡ Some (take count bytes))
 
 -- Keeping bytes: just these were handed to what has the store's name; or it tells why not, and is
 -- as it was or spoilt.
-pub record Keeps {A : Type 0} (old new : StoreState) (answer : Result A StoreError)
+pub record KeepsBytes {A : Type 0} (old new : StoreState) (answer : Result A StoreError)
     (bytes : List ℕ) : Type 0 where
   pub holds : OnOk answer (new.handed ≡ Some bytes)
   pub leaves : IfErr answer (λ why. (new.handed ≡ old.handed) ⊎ Spoils new why bytes)
@@ -38,9 +38,9 @@ TellsText is_text does answer = (bytes : List ℕ) × (count : ℕ) × is_text b
 -- a text was kept
 abbrev pub KeepsText : (List ℕ → ℕ → Type 0) → StoreState → StoreState → Result ℕ StoreError
     → Type 0
-KeepsText is_text old new answer = TellsText is_text (Keeps old new answer) answer
+KeepsText is_text old new answer = TellsText is_text (KeepsBytes old new answer) answer
 
 -- what a fault of writing is to a store
-abbrev pub store_error : WriteFault → StoreError
+abbrev pub store_error : ExportFault → StoreError
 store_error fault.Write = Write
 store_error fault.Memory = Memory

@@ -1,5 +1,4 @@
-//! The theorem of `pbook collect` on bytes in memory, in which nothing is said of sources and
-//! sinks.
+//! The theorem of `pbook collect` on bytes in memory.
 
 ghost use Rattle.std.specs.Prelude.{◌≡◌, ◌⊎◌, ◌≤◌, ◌-◌, ◌^◌, ℕ, IfErr, IfNone, IfOk, IfSome, List};
 ghost use Rattle.std.specs.Prelude.{length};
@@ -16,14 +15,12 @@ use pb_ledger::Rules;
 use pb_poly::Book;
 use std::alloc::Global;
 
-/// The replies to these submissions, and the opening book of the games that are accepted, whose
-/// keys come of the random numbers that the table's bytes write. The rules say which plies count.
+/// Gives the replies to these submissions, and the opening book of the games that are accepted, or
 /// None where the bytes write no table.
 ///
 /// # Errors
 ///
-/// `Memory` comes where a growth of the ledger, of the replies or of the book found no memory, and
-/// `Endless` where so many submissions can't be asked for: never below 2^32 - 1 bytes of them.
+/// `Memory`; and `Endless` for no fewer than 2^32 - 1 bytes of submissions.
 pub fn collect_bytes(
     alloc: Global,
     rules: Rules,
@@ -33,7 +30,6 @@ pub fn collect_bytes(
     ensures headline { IfOk result (λ answer. IfSome answer (λ made.
         (h : Headline rules table.now submissions.now made.0.items made.1 (book_bytes made.1))
         × SayAnswers (lines submissions.now) h.replies h.games)) }
-    // Without a book, the bytes are no table file, whatever the numbers.
     ensures refused { IfOk result (λ answer. IfNone answer
         ((randoms : List ℕ) → ¬ IsTableFile randoms table.now)) }
     ensures fault { IfErr result (λ fault.

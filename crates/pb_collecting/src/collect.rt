@@ -1,5 +1,4 @@
-//! The command `collect`: submissions are answered, and the book of the games that are held then is
-//! made.
+//! The command `collect`: submissions are answered, and the book of the games is made.
 ghost use Rattle.std.specs.Prelude.{IfOk, IfSome};
 ghost use Rattle.pb_poly.specs.Book.{book_bytes};
 ghost use Rattle.pb_collecting.specs.Ends.{between};
@@ -15,19 +14,13 @@ use pb_poly::Book;
 use std::alloc::Global;
 
 /// Takes submission lines, puts the reply to each, and makes the opening book of the games that are
-/// held at the end. At most 1,000,000 are held, each counted once however often it comes. The rules
-/// say which plies count, and which moves occur too seldom. The table of words that keys are made
-/// of is read first. Where it is refused, `refused table` and `long`, `line` or `count` is put, no
-/// submission is read, and there is no book.
-///
-/// Where no id names two games, the book is that of the distinct legal submissions that were
-/// accepted (`laws::one_game`).
+/// held at the end, by the rules: at most 1,000,000, each counted once however often it comes. The
+/// table is read first; where it is refused, the line that says so is put, and there is no book.
 ///
 /// # Errors
 ///
 /// `Memory` comes where a growth of the ledger's or the book's own found no memory; a submission
-/// that wants memory is refused in its reply. At a fault no book is made; the replies to the lines
-/// that were taken before have been put.
+/// that wants memory is refused in its reply. The replies before a fault have been put.
 pub fn run_collect<Table: Source, In: Source, Out: Sink>(
     alloc: Global,
     rules: Rules,
@@ -36,16 +29,12 @@ pub fn run_collect<Table: Source, In: Source, Out: Sink>(
     sink: &mut Out,
     fills: u32,
 ) -> Result<Option<Book>, Fault>
-    // The table was read, all submissions were taken and answered, and this is the book of the
-    // games that are held; or the line was put that refuses the table; or this was done before the
-    // fault.
     ensures ends { Answers (CollectRun rules fills (record {
       table = between Table.state table_source.old table_source.new;
       lines = between In.state source.old source.new;
       replies = between Out.state sink.old sink.new;
     })) (λ made. made.entries) result }
-    // All that is promised of the bytes that the sources handed out and the sink took: which lines
-    // are accepted, that each game counts once, and that the book has one text.
+    // Which lines are accepted, that each game counts once, and that the book has one text.
     ensures headline { IfOk result (λ answer. IfSome answer (λ book. IsAnswered rules (record {
       table = between Table.state table_source.old table_source.new;
       lines = between In.state source.old source.new;
@@ -62,7 +51,6 @@ pub fn run_collect<Table: Source, In: Source, Out: Sink>(
     }
 }
 
-/// Takes submission lines as `run_collect` does, up to the book.
 pub(crate) fn take<Table: Source, In: Source, Out: Sink, Watch: Watcher>(
     alloc: Global,
     rules: Rules,

@@ -1,17 +1,22 @@
-//! The command `collect` that goes on from a saved ledger.
+//! The command `collect` that goes on from a saved ledger, also up to the stores.
 
 ghost use Rattle.std.specs.Prelude.{◌≡◌, IfOk, IfSome};
 ghost use Rattle.pb_poly.specs.Book.{book_bytes};
 ghost use Rattle.pb_ledger.specs.Whole.{load_error_of};
 ghost use Rattle.pb_commands.specs.Judged.{Refuses};
 ghost use Rattle.pb_collecting.specs.ContinueHeadline.{HasHeadlineOfBoth};
-ghost use Rattle.pb_collecting.specs.Ends.{between};
+ghost use Rattle.pb_collecting.specs.Ends.{between, states};
+ghost use Rattle.pb_collecting.specs.Into.{ContinuesInto};
 ghost use Rattle.pb_collecting.specs.Reasons.{saved_verdict};
-ghost use Rattle.pb_collecting.specs.Run.{LeavesGone};
+ghost use Rattle.pb_collecting.specs.Run.{LeavesGone, MayBeLeft};
 ghost use Rattle.pb_collecting.specs.Runs.{Answers, ContinueRun, continued};
 
-use crate::made::{Stopped, Unread};
+use crate::ends::{Ends, LedgerEnds};
+use crate::keeping::NoBook;
+use crate::made::{Made, Report, Stopped, Unread};
 use crate::run::{book_of, open};
+use crate::store::Store;
+use crate::text::LedgerBook;
 use pb_commands::refuse_with;
 use pb_io::{Fault, Sink, Source};
 use pb_ledger::{
@@ -23,27 +28,19 @@ use std::alloc::Global;
 /// A run that went on from a saved ledger.
 #[derive(Drop)]
 pub struct Continued {
-    /// The games that are held, those of the saved ledger first. They can be saved whatever became
-    /// of the book.
+    /// The games that are held, those of the saved ledger first.
     pub ledger: Ledger<MapTally>,
-    /// The book of these games; or the fault that ended the run, and then the ledger holds what the
-    /// lines so far brought.
+    /// The book of these games, or the fault that ended the run after submissions were taken.
     pub book: Result<Book, Fault>,
 }
 
-/// Goes on from a saved ledger, whose games are held from the start. Submission lines are taken and
-/// the book is made as in `run_collect`.
-///
-/// The table of words that keys are made of is read first, then the saved ledger. Where the table
-/// is refused, `refused table` and `long`, `line` or `count` is put. Where the saved ledger is,
-/// `refused ledger line` is put, and the number of its first line that is refused, or that brings
-/// no new game after the header; or of its last line, where no LF ends that after the header. No
-/// submission is read then, and the answer is None.
+/// Goes on from a saved ledger, whose games are held from the start, and takes submission lines as
+/// `run_collect` does. Where the table or the saved ledger is refused, the line that says so is
+/// put, no submission is read, and the answer is None.
 ///
 /// # Errors
 ///
-/// A fault of the table or of the saved ledger, or in telling that one is refused; no submission
-/// was read then. A fault that comes later stands in `book`, beside the games that were taken.
+/// A fault before a submission was read. One that comes later stands in `book`.
 pub fn run_continue<Table: Source, Saved: Source, In: Source, Out: Sink>(
     alloc: Global,
     rules: Rules,
@@ -53,16 +50,12 @@ pub fn run_continue<Table: Source, Saved: Source, In: Source, Out: Sink>(
     sink: &mut Out,
     fills: u32,
 ) -> Result<Option<Continued>, Fault>
-    // The submissions were taken from the saved ledger on, which left this ledger and its book, or
-    // the fault that came then; or the run began with no submission read, and a line says why.
     ensures ends { Answers (ContinueRun rules fills (record {
       table = between Table.state table_source.old table_source.new;
       lines = between In.state source.old source.new;
       replies = between Out.state sink.old sink.new;
     })
         (between Saved.state saved.old saved.new)) continued result }
-    // The games of the saved ledger were held first. Whatever run left them, the book is that of
-    // the games that were accepted in both runs, each of them once.
     ensures headline { IfOk result (λ answer. IfSome answer (λ run.
         IfOk run.book (λ book. HasHeadlineOfBoth rules (record {
           table = between Table.state table_source.old table_source.new;
@@ -91,17 +84,14 @@ pub fn run_continue<Table: Source, Saved: Source, In: Source, Out: Sink>(
 
 /// A run that went on from a saved ledger, up to the book.
 #[derive(Drop)]
-pub(crate) struct Gone {
-    /// The games that are held.
-    pub(crate) ledger: Ledger<MapTally>,
-    /// What became of the lines, or the fault that ended the run.
-    pub(crate) end: Result<Totals, Fault>,
+struct Gone {
+    ledger: Ledger<MapTally>,
+    end: Result<Totals, Fault>,
 }
 
 impl Gone {
     ghost use Rattle.pb_collecting.specs.Run.{MayBeEnd};
 
-    /// Makes the book of the games that are held, unless a fault ended the run.
     fn continued(self, alloc: Global) -> Continued
         ensures ledger { result.ledger ≡ self.ledger }
         ensures book { MayBeEnd self result.book }
@@ -117,8 +107,7 @@ impl Gone {
     }
 }
 
-/// Goes on from a saved ledger as `run_continue` does, up to the book.
-pub(crate) fn go_on<Table: Source, Saved: Source, In: Source, Out: Sink, Watch: Watcher>(
+fn go_on<Table: Source, Saved: Source, In: Source, Out: Sink, Watch: Watcher>(
     alloc: Global,
     rules: Rules,
     table: &mut Table,
@@ -144,8 +133,6 @@ pub(crate) fn go_on<Table: Source, Saved: Source, In: Source, Out: Sink, Watch: 
     Ok(Gone { ledger, end })
 }
 
-/// Shows that the saved ledger is refused; or puts nothing, and answers the fault that ended its
-/// reading.
 fn refuse_ledger<K: Sink>(sink: &mut K, error: NotWhole) -> Result<(), Fault>
     ensures { Refuses (saved_verdict (load_error_of error)) (K.state sink.old) (K.state sink.new)
         result }
@@ -157,5 +144,79 @@ fn refuse_ledger<K: Sink>(sink: &mut K, error: NotWhole) -> Result<(), Fault>
         NotWhole::Load(LoadError::Read) => Err(Fault::Read),
         NotWhole::Load(LoadError::Endless) => Err(Fault::Endless),
         NotWhole::Load(LoadError::Memory) => Err(Fault::Memory),
+    }
+}
+
+/// Goes on from a saved ledger as `run_continue` does, keeps the ledger at its store, also where
+/// the run met a fault after a submission was read, and then its book.
+///
+/// # Errors
+///
+/// The run's fault, else that of the ledger's store, else that of the book's.
+pub fn continue_into<
+    Table: Source,
+    In: Source,
+    Out: Sink,
+    Watch: Watcher,
+    Saved: Source,
+    LedgerStore: Store,
+    BookStore: Store,
+>(
+    alloc: Global,
+    rules: Rules,
+    ends: &mut Ends<Table, In, Out, Watch>,
+    ledger: &mut LedgerEnds<Saved, LedgerStore>,
+    book: &mut BookStore,
+    fills: u32,
+) -> Result<Made, NoBook>
+    ensures { let e = states Table.state In.state Out.state ends.old ends.new in
+        let saved = between Saved.state ledger.old.saved ledger.new.saved in
+        ContinuesInto (λ end. ContinueRun rules fills e saved end
+        × IfOk end (λ left. IfOk left.made (λ made. HasHeadlineOfBoth rules e saved left.ledger
+        made.entries (book_bytes made.entries))))
+        (between LedgerStore.state ledger.old.store ledger.new.store)
+        (between BookStore.state book.old book.new) result }
+{
+    match go_on(
+        alloc,
+        rules,
+        &mut ends.table,
+        &mut ledger.saved,
+        &mut ends.lines,
+        &mut ends.replies,
+        &mut ends.watcher,
+        fills,
+    ) {
+        Ok(gone) => keep_both(alloc, &gone, &mut ledger.store, book),
+        Err(stopped) => match stopped {
+            Stopped::Unread(why) => Ok(Made::Unread(why)),
+            Stopped::Fault(fault) => Err(NoBook::Run(fault)),
+        },
+    }
+}
+
+fn keep_both<LedgerStore: Store, BookStore: Store>(
+    alloc: Global,
+    gone: &Gone,
+    ledger_store: &mut LedgerStore,
+    book_store: &mut BookStore,
+) -> Result<Made, NoBook>
+    ensures { ContinuesInto (MayBeLeft gone.now)
+        (between LedgerStore.state ledger_store.old ledger_store.new)
+        (between BookStore.state book_store.old book_store.new) result }
+{
+    let book = LedgerBook::of(alloc, &gone.ledger);
+    // The ledger is kept first: what was answered `ok` is in it.
+    let kept = ledger_store.keep(&gone.ledger);
+    let totals = match gone.end {
+        Ok(totals) => totals,
+        Err(fault) => return Err(NoBook::Run(fault)),
+    };
+    if let Err(why) = kept {
+        return Err(NoBook::Ledger(why));
+    }
+    match book_store.keep(&book) {
+        Ok(entries) => Ok(Made::Book(Report { totals, entries })),
+        Err(why) => Err(NoBook::Keep(why)),
     }
 }

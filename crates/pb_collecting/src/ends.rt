@@ -3,13 +3,13 @@
 /// What each run of submissions reads, writes and tells.
 #[derive(Drop)]
 pub struct Ends<Table, In, Out, Watch> {
-    /// The table of words that keys are made of.
+    /// The table of random numbers that keys are made of.
     pub table: Table,
     /// The submission lines.
     pub lines: In,
     /// Takes the replies.
     pub replies: Out,
-    /// Watches the run. No clause speaks of it: it is for people.
+    /// Is told of the run, for people: no clause speaks of it.
     pub watcher: Watch,
 }
 

@@ -1,4 +1,4 @@
-//! The command `collect` with a journal, up to the store where its book is kept.
+//! The command `collect` with a journal, up to the store.
 
 ghost use Rattle.std.specs.Prelude.{IfOk};
 ghost use Rattle.pb_poly.specs.Book.{book_bytes};
@@ -19,27 +19,13 @@ use pb_ledger::{Rules, Watcher, collect_journaled, replay};
 use std::alloc::Global;
 
 /// Takes submission lines as `collect_into` does, from the games of a journal on, and puts the line
-/// of each game that is new on the journal, and hands it on, before its reply is put: so no game
-/// that was answered `ok` is lost, whatever ends the run. The journal is an end that is read first
-/// and one that is written then, as a file opened for both is. Its lines that an LF ended are
-/// submitted, and their replies dropped; bytes after them are a torn line, which is sealed by four
-/// TABs and an LF, and is no submission. The book that is kept is that of all games that are held at
-/// the end, at most 1,000,000, by the rules as in `run_collect`. The table of words that keys are
-/// made of is read before the journal. Where it is refused, `refused table` and `long`, `line` or
-/// `count` is put, nothing else is read, written or kept, and the answer says why.
-///
-/// The watcher is told also the numbers of the journal's lines that are skipped, as by `replay`.
+/// of each new game on the journal, and hands it on, before its reply: so no game that was answered
+/// `ok` is lost, whatever ends the run. The journal is replayed first, and its torn end sealed.
 ///
 /// # Errors
 ///
-/// `Run` is a fault of the table, the journal, the submissions or the replies, and then the store
-/// is as it was. `Read` and `Endless` come of the table, the journal or the submissions, `Write` of
-/// the replies or the journal. A game whose line the journal didn't take isn't answered. `Memory`
-/// comes where a growth of the ledger's own found no memory, or a game of the journal; a submission
-/// that wants memory is refused in its reply.
-///
-/// `Keep` is the fault that the store met when it was to keep the book of this run. Want of memory
-/// for the book is one. The journal has each game that was answered `ok` then too.
+/// `Run` is a fault of the table, the journal, the submissions or the replies; `Keep` is that of
+/// the store, or want of memory for the book.
 pub fn journal_into<
     Table: Source,
     In: Source,
@@ -56,18 +42,12 @@ pub fn journal_into<
     book: &mut BookStore,
     fills: u32,
 ) -> Result<Made, NoBook>
-    // The table was read, the journal was replayed, all submissions were taken from there, and the
-    // store holds the book of the games that are held: the lines of the journal and of the
-    // submissions are those of one run, and the book is its effect. Or the line was put that
-    // refuses the table, and neither the journal nor a submission was read; or this was done before
-    // the fault.
     ensures ends { let e = states Table.state In.state Out.state ends.old ends.new in
         let j = journal_states Kept.state Journal.state journal.old journal.new in
         Into (λ end. JournalRun rules fills e j end
         × IfOk end (λ made. HasHeadlineOfJournal rules e j made.entries (book_bytes made.entries)))
         (between BookStore.state book.old book.new) result }
-    // No acknowledged game is lost: no submission was read, or the journal was read to its end and
-    // holds each game that a reply calls `ok`.
+    // No submission was read, or the journal holds each game that a reply calls `ok`.
     ensures survives { LosesNone (states Table.state In.state Out.state ends.old ends.new)
         (journal_states Kept.state Journal.state journal.old journal.new) }
     // Nor by whatever ends the run, where what the journal had before lasts.
@@ -83,7 +63,6 @@ pub fn journal_into<
     }
 }
 
-/// Takes the journal and submission lines as `journal_into` does, up to the book.
 fn take_journaled<
     Table: Source,
     In: Source,

@@ -19,30 +19,29 @@ use pb_ledger::{Rules, Watcher};
 use std::alloc::Global;
 use thiserror::Error;
 
-/// Why no book is kept at the store.
-#[derive(Clone, Copy, Debug, PartialEq, Eq, Error)]
+/// Why no book is kept at its store.
+#[derive(Clone, Copy, Debug, Error)]
 pub enum NoBook {
-    /// The run met a fault before there was a book. The store was left alone.
+    /// The run met a fault before there was a book, whose store was left alone. A ledger is kept,
+    /// if its store took it, where submissions were read.
     #[error("there is no book: {0}")]
     Run(Fault),
+    /// The ledger was not kept, and the book's store was left alone.
+    #[error("the ledger isn't kept: {0}")]
+    Ledger(StoreError),
     /// The book was not kept.
     #[error("the book isn't kept: {0}")]
     Keep(StoreError),
 }
 
-/// Takes submission lines, puts the reply to each, and keeps the opening book of the games that are
-/// held at the end: at most 1,000,000, each counted once however often it comes, by the rules as in
-/// `run_collect`. The report counts the answers, and the entries of the book that was kept.
-///
-/// The table of words that keys are made of is read first. Where it is refused, `refused table` and
-/// `long`, `line` or `count` is put, no submission is read, nothing is kept, and the answer says
-/// why.
+/// Takes submission lines as `run_collect` does, and keeps the opening book at the store. The
+/// report counts the answers, and the entries of the book. Where the table is refused, the line
+/// that says so is put, and nothing is kept.
 ///
 /// # Errors
 ///
-/// `Run` is a fault of the table, the submissions or the replies, and then the store is as it was;
-/// `Keep` is the fault that the store met when it was to keep the book of this run. Want of memory
-/// for the book is one.
+/// `Run` is a fault of the table, the submissions or the replies; `Keep` is that of the store, or
+/// want of memory for the book.
 pub fn collect_into<Table: Source, In: Source, Out: Sink, Watch: Watcher, BookStore: Store>(
     alloc: Global,
     rules: Rules,
@@ -50,9 +49,6 @@ pub fn collect_into<Table: Source, In: Source, Out: Sink, Watch: Watcher, BookSt
     book: &mut BookStore,
     fills: u32,
 ) -> Result<Made, NoBook>
-    // The store holds the bytes of the book of the games that are held, and all that is promised of
-    // it is so; or the line that refuses the table was put; or this was done before the fault, and
-    // this is left at the store.
     ensures { let e = states Table.state In.state Out.state ends.old ends.new in
         Into (λ end. CollectRun rules fills e end
         × IfOk end (λ made. IsAnswered rules e made.entries (book_bytes made.entries)))
@@ -75,7 +71,6 @@ pub fn collect_into<Table: Source, In: Source, Out: Sink, Watch: Watcher, BookSt
     }
 }
 
-/// Keeps the book of the games that are held, and reports it.
 pub(crate) fn keep_book<BookStore: Store>(
     alloc: Global,
     taken: &Taken,

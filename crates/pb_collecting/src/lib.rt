@@ -1,13 +1,11 @@
 //! The commands of `pbook` that take games, `collect`, `export` and `check`, as functions over the
-//! ends that they are handed and over the stores where a ledger and its book are kept. Nothing here
-//! knows the command line or a file.
+//! ends that they are handed and over the stores where a ledger and its book are kept.
 #![tactic(auto)]
 
 mod bytes;
 mod check;
 mod collect;
 mod continuing;
-mod continuing_into;
 mod ends;
 mod export;
 mod journaling;
@@ -21,8 +19,7 @@ mod text;
 pub use bytes::collect_bytes;
 pub use check::run_check;
 pub use collect::run_collect;
-pub use continuing::{Continued, run_continue};
-pub use continuing_into::{NotContinued, continue_into};
+pub use continuing::{Continued, continue_into, run_continue};
 pub use ends::{Ends, JournalEnds, LedgerEnds};
 pub use export::{export_submissions, run_export};
 pub use journaling::journal_into;

@@ -10,7 +10,7 @@ use pb_ledger::{JournalFault, NotWhole, Totals};
 use thiserror::Error;
 
 /// Why a run read no submission.
-#[derive(Clone, Copy, Debug, PartialEq, Eq, Error)]
+#[derive(Clone, Copy, Debug, Error)]
 pub enum Unread {
     /// There is no table.
     #[error("{0}")]
@@ -21,7 +21,7 @@ pub enum Unread {
 }
 
 /// What became of the submissions, and how much was made of the games.
-#[derive(Clone, Copy, Debug, PartialEq, Eq)]
+#[derive(Clone, Copy, Debug)]
 pub struct Report {
     /// Counts the lines by their answers.
     pub totals: Totals,
@@ -30,7 +30,7 @@ pub struct Report {
 }
 
 /// What a run has made that met no fault.
-#[derive(Clone, Copy, Debug, PartialEq, Eq)]
+#[derive(Clone, Copy, Debug)]
 pub enum Made {
     /// The book, or the export.
     Book(Report),
@@ -38,12 +38,9 @@ pub enum Made {
     Unread(Unread),
 }
 
-/// Why a run made nothing.
 #[derive(Clone, Copy)]
 pub(crate) enum Stopped {
-    /// No submission was read, and the line that says why was put.
     Unread(Unread),
-    /// A fault ended it.
     Fault(Fault),
 }
 
@@ -59,6 +56,10 @@ impl From<JournalFault> for Stopped {
     ghost from_gives = { λ fault gives. gives ≡ stopped.Fault (fault_of_journal fault) };
 
     fn from(fault: JournalFault) -> Stopped {
-        Stopped::Fault(fault.into())
+        match fault {
+            JournalFault::Lines(fault) => Stopped::Fault(fault),
+            // A journal is written as the replies are.
+            JournalFault::Journal => Stopped::Fault(Fault::Write),
+        }
     }
 }

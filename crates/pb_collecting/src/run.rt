@@ -1,4 +1,4 @@
-//! What the runs have in common that take submissions: how they begin, and the book at their end.
+//! How the runs begin that take submissions, and the book at their end.
 
 ghost use Rattle.std.specs.Prelude.{◌≡◌, ℕ, Err, List, MatchResult, Ok};
 ghost use Rattle.pb_poly.specs.TableReading.{ReadsTable};
@@ -14,15 +14,14 @@ use pb_ledger::{Ledger, MAX_CAP, MapTally, Rules, Totals};
 use pb_poly::Book;
 use std::alloc::Global;
 
-/// What a run took: the games that are held, and what became of the lines.
+/// The games that are held, and what became of the lines.
 #[derive(Drop)]
 pub(crate) struct Taken {
     pub(crate) ledger: Ledger<MapTally>,
     pub(crate) totals: Totals,
 }
 
-/// Reads the table, and makes a ledger of its random numbers and of these rules that holds no
-/// games. Where the table is refused, the line that says so is put.
+/// Reads the table, and makes a ledger without games; or puts the line that refuses the table.
 pub(crate) fn open<Table: Source, Out: Sink>(
     alloc: Global,
     rules: Rules,
@@ -42,8 +41,7 @@ pub(crate) fn open<Table: Source, Out: Sink>(
     }
 }
 
-/// Reads the table, and makes a ledger without games. Want of memory for the ledger is told as that
-/// for the table.
+/// Want of memory for the ledger is answered as that for the table.
 fn empty_ledger<Table: Source>(
     alloc: Global,
     rules: Rules,
@@ -62,7 +60,6 @@ fn empty_ledger<Table: Source>(
     }
 }
 
-/// Makes the book of the games that are held.
 pub(crate) fn book_of(alloc: Global, ledger: &Ledger<MapTally>) -> Result<Book, Fault>
     ensures { MayBeBook ledger.now result }
 {

@@ -8,7 +8,7 @@ use pb_ledger::WriteFault;
 use thiserror::Error;
 
 /// Why a text was not kept.
-#[derive(Clone, Copy, Debug, PartialEq, Eq, Error)]
+#[derive(Clone, Copy, Debug, Error)]
 pub enum StoreError {
     /// The store can't be opened. What it held is still there.
     #[error("the store can't be opened")]
@@ -16,8 +16,7 @@ pub enum StoreError {
     /// A write failed. A front of the text may be all that is left.
     #[error("the text can't be written")]
     Write,
-    /// There was no memory to write with, or for what was to be written next. A front of the text
-    /// may be all that is left.
+    /// No memory for what was to be written next. A front of the text may be all that is left.
     #[error("no memory is left")]
     Memory,
 }
@@ -38,11 +37,10 @@ pub trait Store {
     /// What is known of the store.
     ghost state: { Self → StoreState };
 
-    /// Puts the text in the place of what was there. The answer is how many entries or games it
+    /// Puts the text in the place of what was there, and answers how many entries or games it
     /// tells.
     fn keep<X: Text>(&mut self, text: &X) -> Result<u64, StoreError>
-        // There is a text. A store that can't be opened doesn't write it, and so learns this here
-        // alone.
+        // A store that can't be opened learns here alone that there is a text.
         requires { (bytes : List ℕ) × (count : ℕ) × X.is_text text.now bytes count }
         ensures { KeepsText (X.is_text text.now) (state self.old) (state self.new) result };
 }

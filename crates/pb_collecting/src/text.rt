@@ -15,7 +15,7 @@ pub trait Text {
     /// Which bytes its text is, and how many entries or games these tell.
     ghost is_text: { Self → List ℕ → ℕ → Type 0 };
 
-    /// Puts the text, and flushes. The answer is how many entries or games it tells.
+    /// Puts the text, flushes, and answers how many entries or games it tells.
     ///
     /// # Errors
     ///
@@ -36,7 +36,7 @@ impl<T: Tally> Text for Ledger<T> {
     }
 }
 
-/// The book of a ledger, which is listed part by part when it is put.
+/// The book of a ledger, of which one stretch at a time is listed when it is put.
 #[derive(Drop)]
 pub struct LedgerBook<'a, T: Tally> {
     alloc: Global,
@@ -45,7 +45,7 @@ pub struct LedgerBook<'a, T: Tally> {
 }
 
 impl<'a, T: Tally> LedgerBook<'a, T> {
-    /// The book of this ledger. There always is one.
+    /// Makes the book of this ledger. There always is one.
     pub fn of(alloc: Global, ledger: &'a Ledger<T>) -> LedgerBook<'a, T>
         ensures ledger { result.ledger.now ≡ ledger.now }
         ensures text { (bytes : List ℕ) × (count : ℕ) × BookText ledger.now bytes count }

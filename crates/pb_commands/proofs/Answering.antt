@@ -17,7 +17,7 @@ use Rattle.pb_io.proofs.EndLemmas.{AtEnd-weaker, AtFault-weaker, AtLine-weaker, 
 use Rattle.pb_io.specs.declared.fault.Fault.{Fault}
 use Rattle.pb_io.specs.declared.fault.Fault.TheVariants.{Read, Write, Endless, Memory}
 use Rattle.pb_commands.specs.declared.lines.Answering.{Answering}
-use Rattle.pb_commands.specs.Answering.{AnswersLine, KeepsLent}
+use Rattle.pb_commands.specs.Answering.{AnswersLine, SameLent}
 use Rattle.pb_commands.specs.Judged.{HandedOnOnce, PutsFrontOfText, PutsText, Verdict}
 use Rattle.pb_commands.specs.LineAnswer.{PutsOrStops}
 use Rattle.pb_commands.specs.LinesRun.{AnswersOrEnds, PutsButLast, PutsLines}
@@ -109,10 +109,10 @@ lines_as shown others as_other number (line ∷ ls) verdict h =
     (h.0, h.1, h.2, h.3, as_other number line _ h.4, lines_as shown others as_other (number + 1) ls _ h.5, h.6)
 
 module _ {A K : Type 0} (shows : A → ℕ → List ℕ → Verdict → Type 0) (state : K → SinkState) where
-  kept : (s : Answering A K) → KeepsLent shows s s
+  kept : (s : Answering A K) → SameLent shows s s
   kept s = record { answerer = refl; sink = refl; shown = λ number line verdict. (λ x. x, λ x. x) }
 
-  kept_on : (s m t : Answering A K) → KeepsLent shows s m → KeepsLent shows m t → KeepsLent shows s t
+  kept_on : (s m t : Answering A K) → SameLent shows s m → SameLent shows m t → SameLent shows s t
   kept_on s m t h k = record {
     answerer = k.answerer ∙ h.answerer;
     sink = k.sink ∙ h.sink;
@@ -130,7 +130,7 @@ module _ {A K : Type 0} (shows : A → ℕ → List ℕ → Verdict → Type 0) 
     counted : t.lines ≡ s.lines + length ls
     answered : t.all_taken ≡ (s.all_taken && answer)
     awaits : AwaitsFlush (state s.sink.now) (state t.sink.now)
-    same : KeepsLent shows s t
+    same : SameLent shows s t
 
   run_of : (s t : Answering A K) (ls : List (List ℕ)) → s.lines + length ls < 2 ^ 64 → TakesAll (AnswersLine shows state) s ls t → Run s t ls
   run_of s t [] few h =
@@ -200,7 +200,7 @@ module _ {A K : Type 0} (shows : A → ℕ → List ℕ → Verdict → Type 0) 
           flushes = last.flushes ∙ not_flushed (state s.sink.now) (state h.2.sink.now) run.awaits;
         }
 
-    same_at_stop : (e : Fault) → StopsAtLast (AnswersLine shows state) s ls e t → KeepsLent shows s t
+    same_at_stop : (e : Fault) → StopsAtLast (AnswersLine shows state) s ls e t → SameLent shows s t
     same_at_stop e h = kept_on s h.2 t (run_before e h).same h.5.same
 
   -- ---- the whole of a stream, from the first line on
@@ -289,18 +289,18 @@ module _ {A K : Type 0} (shows : A → ℕ → List ℕ → Verdict → Type 0) 
     until_of e (inl h) = subst (λ (fault : Fault). AnswersOrEnds (Shown s) fills old new sink sink' (Err fault)) (sym h.1) (read_until h.0 h.2)
     until_of e (inr h) = stopped_until e h
 
-    same_all : (ls : List (List ℕ)) → length ls ≤ fills * chunk_len → TakesAll (AnswersLine shows state) s ls t → KeepsLent shows s t
+    same_all : (ls : List (List ℕ)) → length ls ≤ fills * chunk_len → TakesAll (AnswersLine shows state) s ls t → SameLent shows s t
     same_all ls some h = (run_of s t ls (few ls some) h).same
 
     abbrev Same : List (List ℕ) → Type 0
-    Same ls = KeepsLent shows s t
+    Same ls = SameLent shows s t
 
-    same_read : (fault : ReadFault) → ReadUntil (AnswersLine shows state) fills old new s t fault → KeepsLent shows s t
-    same_read read.Memory h = subst (λ (x : Answering A K). KeepsLent shows s x) (sym h.1) (kept s)
+    same_read : (fault : ReadFault) → ReadUntil (AnswersLine shows state) fills old new s t fault → SameLent shows s t
+    same_read read.Memory h = subst (λ (x : Answering A K). SameLent shows s x) (sym h.1) (kept s)
     same_read read.Read h = (AtFault-weaker fills old new (λ ls. TakesAll (AnswersLine shows state) s ls t) Same same_all h).done
     same_read read.Endless h = (AtNoEnd-weaker fills old new (λ ls. TakesAll (AnswersLine shows state) s ls t) Same same_all h).done
 
-    pub same_of : (r : Result (Unit {0}) Fault) → OnOk r (TakesStream (AnswersLine shows state) fills old new s t) → IfErr r Until → KeepsLent shows s t
+    pub same_of : (r : Result (Unit {0}) Fault) → OnOk r (TakesStream (AnswersLine shows state) fills old new s t) → IfErr r Until → SameLent shows s t
     same_of (Ok tt) h k = (AtEnd-weaker fills old new (λ ls. TakesAll (AnswersLine shows state) s ls t) Same same_all h).done
     same_of (Err e) h (inl k) = same_read k.0 k.2
     same_of (Err e) h (inr k) =

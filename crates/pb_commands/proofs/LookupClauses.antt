@@ -4,7 +4,7 @@ use Rattle.std.specs.Prelude.{IfSome}
 use Rattle.pb_io.specs.Lines.{lines}
 use Rattle.pb_io.specs.Sink.{SinkState}
 use Rattle.pb_io.specs.Source.{SourceState}
-use Rattle.pb_io.proofs.EndLemmas.{told_of}
+use Rattle.pb_io.proofs.EndLemmas.{known_of}
 use Rattle.pb_commands.specs.BookJudged.{AsBook, book_verdict}
 use Rattle.pb_commands.specs.Judged.{PutsText, Verdict}
 use Rattle.pb_commands.specs.LinesShown.{LinesShown}
@@ -28,6 +28,6 @@ module _ (fills : ℕ) (t t' b b' s s' : SourceState) (sink sink' : SinkState) (
       (λ out is. (Ok words, told_table fills t t' table told_t words read_t.0, (Err e, told_no_book fills b b' book told_b e (answer, out) is read_b, is))) h.1.0
   told_looked_up (Ok words, read_t, (Ok entries, read_b, h)) =
       let Q : List (List ℕ) → Type 0 = λ ls. PutsText (LinesShown (LineFound words entries) 1 ls) sink sink' answer in
-      let all = subst (λ (told : Option (List ℕ)). IfSome told (λ xs. (s'.to_come ≡ Some []) × Q (lines xs))) told_s (told_of fills s s' Q h.0) in
+      let all = subst (λ (told : Option (List ℕ)). IfSome told (λ xs. (s'.to_come ≡ Some []) × Q (lines xs))) told_s (known_of fills s s' Q h.0) in
       text_as (LinesShown (LineFound words entries) 1 (lines bytes)) Shows sink sink' answer
       (λ out is. (Ok words, told_table fills t t' table told_t words read_t.0, (Ok entries, told_book fills b b' book told_b entries read_b, is))) all.1

@@ -14,7 +14,7 @@ use Rattle.pb_moves.specs.Played.{IsSpelled, Plays, Spells}
 use Rattle.pb_moves.specs.Spelling.{spelling}
 use Rattle.pb_commands.specs.Line.{texts}
 
--- the texts of the words from one on
+-- the texts of the move texts from one on
 pub texts_from : (words : List (Bor (List ℕ))) (i : ℕ) (d : Bor (List ℕ)) → i < length words
     → texts (drop i words) ≡ (get_or words i d).now ∷ texts (drop (i + 1) words)
 texts_from words i d below = ap texts (drop_more words i d below)
@@ -48,9 +48,9 @@ last_legal f [] g m h same plays = subst (λ (r : Record). Legal r.setup m) (sym
 last_legal f (n ∷ ms) g m h plays more = last_legal (record_after f n) ms g m h plays.1 more.1
 
 -- the move that a word spells is played, or isn't legal
-pub word_played : (word text : List ℕ) (f : Record) (m : Moved) (next : Option Record) → IsMove m × (text ≡ spelling m)
+pub move_played : (word text : List ℕ) (f : Record) (m : Moved) (next : Option Record) → IsMove m × (text ≡ spelling m)
     → text ≡ word → SomeIff next (Legal f.setup m) (record_after f m)
     → MatchOption next (IsSpelled word → (n : Moved) × Spells word n × ¬ Legal f.setup n)
     (λ g. (n : Moved) × Spells word n × Legal f.setup n × (g ≡ record_after f n))
-word_played word text f m None read same illegal = λ _. (m, record { is_move = read.0; is = sym same ∙ read.1 }, illegal)
-word_played word text f m (Some g) read same played = (m, record { is_move = read.0; is = sym same ∙ read.1 }, played.0, played.1)
+move_played word text f m None read same illegal = λ _. (m, record { is_move = read.0; is = sym same ∙ read.1 }, illegal)
+move_played word text f m (Some g) read same played = (m, record { is_move = read.0; is = sym same ∙ read.1 }, played.0, played.1)

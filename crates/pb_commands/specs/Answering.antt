@@ -15,7 +15,7 @@ LineCounted judges sink sink' answer answer' (Ok _) =
 LineCounted judges sink sink' answer answer' (Err fault) = PutsOrStops judges sink sink' (Err fault)
 
 -- the same answerer and sink are lent, and the same comes of lines
-pub record KeepsLent {A K : Type 0} (shows : A → ℕ → List ℕ → Verdict → Type 0)
+pub record SameLent {A K : Type 0} (shows : A → ℕ → List ℕ → Verdict → Type 0)
     (s t : Answering A K) : Type 0 where
   pub answerer : t.answerer.ghost_name ≡ s.answerer.ghost_name
   pub sink : t.sink.ghost_name ≡ s.sink.ghost_name
@@ -28,4 +28,4 @@ pub record AnswersLine {A K : Type 0} (shows : A → ℕ → List ℕ → Verdic
   pub puts : LineCounted (shows s.answerer.now (next_count s.lines) line) (state s.sink.now)
       (state t.sink.now) s.all_taken t.all_taken result
   pub counted : t.lines ≡ next_count s.lines
-  pub same : KeepsLent shows s t
+  pub same : SameLent shows s t

@@ -1,4 +1,4 @@
-//! The command `epd`: each EPD line is written in its one ordered form, or named as refused.
+//! The command `epd`: each EPD line is written in its one ordered form, or refused.
 ghost use Rattle.std.specs.Prelude.{◌≤◌, length};
 ghost use Rattle.pb_io.specs.Lines.{line_limit};
 ghost use Rattle.pb_commands.specs.EpdRun.{RewritesOrEnds};
@@ -14,7 +14,6 @@ use pb_epd::form_of;
 use pb_io::{Fault, Sink, Source};
 use std::alloc::Global;
 
-/// Rewrites EPD lines.
 #[derive(Drop)]
 struct Rewriter {
     alloc: Global,
@@ -34,17 +33,8 @@ impl LineAnswer for Rewriter {
     }
 }
 
-/// Rewrites EPD lines: of each line of the source, its one ordered form is put, or `refused`, the
-/// line's number from 1 and why it is no EPD record. A line of spaces alone is counted and skipped.
-/// Answers whether no line was refused. What was put is handed on once, at the end.
-///
-/// A line is refused as `long` past 8,192 bytes; a final CR counts, and is dropped. A piece that no
-/// LF ended is taken at the end of input, and not at a fault. `Memory` comes where a growth found
-/// no memory, and ends the run after the lines before; it never comes in place of a refusal of a
-/// long line, of one with a bad token or of one that doesn't begin with four words.
-///
-/// Where the source tells its bytes, what is put is what their lines give: that follows from the
-/// clause, by the law `epd_ends`.
+/// Rewrites each EPD line in its one ordered form, or puts its number and why it is refused, and
+/// answers whether none was. A line of spaces alone is counted and skipped.
 pub fn run_epd<S: Source, K: Sink>(
     alloc: Global,
     source: &mut S,
@@ -57,7 +47,6 @@ pub fn run_epd<S: Source, K: Sink>(
     answer_lines(alloc, source, sink, &mut Rewriter { alloc }, fills)
 }
 
-/// Puts what the line of this number gives, and answers whether it was taken.
 fn rewrite_line<K: Sink>(
     alloc: Global,
     sink: &mut K,

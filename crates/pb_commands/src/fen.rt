@@ -22,14 +22,8 @@ use pb_io::{Fault, Sink};
 use pb_moves::{advance, read_move};
 use std::alloc::Global;
 
-/// Plays the moves from a FEN record and shows the record after them on the sink. Where the input
-/// is refused, shows and answers why: `refused fen` and the word of the first refusal of the record
-/// that is due, else `refused spelling` and the number of the first word that spells no move, else
-/// `refused illegal` and the number of the first move that isn't legal.
-///
-/// It takes no memory of its own. `Write` is the only fault: it comes where the sink has failed,
-/// and then a front of what was to be shown was put, and none of it handed on. That follows from
-/// the clause, by the law `fen_ends`.
+/// Shows the record after the moves, or shows and answers why record, spelling or move is refused.
+/// `Write` is the only fault (the law `fen_ends`).
 pub fn answer_fen<K: Sink>(
     _alloc: Global,
     fen: &[u8],
@@ -62,7 +56,6 @@ pub fn run_fen<K: Sink>(
     Ok(answer_fen(alloc, fen, moves, sink)?.is_taken())
 }
 
-/// Plays the moves from the record, and gives the record after them or the refusal that is due.
 fn record_after(fen: &[u8], moves: &[&str]) -> Result<Fen, Refused>
     ensures { MatchResult result
         (λ last. FenShown fen.now (texts moves.now) (Ok (true, with_end (fen_text last))))
@@ -75,43 +68,40 @@ fn record_after(fen: &[u8], moves: &[&str]) -> Result<Fen, Refused>
     if let Some(number) = misspelt(moves) {
         return Err(Refused::Spelling(number));
     }
-    match play_words(start, moves) {
+    match play_moves(start, moves) {
         Ok(last) => Ok(last),
         Err(number) => Err(Refused::Illegal(number)),
     }
 }
 
-/// Finds the first word that spells no move, and gives its number, from 1.
-fn misspelt(words: &[&str]) -> Option<usize>
-    ensures { MatchOption result (All IsSpelled (texts words.now))
-        (BreaksAt (All IsSpelled) (texts words.now)) }
+/// The number, from 1, of the first text that spells no move.
+fn misspelt(move_texts: &[&str]) -> Option<usize>
+    ensures { MatchOption result (All IsSpelled (texts move_texts.now))
+        (BreaksAt (All IsSpelled) (texts move_texts.now)) }
 {
-    for (index, word) in words.iter().enumerate() {
-        if !spells_move(word) {
+    for (index, text) in move_texts.iter().enumerate() {
+        if !spells_move(text) {
             return Some(index + 1);
         }
     }
     None
 }
 
-/// Tells whether the word spells a move.
-fn spells_move(word: &str) -> bool
-    ensures { IsTrue result ↔ IsSpelled word.now }
+fn spells_move(text: &str) -> bool
+    ensures { IsTrue result ↔ IsSpelled text.now }
 {
-    read_move(word.as_bytes()).is_some()
+    read_move(text.as_bytes()).is_some()
 }
 
-/// Plays the moves that the words spell. The error is the number of the first that isn't legal,
-/// from 1.
-fn play_words(start: Fen, words: &[&str]) -> Result<Fen, usize>
+fn play_moves(start: Fen, move_texts: &[&str]) -> Result<Fen, usize>
     requires lawful { IsRecord start }
-    requires spelt { All IsSpelled (texts words.now) }
-    ensures { (moves : List Moved) × AllZip Spells (texts words.now) moves
+    requires spelt { All IsSpelled (texts move_texts.now) }
+    ensures { (moves : List Moved) × AllZip Spells (texts move_texts.now) moves
         × MatchResult result (λ last. Plays start moves last) (BreaksAt (MayPlay start) moves) }
 {
     let mut record = start;
-    for (index, word) in words.iter().enumerate() {
-        let Some(next) = play_word(&record, word) else {
+    for (index, text) in move_texts.iter().enumerate() {
+        let Some(next) = play_move(&record, text) else {
             return Err(index + 1);
         };
         record = next;
@@ -119,13 +109,12 @@ fn play_words(start: Fen, words: &[&str]) -> Result<Fen, usize>
     Ok(record)
 }
 
-/// Plays the move that the word spells. None where the word spells no legal move.
-fn play_word(before: &Fen, word: &str) -> Option<Fen>
+fn play_move(before: &Fen, text: &str) -> Option<Fen>
     ensures { MatchOption result
-        (IsSpelled word.now → (m : Moved) × Spells word.now m × ¬ Legal before.now.setup m)
-        (λ next. (m : Moved) × Spells word.now m × Legal before.now.setup m
+        (IsSpelled text.now → (m : Moved) × Spells text.now m × ¬ Legal before.now.setup m)
+        (λ next. (m : Moved) × Spells text.now m × Legal before.now.setup m
         × (next ≡ next_record before.now m)) }
 {
-    let m = read_move(word.as_bytes())?;
+    let m = read_move(text.as_bytes())?;
     advance(before, m)
 }

@@ -1,8 +1,7 @@
-//! Laws of how commands end. Each is the contract of a function that does nothing, over the
-//! definitions alone. `PutsOrEnds` and `AnswersOrEnds` say what is put of what an input comes to.
+//! Laws of how commands end, as contracts of functions that do nothing.
 
 ghost use Rattle.std.specs.Prelude.{◌≡◌, ℕ, Bool, Err, List, Ok, Some};
-ghost use Rattle.pb_io.specs.LineTask.{IfTold};
+ghost use Rattle.pb_io.specs.LineTask.{IfKnown};
 ghost use Rattle.pb_io.specs.Lines.{lines};
 ghost use Rattle.pb_io.specs.Sink.{SinkState};
 ghost use Rattle.pb_io.specs.Source.{SourceState};
@@ -28,15 +27,15 @@ pub fn fen_ends()
         → PutsOrEnds (FenShown fen words) k k' (Err fault) → fault ≡ Write }
 {}
 
-/// Where the source of `run_epd` tells its bytes, what was put is what their lines give.
+/// Where the bytes of `run_epd` are known, what was put is what their lines give.
 pub fn epd_ends()
     ensures { (fills : ℕ) (s s' : SourceState) (k k' : SinkState) (answer : Bool)
         → RewritesOrEnds fills s s' k k' (Ok answer)
-        → IfTold s s' (λ ls. PutsText (LinesShown LineShown 1 ls) k k' answer) }
+        → IfKnown s s' (λ ls. PutsText (LinesShown LineShown 1 ls) k k' answer) }
 {}
 
-/// What `run_show` puts, where its source tells its bytes, is what they show. Where it also doesn't
-/// fail and ends within the fills, only want of memory comes in place of that.
+/// What `run_show` puts, where its bytes are known, is what they show; only want of memory comes in
+/// place of that where the source also doesn't fail and ends within the fills.
 pub fn show_ends()
     ensures told { (fills : ℕ) (s s' : SourceState) (bytes : List ℕ) → s.to_come ≡ Some bytes
         → TextsAreOf (BookShown (ReadsBook fills s s')) (BookShown (AsBook bytes)) }
@@ -56,7 +55,7 @@ pub fn probe_ends()
         (ProbeShown (AsTable table) (AsBook book) fen) }
 {}
 
-/// What `run_lookup` puts, where its three sources tell their bytes, is what these give.
+/// What `run_lookup` puts, where the bytes of its three sources are known, is what these give.
 pub fn lookup_ends()
     ensures { (fills : ℕ) (t t' b b' s s' : SourceState) (k k' : SinkState) (answer : Bool)
         (table book bytes : List ℕ) → t.to_come ≡ Some table → b.to_come ≡ Some book

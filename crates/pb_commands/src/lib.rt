@@ -1,6 +1,5 @@
-//! The commands `fen`, `epd`, `show`, `probe` and `lookup`, as functions over sources and sinks. Here
-//! is too what all commands share: the exit status, and the line that refuses a table; and what
-//! commands share that answer lines. Nothing here knows the command line or a game.
+//! The commands `fen`, `epd`, `show`, `probe` and `lookup`, as functions over sources and sinks,
+//! and what all commands share: the exit status, the line that refuses a table, answers to lines.
 #![tactic(auto)]
 
 mod epd;

@@ -17,8 +17,7 @@ pub trait LineAnswer {
     ///
     /// # Errors
     ///
-    /// The sink has failed, and a front of what the line gives may have been put. Or memory was
-    /// wanting, and nothing was put.
+    /// The sink has failed, or memory was wanting and nothing was put.
     fn answer<K: Sink>(&mut self, sink: &mut K, number: u64, line: &[u8]) -> Result<bool, Fault>
         requires { length line.now ≤ line_limit }
         ensures puts { PutsOrStops (shows self.old number line.now) (K.state sink.old)

@@ -1,7 +1,7 @@
 //! Lines of a stream that are skipped or refused.
 ghost use Rattle.std.specs.Prelude.{◌≡◌, ◌↔◌, ◌∷◌, ◌++◌, IsTrue, codes, decimal};
 ghost use Rattle.pb_board.specs.LineEnd.{with_end};
-ghost use Rattle.pb_io.specs.Parts.{parts_joined};
+ghost use Rattle.pb_io.specs.Parts.{pieces_joined};
 ghost use Rattle.pb_io.specs.Sink.{Put};
 ghost use Rattle.pb_commands.specs.EpdShown.{IsBlank, epd_verdict, refused_line};
 ghost use Rattle.pb_commands.specs.LineAnswer.{PutsOrStops};
@@ -9,17 +9,15 @@ ghost use Rattle.pb_commands.specs.LineAnswer.{PutsOrStops};
 use crate::output::put_line;
 use itoa::Buffer;
 use pb_epd::EpdError;
-use pb_io::{Failed, Fault, Sink};
+use pb_io::{Failed, Fault, Sink, put_pieces};
 
-/// Tells whether the text has no byte but spaces.
 pub(crate) fn is_blank(text: &[u8]) -> bool
     ensures { IsTrue result ↔ IsBlank text.now }
 {
     text.iter().all(|byte| *byte == b' ')
 }
 
-/// Puts why the line of this number is refused and answers that it was, or puts nothing where
-/// memory was wanting.
+/// Answers that the line was refused, or puts nothing where memory was wanting.
 pub(crate) fn put_refusal<K: Sink>(
     sink: &mut K,
     number: u64,
@@ -36,39 +34,34 @@ pub(crate) fn put_refusal<K: Sink>(
             number,
             &[b"setup ", refusal.word().as_bytes()],
         ),
-        EpdError::Opcode(place) => refuse_at(sink, number, b"opcode ", place),
+        EpdError::Opcode(index) => refuse_at(sink, number, b"opcode ", index),
         EpdError::Unended => refuse_line(sink, number, &[b"unended"]),
-        EpdError::Repeated(place) => refuse_at(sink, number, b"repeated ", place),
+        EpdError::Repeated(index) => refuse_at(sink, number, b"repeated ", index),
         EpdError::Memory => Err(Fault::Memory),
     }
 }
 
-/// Puts that the line of this number is refused, with a reason that ends with a place.
-fn refuse_at<K: Sink>(sink: &mut K, number: u64, word: &[u8], place: usize) -> Result<bool, Fault>
-    ensures { PutsOrStops (λ verdict. verdict ≡ refused_line number (word.now ++ decimal place))
+fn refuse_at<K: Sink>(sink: &mut K, number: u64, why: &[u8], index: usize) -> Result<bool, Fault>
+    ensures { PutsOrStops (λ verdict. verdict ≡ refused_line number (why.now ++ decimal index))
         (K.state sink.old) (K.state sink.new) result }
 {
     let mut buffer = Buffer::new();
-    refuse_line(sink, number, &[word, buffer.format(place).as_bytes()])
+    refuse_line(sink, number, &[why, buffer.format(index).as_bytes()])
 }
 
-/// Puts that the line of this number is refused, with a reason in parts, and answers that it was.
 pub(crate) fn refuse_line<K: Sink>(sink: &mut K, number: u64, why: &[&[u8]]) -> Result<bool, Fault>
-    ensures { PutsOrStops (λ verdict. verdict ≡ refused_line number (parts_joined why.now))
+    ensures { PutsOrStops (λ verdict. verdict ≡ refused_line number (pieces_joined why.now))
         (K.state sink.old) (K.state sink.new) result }
 {
     put_refused(sink, number, why)?;
     Ok(false)
 }
 
-/// Puts the line that refuses the line of this number.
 fn put_refused<K: Sink>(sink: &mut K, number: u64, why: &[&[u8]]) -> Result<(), Failed>
     ensures { Put (K.state sink.old) (K.state sink.new) result
-        (with_end (codes "refused " ++ (decimal number ++ (32 ∷ parts_joined why.now)))) }
+        (with_end (codes "refused " ++ (decimal number ++ (32 ∷ pieces_joined why.now)))) }
 {
     let mut buffer = Buffer::new();
-    sink.put(b"refused ")?;
-    sink.put(buffer.format(number).as_bytes())?;
-    sink.put(b" ")?;
+    put_pieces(sink, &[b"refused ", buffer.format(number).as_bytes()], b" ")?;
     put_line(sink, why)
 }

@@ -1,9 +1,9 @@
-//! Streams of lines, each of which is answered by what is put for it.
+//! Streams of lines, each of which is answered.
 ghost use Rattle.std.specs.Prelude.{◌≡◌, Err, IfErr, List, OnOk, length, true, ◌<◌, ◌≤◌, ℕ};
 ghost use Rattle.pb_io.specs.LineTask.{AtEnd};
 ghost use Rattle.pb_io.specs.Lines.{line_limit};
 ghost use Rattle.pb_io.specs.Sink.{AwaitsFlush};
-ghost use Rattle.pb_commands.specs.Answering.{KeepsLent};
+ghost use Rattle.pb_commands.specs.Answering.{SameLent};
 ghost use Rattle.pb_commands.specs.Judged.{PutsText};
 ghost use Rattle.pb_commands.specs.LineAnswer.{PutsOrStops, SameShown};
 ghost use Rattle.pb_commands.specs.LinesRun.{AnswersOrEnds};
@@ -13,14 +13,12 @@ use crate::line_answer::LineAnswer;
 use pb_io::{Fault, LineTask, Sink, Source, take_lines};
 use std::alloc::Global;
 
-/// Answers lines one after the other.
 #[derive(Drop)]
 struct Answering<'a, 's, A, K> {
     answerer: &'a mut A,
     sink: &'s mut K,
-    /// How many lines were taken so far.
     lines: u64,
-    /// Whether none of them was refused.
+    /// Whether no line was refused so far.
     all_taken: bool,
 }
 
@@ -47,7 +45,6 @@ impl<A: LineAnswer, K: Sink> LineTask for Answering<'_, '_, A, K> {
 }
 
 impl<A: LineAnswer, K: Sink> Answering<'_, '_, A, K> {
-    /// Takes the lines of the source.
     fn take_all<S: Source>(
         &mut self,
         alloc: Global,
@@ -64,17 +61,14 @@ impl<A: LineAnswer, K: Sink> Answering<'_, '_, A, K> {
             (K.state self.new.sink.now) (Err fault)) }
         ensures awaits { OnOk result (AwaitsFlush (K.state self.old.sink.now)
             (K.state self.new.sink.now)) }
-        ensures same { KeepsLent A.shows self.old self.new }
+        ensures same { SameLent A.shows self.old self.new }
     {
         take_lines(alloc, source, self, fills)
     }
 }
 
-/// Answers the lines of the source in order, and tells whether none was refused. What was put is
-/// handed on once, at the end.
-///
-/// A piece that no LF ended is answered at the end of input, and not at a fault. Want of memory ends
-/// the run after the lines before.
+/// Answers the lines of the source in order, tells whether none was refused, and hands on what was
+/// put once, at the end. A piece that no LF ended is a line at the end of input alone.
 pub fn answer_lines<S: Source, K: Sink, A: LineAnswer>(
     alloc: Global,
     source: &mut S,

@@ -23,7 +23,6 @@ use pb_moves::Move;
 use pb_poly::{Book, Table, probe, read_book, take_table};
 use std::alloc::Global;
 
-/// Looks positions up in a book.
 #[derive(Drop)]
 struct Finder<'a> {
     alloc: Global,
@@ -45,18 +44,9 @@ impl LineAnswer for Finder<'_> {
     }
 }
 
-/// Looks the positions of lines up in a book: of each line that is a FEN record or an EPD record,
-/// the moves that the book has for its setup are put in one line, each with its weight in decimal,
-/// in the book's order, or `-` where there is none. Any other line is refused as by `run_epd`, with
-/// the reasons why it is no EPD record, and a line of spaces alone is counted and skipped.
-///
-/// The table and the book are read before, in this order, and why the first is refused is shown and
-/// answered as by `answer_probe`; nothing later is read then, nor after a fault. What was put is
-/// handed on once, at the end. `Memory` comes where a growth found no memory, and at a line it ends
-/// the run after the lines before.
-///
-/// Where the sources tell their bytes, what is put is what those bytes give: that follows from the
-/// clause, by the law `lookup_ends`.
+/// Puts, for each line that is a FEN or an EPD record, the moves that the book has for its setup
+/// with their weights, or `-`, and refuses other lines as `run_epd` does. Table and book are read
+/// before, in this order, and refused as by `answer_probe`.
 pub fn answer_lookup<TableIn: Source, BookIn: Source, In: Source, Out: Sink>(
     alloc: Global,
     table_source: &mut TableIn,
@@ -94,7 +84,8 @@ pub fn answer_lookup<TableIn: Source, BookIn: Source, In: Source, Out: Sink>(
     }
 }
 
-/// Does what `answer_lookup` does, and answers whether the table, the book and all lines were taken.
+/// Does what `answer_lookup` does, and answers whether the table, the book and all lines were
+/// taken.
 pub fn run_lookup<TableIn: Source, BookIn: Source, In: Source, Out: Sink>(
     alloc: Global,
     table_source: &mut TableIn,
@@ -110,7 +101,6 @@ pub fn run_lookup<TableIn: Source, BookIn: Source, In: Source, Out: Sink>(
     Ok(answer_lookup(alloc, table_source, book_source, source, sink, fills)?.is_taken())
 }
 
-/// Puts what the line of this number gives, and answers whether it was taken.
 fn look_up<K: Sink>(finder: &Finder, sink: &mut K, number: u64, line: &[u8]) -> Result<bool, Fault>
     requires { length line.now ≤ line_limit }
     ensures { PutsOrStops (LineFound finder.now.table.now finder.now.book.now number line.now)
@@ -130,8 +120,7 @@ fn look_up<K: Sink>(finder: &Finder, sink: &mut K, number: u64, line: &[u8]) -> 
     }
 }
 
-/// The setup of the FEN record or else of the EPD record that the text spells. The error says why
-/// there is no EPD record.
+/// The setup of a FEN record, or else of an EPD record. The error says why there is none of EPD.
 fn read_setup(alloc: Global, text: &[u8]) -> Result<Setup, EpdError>
     ensures { ByInput (AsRecord text.now) (λ f. result ≡ Ok f.setup)
         (λ _. ByInput (AsEpd text.now) (λ e. result ≡ Ok e.setup) (λ x. result ≡ Err x)) }
@@ -142,7 +131,6 @@ fn read_setup(alloc: Global, text: &[u8]) -> Result<Setup, EpdError>
     }
 }
 
-/// Puts the moves and their weights in one line, or that there is none.
 fn put_moves<K: Sink>(sink: &mut K, found: &[(Move, u16)]) -> Result<(), Failed>
     ensures { Put (K.state sink.old) (K.state sink.new) result (moves_line found.now) }
 {

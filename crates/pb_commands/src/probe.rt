@@ -12,21 +12,13 @@ ghost use Rattle.pb_commands.specs.Shows.{Shows};
 use crate::refusal::{Answer, Refused, refuse};
 use itoa::Buffer;
 use pb_board::read_fen;
-use pb_io::{Failed, Fault, Sink, Source, put_parts};
+use pb_io::{Failed, Fault, Sink, Source, put_pieces};
 use pb_moves::Move;
 use pb_poly::{Book, Table, probe, read_book, take_table};
 use std::alloc::Global;
 
-/// Shows the moves that a book has for a record's setup, each with its weight in decimal, in the
-/// book's order. The table of words that keys are made of, the book and the record are judged in
-/// this order, and why the first is refused is shown and answered: `refused table` and `long`,
-/// `line` or `count`, `refused book` and `unsorted` or `cut`, or `refused fen` and the word of the
-/// record's refusal. Nothing later is read then, nor after a fault. What was put is handed on once,
-/// at the end.
-///
-/// Where both sources tell bytes, don't fail and end within the fills, what is put is what those
-/// bytes show, a fault of the sink and want of memory aside: that follows from the clause, by the
-/// law `probe_ends`.
+/// Shows the moves that a book has for a record's setup, each with its weight, in the book's order,
+/// or shows and answers why the first of table, book and record is refused.
 pub fn answer_probe<TableIn: Source, BookIn: Source, Out: Sink>(
     alloc: Global,
     table_source: &mut TableIn,
@@ -68,7 +60,6 @@ pub fn run_probe<TableIn: Source, BookIn: Source, Out: Sink>(
     Ok(answer_probe(alloc, table_source, book_source, fen, sink, fills)?.is_taken())
 }
 
-/// Shows the moves that the book has for the record's setup, or why there is no record.
 fn show_under<K: Sink>(
     alloc: Global,
     table: &Table,
@@ -76,7 +67,6 @@ fn show_under<K: Sink>(
     fen: &[u8],
     sink: &mut K,
 ) -> Result<Answer, Fault>
-    // However the two were read, the command ends so.
     ensures ends { (fills : ℕ) (t t' b b' : SourceState) → ReadsTable fills t t' (Ok table.now)
         → ReadsBook fills b b' (Ok book.now)
         → PutsOrEnds (ProbesSources fills t t' b b' fen.now) (K.state sink.old) (K.state sink.new)
@@ -92,7 +82,6 @@ fn show_under<K: Sink>(
     Ok(Answer::Taken)
 }
 
-/// Shows the lines of the moves.
 fn show_found<K: Sink>(sink: &mut K, found: &[(Move, u16)]) -> Result<(), Fault>
     ensures { Shows (K.state sink.old) (K.state sink.new) result (probe_text found.now) }
 {
@@ -103,7 +92,6 @@ fn show_found<K: Sink>(sink: &mut K, found: &[(Move, u16)]) -> Result<(), Fault>
     Ok(())
 }
 
-/// Puts a move and its weight between what comes before and the end.
 pub(crate) fn put_found<K: Sink>(
     sink: &mut K,
     before: &[u8],
@@ -117,7 +105,7 @@ pub(crate) fn put_found<K: Sink>(
     let text = m.text();
     let mut buffer = Buffer::new();
     let digits = buffer.format(weight);
-    put_parts(
+    put_pieces(
         sink,
         &[before, text.as_bytes(), b" ", digits.as_bytes()],
         end,

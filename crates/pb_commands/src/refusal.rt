@@ -1,7 +1,7 @@
 //! What a command answers, and the line that says why an input is refused.
 ghost use Rattle.std.specs.Prelude.{◌≡◌, ◌++◌, IfOk, Ok, decimal, false};
 ghost use Rattle.pb_board.specs.LineEnd.{with_end};
-ghost use Rattle.pb_io.specs.Parts.{parts_joined};
+ghost use Rattle.pb_io.specs.Parts.{pieces_joined};
 ghost use Rattle.pb_commands.specs.BookJudged.{book_verdict};
 ghost use Rattle.pb_commands.specs.Judged.{PutsOrEnds, Refuses};
 ghost use Rattle.pb_commands.specs.Refused.{GivesReason, refused_verdict, taken};
@@ -14,14 +14,14 @@ use pb_io::{Fault, ReadFault, Sink};
 use pb_poly::{BookError, TableFault};
 use thiserror::Error;
 
-/// Why an input is refused. `Display` is the sentence for people, and a line on the sink tells the
-/// same in fixed words.
+/// Why an input is refused: `Display` is the sentence for people, the line on the sink tells it in
+/// fixed words.
 #[derive(Clone, Copy, Debug, Error)]
 pub enum Refused {
     /// The text is no FEN record.
     #[error("FEN: {0}")]
     Fen(FenError),
-    /// The word with this number, from 1, spells no move.
+    /// The move text with this number, from 1, spells no move.
     #[error("move {0}: it isn't spelt like e2e4 or e7e8q")]
     Spelling(usize),
     /// The move with this number, from 1, isn't legal where it is played.
@@ -57,8 +57,7 @@ impl Answer {
     }
 }
 
-/// Shows why the input is refused, and answers this reason; or puts nothing, and answers the fault
-/// that the reason is.
+/// Shows why the input is refused and answers this reason, or answers the fault that the reason is.
 pub(crate) fn refuse<K: Sink>(sink: &mut K, why: Refused) -> Result<Answer, Fault>
     ensures ends { PutsOrEnds (λ verdict. verdict ≡ refused_verdict why) (K.state sink.old)
         (K.state sink.new) (taken result) }
@@ -68,12 +67,11 @@ pub(crate) fn refuse<K: Sink>(sink: &mut K, why: Refused) -> Result<Answer, Faul
     Ok(Answer::Refused(why))
 }
 
-/// Shows why the input is refused; or puts nothing, and answers the fault that the reason is.
 fn show_refusal<K: Sink>(sink: &mut K, why: Refused) -> Result<(), Fault>
     ensures { Refuses (refused_verdict why) (K.state sink.old) (K.state sink.new) result }
 {
     match why {
-        Refused::Fen(error) => refuse_line(sink, &[b"refused fen ", error.word().as_bytes()]),
+        Refused::Fen(error) => show_refused(sink, &[b"refused fen ", error.word().as_bytes()]),
         Refused::Spelling(number) => refuse_with(sink, b"refused spelling ", number),
         Refused::Illegal(number) => refuse_with(sink, b"refused illegal ", number),
         Refused::Table(error) => refuse_table(sink, error),
@@ -81,7 +79,6 @@ fn show_refusal<K: Sink>(sink: &mut K, why: Refused) -> Result<(), Fault>
     }
 }
 
-/// Shows why a book is refused; or puts nothing, and answers the fault that ended its reading.
 fn refuse_book<K: Sink>(sink: &mut K, error: BookError) -> Result<(), Fault>
     ensures { Refuses (book_verdict error) (K.state sink.old) (K.state sink.new) result }
 {
@@ -94,13 +91,12 @@ fn refuse_book<K: Sink>(sink: &mut K, error: BookError) -> Result<(), Fault>
     }
 }
 
-/// Shows why a table file is refused, `refused table` and `long`, or `line` or `count` and its
-/// number; or puts nothing, and answers the fault that ended its reading.
+/// Shows why a table file is refused, or answers the fault that ended its reading.
 pub fn refuse_table<K: Sink>(sink: &mut K, error: TableFault) -> Result<(), Fault>
     ensures { Refuses (table_verdict error) (K.state sink.old) (K.state sink.new) result }
 {
     match error {
-        TableFault::Long => refuse_line(sink, &[b"refused table long"]),
+        TableFault::Long => show_refused(sink, &[b"refused table long"]),
         TableFault::Line(number) => refuse_with(sink, b"refused table line ", number),
         TableFault::Count(count) => refuse_with(sink, b"refused table count ", count),
         TableFault::Fault(ReadFault::Read) => Err(Fault::Read),
@@ -116,12 +112,11 @@ pub fn refuse_with<K: Sink>(sink: &mut K, words: &[u8], number: usize) -> Result
 {
     let mut buffer = Buffer::new();
     let digits = buffer.format(number);
-    refuse_line(sink, &[words, digits.as_bytes()])
+    show_refused(sink, &[words, digits.as_bytes()])
 }
 
-/// Shows the line of these parts, which refuses an input.
-fn refuse_line<K: Sink>(sink: &mut K, parts: &[&[u8]]) -> Result<(), Fault>
-    ensures { Refuses (Ok (false, with_end (parts_joined parts.now))) (K.state sink.old)
+fn show_refused<K: Sink>(sink: &mut K, parts: &[&[u8]]) -> Result<(), Fault>
+    ensures { Refuses (Ok (false, with_end (pieces_joined parts.now))) (K.state sink.old)
         (K.state sink.new) result }
 {
     show_line(sink, parts)?;

@@ -16,15 +16,8 @@ use pb_io::{Failed, Fault, Sink, Source};
 use pb_poly::{Entry, read_book};
 use std::alloc::Global;
 
-/// Shows a book: a line for each entry, with its key, code, weight and learn value as 16, 4, 4 and
-/// 8 lower-case hexadecimal digits. Where the source gives no book, shows and answers why:
-/// `refused book unsorted` and the number, from 1, of the first entry whose key is below the key
-/// before it, or `refused book cut` and the number of bytes after the last whole entry. The whole
-/// book is read before a line is put, and the lines are handed on once, at the end.
-///
-/// Where the source tells bytes, doesn't fail and ends within the fills, what is put is what those
-/// bytes show, a fault of the sink and want of memory aside: that follows from the clause, by the
-/// law `show_ends`. `Memory` comes where a growth of the book found no memory.
+/// Shows a line for each entry of a book that was read whole, with key, code, weight and learn
+/// value in hexadecimal digits, or shows and answers why the book is refused.
 pub fn answer_show<S: Source, K: Sink>(
     alloc: Global,
     source: &mut S,
@@ -57,7 +50,6 @@ pub fn run_show<S: Source, K: Sink>(
     Ok(answer_show(alloc, source, sink, fills)?.is_taken())
 }
 
-/// Shows the lines of the entries.
 fn show_entries<K: Sink>(sink: &mut K, entries: &[Entry]) -> Result<(), Fault>
     ensures { Shows (K.state sink.old) (K.state sink.new) result (show_text entries.now) }
 {
@@ -68,7 +60,6 @@ fn show_entries<K: Sink>(sink: &mut K, entries: &[Entry]) -> Result<(), Fault>
     Ok(())
 }
 
-/// Puts the line of an entry: its key, code, weight and learn value in hexadecimal digits.
 fn put_entry<K: Sink>(sink: &mut K, entry: &Entry) -> Result<(), Failed>
     ensures { Put (K.state sink.old) (K.state sink.new) result (entry_line entry.now) }
 {
@@ -79,7 +70,7 @@ fn put_entry<K: Sink>(sink: &mut K, entry: &Entry) -> Result<(), Failed>
     put_line(sink, &[&key, b" ", &code, b" ", &weight, b" ", &learn])
 }
 
-/// Writes the number that has these bytes, the highest first, in digits: two of each byte.
+/// Writes a number's bytes, the highest first, two digits each.
 fn digits_of<const DIGITS: usize>(bytes: &[u8]) -> [u8; DIGITS]
     requires { DIGITS ≡ 2 * length bytes.now }
     ensures { (number : ℕ) → bytes.now ≡ bytes_high_first (length bytes.now) number

@@ -6,7 +6,7 @@ use Rattle.std.proofs.lemmas.Bool.{cases_lt}
 use Rattle.std.proofs.Math.Seq.{drop-append-add, drop-append_seam, take-append-add, take-append_seam}
 use Rattle.std.proofs.lemmas.List.Elements.{All-head, All-tail}
 use Rattle.pb_epd.specs.Token.{Token, word, text, end_mark, IsToken, IsWordByte, TokensAfter, Tokens, token_text, IsBadAt}
-use Rattle.pb_epd.specs.Lexeme.{MayFollow, BeginsUnspaced, BeginsWithWordByte, IsStuck, IsWholeBefore, Steps, last_token}
+use Rattle.pb_epd.specs.Lexeme.{MayFollow, BeginsUnspaced, BeginsWithWordByte, IsStuck, IsWholeBefore, NextIs, last_token}
 use Rattle.pb_epd.proofs.Lexing.{begins_unspaced, no_word_end, no_word_quote, spaces_alone, spaces_one}
 use Rattle.pb_epd.proofs.TokenLists.{after_spaces, no_word_space, tokens_steps, found_first, tokens_spaces, EndsInToken, ends_back, unended_spaces, tokens_push, last_push}
 
@@ -43,7 +43,7 @@ some_token (word w) is = is.0
 some_token (text w) is = omega arith
 some_token end_mark is = omega arith
 
-pub steps_shorter : (before : Token) (bytes : List ℕ) (t : Token) (rest : List ℕ) → Steps before bytes t rest → length rest < length bytes
+pub steps_shorter : (before : Token) (bytes : List ℕ) (t : Token) (rest : List ℕ) → NextIs before bytes t rest → length rest < length bytes
 steps_shorter before bytes t rest h =
     omega (arith, ap length h.cut, length-append (replicate h.spaces 32) h.back, ap length h.begins.stands, length-append (token_text t) rest, some_token t h.begins.is_token)
 
@@ -94,7 +94,7 @@ pub record Lexed (bytes : List ℕ) (before : Token) (rest : List ℕ) : Type 0 
 pub lexed_start : (bytes : List ℕ) → Lexed bytes end_mark bytes
 lexed_start bytes = record { tokens = []; front = []; cut = refl; are = (0, refl); last = refl; ends = nothing_ends; whole = tt; uncut = nothing_uncut bytes }
 
-pub lexed_more : (bytes : List ℕ) (before : Token) (rest : List ℕ) (t : Token) (after : List ℕ) → Lexed bytes before rest → Steps before rest t after → Lexed bytes t after
+pub lexed_more : (bytes : List ℕ) (before : Token) (rest : List ℕ) (t : Token) (after : List ℕ) → Lexed bytes before rest → NextIs before rest t after → Lexed bytes t after
 lexed_more bytes before rest t after h k =
     let spaces = replicate k.spaces 32 in
     record {
@@ -137,7 +137,7 @@ record Front (before : Token) (ts : List Token) (front rest : List ℕ) : Type 0
   ends : EndsInToken front
   whole : IsWholeBefore (last_token before ts) rest
 
-front_steps : (before t : Token) (ts : List Token) (front rest : List ℕ) → (h : Front before (t ∷ ts) front rest) → Steps before (front ++ rest) t (h.are.1 ++ rest)
+front_steps : (before t : Token) (ts : List Token) (front rest : List ℕ) → (h : Front before (t ∷ ts) front rest) → NextIs before (front ++ rest) t (h.are.1 ++ rest)
 front_steps before t ts front rest h =
     let k = tokens_steps before t ts front h.are in
     let inner = ends_back (token_text t) h.are.1 (ends_back (replicate h.are.0 32) (token_text t ++ h.are.1) (subst EndsInToken h.are.4 h.ends)) in

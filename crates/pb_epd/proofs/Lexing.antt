@@ -5,7 +5,7 @@ use Rattle.std.proofs.lemmas.List.{take-append-drop, append_assoc, append-nil, d
 use Rattle.std.proofs.lemmas.List.Elements.{All-head, All-tail, All-replicate}
 use Rattle.pb_epd.specs.Run.{IsRun}
 use Rattle.pb_epd.specs.Token.{Token, word, text, end_mark, IsToken, IsWordByte, IsTextByte}
-use Rattle.pb_epd.specs.Lexeme.{IsOperandToken, MayFollow, IsWholeBefore, BeginsWith, BeginsWithWordByte, BeginsUnspaced, Begins, Steps, IsStuck}
+use Rattle.pb_epd.specs.Lexeme.{IsOperandToken, MayFollow, IsWholeBefore, BeginsWith, BeginsWithWordByte, BeginsUnspaced, Begins, NextIs, IsStuck}
 use Rattle.pb_epd.proofs.Runs.{Stops, same_run, run_inside, run_stops, run_only, run_length}
 
 pub whole_from_stops : (bytes : List ℕ) → Stops IsWordByte bytes → ¬ BeginsWithWordByte bytes
@@ -154,14 +154,14 @@ begins_unspaced bytes (word (x ∷ w)) rest h =
 begins_unspaced bytes (text w) rest h = subst BeginsUnspaced (sym h.stands) (λ e. omega (arith, e))
 begins_unspaced bytes end_mark rest h = subst BeginsUnspaced (sym h.stands) (λ e. omega (arith, e))
 
--- ---- a step
+-- ---- what comes next
 
-pub steps_one : (before : Token) (bytes : List ℕ) (t u : Token) (r s : List ℕ) → Steps before bytes t r → Steps before bytes u s → (t ≡ u) × (r ≡ s)
+pub steps_one : (before : Token) (bytes : List ℕ) (t u : Token) (r s : List ℕ) → NextIs before bytes t r → NextIs before bytes u s → (t ≡ u) × (r ≡ s)
 steps_one before bytes t u r s h k =
     let o = spaces_one h.spaces k.spaces h.back k.back (begins_unspaced h.back t r h.begins) (begins_unspaced k.back u s k.begins) (sym h.cut ∙ k.cut) in
     one_begin h.back t u r s h.begins (subst (λ x. Begins x u s) (sym o.1) k.begins)
 
-pub stuck_steps : (before : Token) (bytes : List ℕ) (n : ℕ) (t : Token) (r : List ℕ) → IsStuck before bytes n → Steps before bytes t r → ⊥
+pub stuck_steps : (before : Token) (bytes : List ℕ) (n : ℕ) (t : Token) (r : List ℕ) → IsStuck before bytes n → NextIs before bytes t r → ⊥
 stuck_steps before bytes n t r h k =
     let o = spaces_one n k.spaces h.back k.back h.unspaced (begins_unspaced k.back t r k.begins) (sym h.cut ∙ k.cut) in
     h.bad t (unwrapped h.back t r (subst (λ x. Begins x t r) (sym o.1) k.begins)) (subst (λ m. MayFollow before m t) (sym o.0) k.follows)
@@ -171,7 +171,7 @@ stuck_steps before bytes n t r h k =
 pub stuck_at : (before : Token) (bytes : List ℕ) (n : ℕ) → IsRun (λ b. b ≡ 32) bytes n → n < length bytes → ((t : Token) → BeginsWith (drop n bytes) t → ¬ MayFollow before n t) → IsStuck before bytes n
 stuck_at before bytes n h some bad = record { back = drop n bytes; cut = spaces_cut bytes n h; unspaced = some_unspaced (drop n bytes) (omega (arith, length-drop n bytes, some)) (run_stops (λ b. b ≡ 32) bytes n h); bad = bad }
 
-pub steps_at : (before : Token) (bytes : List ℕ) (n : ℕ) (t : Token) (rest : List ℕ) → IsRun (λ b. b ≡ 32) bytes n → Begins (drop n bytes) t rest → MayFollow before n t → Steps before bytes t rest
+pub steps_at : (before : Token) (bytes : List ℕ) (n : ℕ) (t : Token) (rest : List ℕ) → IsRun (λ b. b ≡ 32) bytes n → Begins (drop n bytes) t rest → MayFollow before n t → NextIs before bytes t rest
 steps_at before bytes n t rest h begins follows = record { spaces = n; back = drop n bytes; cut = spaces_cut bytes n h; begins = begins; follows = follows }
 
 -- an operand directly after an operand is bad, whichever it is

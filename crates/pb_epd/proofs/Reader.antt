@@ -8,10 +8,10 @@ use Rattle.pb_epd.specs.declared.operand.Operand.{Operand}
 use Rattle.pb_epd.specs.declared.operand.Operand.TheVariants as operand
 use Rattle.pb_epd.specs.declared.token.Lexeme.{Lexeme}
 use Rattle.pb_epd.specs.declared.token.Lexeme.TheVariants as lexeme
-use Rattle.pb_epd.specs.declared.token.Step.{Step}
-use Rattle.pb_epd.specs.declared.token.Step.TheVariants as step
+use Rattle.pb_epd.specs.declared.token.Next.{Next}
+use Rattle.pb_epd.specs.declared.token.Next.TheVariants as next
 use Rattle.pb_epd.specs.Token.{Token, word, text, end_mark, IsToken, Tokens, TokensAfter}
-use Rattle.pb_epd.specs.Lexeme.{IsOperandToken, token_of, Steps, IsStep}
+use Rattle.pb_epd.specs.Lexeme.{IsOperandToken, token_of, NextIs, IsNext}
 use Rattle.pb_epd.specs.Operation.{IsOperand, operand_token}
 use Rattle.pb_epd.specs.Refusal.{IsNamed}
 use Rattle.pb_epd.specs.Reading.{HasTokens, EndsSoundly, Follow, AreOperands, EndsWithOperands, BeginsUnnamed, BeginsWithOperation}
@@ -19,10 +19,10 @@ use Rattle.pb_epd.proofs.TokenLists.{found_first, steps_tokens, stuck_none, done
 use Rattle.pb_epd.proofs.Bad.{steps_shorter}
 
 -- where the tokenizer finds no token, there is none
-pub no_step : (s : Step) (before : Token) (bytes : List ℕ) (ts : List Token) → IsStep before bytes s → ((t : Lexeme) (r : Bor (List ℕ)) → s ≡ step.Found t r → ⊥) → TokensAfter before ts bytes → ts ≡ []
-no_step step.Done before bytes ts h none k = done_only before ts bytes h.0 h.1 k
-no_step (step.Found t r) before bytes ts h none k = absurd (none t r refl)
-no_step (step.Bad n) before bytes ts h none k = absurd (stuck_none before ts bytes n h k)
+pub no_step : (s : Next) (before : Token) (bytes : List ℕ) (ts : List Token) → IsNext before bytes s → ((t : Lexeme) (r : Bor (List ℕ)) → s ≡ next.Found t r → ⊥) → TokensAfter before ts bytes → ts ≡ []
+no_step next.Done before bytes ts h none k = done_only before ts bytes h.0 h.1 k
+no_step (next.Found t r) before bytes ts h none k = absurd (none t r refl)
+no_step (next.Bad n) before bytes ts h none k = absurd (stuck_none before ts bytes n h k)
 
 -- a token that is no word
 pub no_word : (t : Lexeme) (bytes : List ℕ) → word bytes ≡ token_of t → ((b : Bor (List ℕ)) → t ≡ lexeme.Word b → ⊥) → ⊥
@@ -30,7 +30,7 @@ no_word (lexeme.Word b) bytes is other = other b refl
 no_word (lexeme.Text b) bytes is other = cc (is)
 no_word lexeme.End bytes is other = cc (is)
 
-pub steps_back : (before : Token) (bytes : List ℕ) (t : Token) (rest : List ℕ) → Steps before bytes t rest → HasTokens t rest → HasTokens before bytes
+pub steps_back : (before : Token) (bytes : List ℕ) (t : Token) (rest : List ℕ) → NextIs before bytes t rest → HasTokens t rest → HasTokens before bytes
 steps_back before bytes t rest h k = (t ∷ k.0, steps_tokens before t k.0 bytes rest h k.1)
 
 -- ---- four words
@@ -109,7 +109,7 @@ pub record InOperands (start : Token) (bytes : List ℕ) (operands : List Operan
   pub back : HasTokens before rest → HasTokens start bytes
   pub tokens : (ts : List Token) → TokensAfter start ts bytes → OperandsSoFar ts operands before rest
 
-pub operands_more : (start : Token) (bytes : List ℕ) (operands : List Operand) (before : Token) (rest : List ℕ) (t : Token) (o : Operand) (after : List ℕ) (new : List Operand) → InOperands start bytes operands before rest → Steps before rest t after → t ≡ operand_token o → new ≡ operands ++ o ∷ [] → InOperands start bytes new t after
+pub operands_more : (start : Token) (bytes : List ℕ) (operands : List Operand) (before : Token) (rest : List ℕ) (t : Token) (o : Operand) (after : List ℕ) (new : List Operand) → InOperands start bytes operands before rest → NextIs before rest t after → t ≡ operand_token o → new ≡ operands ++ o ∷ [] → InOperands start bytes new t after
 operands_more start bytes operands before rest t o after new h k is made = record {
   room = omega (arith, h.room, steps_shorter before rest t after k);
   lawful = subst (All IsOperand) (sym made) (All-push IsOperand operands o h.lawful (subst IsToken is k.begins.is_token));
@@ -126,7 +126,7 @@ operands_more start bytes operands before rest t o after new h k is made = recor
       };
 }
 
-pub operands_end : (start : Token) (bytes : List ℕ) (operands : List Operand) (before : Token) (rest after : List ℕ) → InOperands start bytes operands before rest → Steps before rest end_mark after → EndsSoundly start bytes operands after
+pub operands_end : (start : Token) (bytes : List ℕ) (operands : List Operand) (before : Token) (rest after : List ℕ) → InOperands start bytes operands before rest → NextIs before rest end_mark after → EndsSoundly start bytes operands after
 operands_end start bytes operands before rest after h k = record {
   shorter = omega (arith, h.room, steps_shorter before rest end_mark after k);
   lawful = h.lawful;
@@ -150,7 +150,7 @@ no_operand (word bytes) h = absurd (h (λ e. cc (e)))
 no_operand (text bytes) h = absurd (h (λ e. cc (e)))
 no_operand end_mark h = refl
 
-module _ (before : Token) (bytes : List ℕ) (t : Token) (rest : List ℕ) (first : Steps before bytes t rest) where
+module _ (before : Token) (bytes : List ℕ) (t : Token) (rest : List ℕ) (first : NextIs before bytes t rest) where
   pub taken_end : t ≡ end_mark → (ts : List Token) → TokensAfter before ts bytes → BeginsUnnamed ts
   taken_end is ts h =
       let f = found_first before t ts bytes rest h first in

@@ -2,7 +2,7 @@
 use Rattle.std.proofs.Common.{◌≡◌, ◌≢◌, ℕ, zero, suc, ◌+◌, ◌≤◌, List, [], ◌∷◌, ◌++◌, replicate, refl, sym, ap, subst, ◌∙◌, arith, add-one}
 use Rattle.std.proofs.lemmas.List.{append_assoc, append-nil, replicate-append-replicate, replicate_more}
 use Rattle.pb_epd.specs.Token.{Token, word, text, end_mark, IsToken, IsWordByte, TokensAfter, token_text}
-use Rattle.pb_epd.specs.Lexeme.{MayFollow, IsWholeBefore, BeginsWithWordByte, last_token, Steps, IsStuck}
+use Rattle.pb_epd.specs.Lexeme.{MayFollow, IsWholeBefore, BeginsWithWordByte, last_token, NextIs, IsStuck}
 use Rattle.pb_epd.specs.Reading.{Follow}
 use Rattle.pb_epd.proofs.Lexing.{spaces_alone, steps_one, stuck_steps, begins_unspaced, no_word_end}
 
@@ -41,7 +41,7 @@ tokens_whole end_mark ts rest h = tt
 
 -- ---- the first token of a list, and the others
 
-pub tokens_steps : (before t : Token) (ts : List Token) (bytes : List ℕ) → (h : TokensAfter before (t ∷ ts) bytes) → Steps before bytes t h.1
+pub tokens_steps : (before t : Token) (ts : List Token) (bytes : List ℕ) → (h : TokensAfter before (t ∷ ts) bytes) → NextIs before bytes t h.1
 tokens_steps before t ts bytes h = record {
   spaces = h.0;
   back = token_text t ++ h.1;
@@ -50,11 +50,11 @@ tokens_steps before t ts bytes h = record {
   follows = h.3;
 }
 
-pub steps_tokens : (before t : Token) (ts : List Token) (bytes rest : List ℕ) → Steps before bytes t rest → TokensAfter t ts rest → TokensAfter before (t ∷ ts) bytes
+pub steps_tokens : (before t : Token) (ts : List Token) (bytes rest : List ℕ) → NextIs before bytes t rest → TokensAfter t ts rest → TokensAfter before (t ∷ ts) bytes
 steps_tokens before t ts bytes rest h k = (h.spaces, rest, h.begins.is_token, h.follows, h.cut ∙ ap (λ w. replicate h.spaces 32 ++ w) h.begins.stands, k)
 
 -- where a token comes first, it is the first of the list
-pub found_first : (before t : Token) (ts : List Token) (bytes rest : List ℕ) → TokensAfter before ts bytes → Steps before bytes t rest → Follow t ts rest
+pub found_first : (before t : Token) (ts : List Token) (bytes rest : List ℕ) → TokensAfter before ts bytes → NextIs before bytes t rest → Follow t ts rest
 found_first before t [] bytes rest h k = absurd (spaces_alone h.0 k.spaces k.back (begins_unspaced k.back t rest k.begins) (sym h.1 ∙ k.cut))
 found_first before t (u ∷ ts) bytes rest h k =
     let o = steps_one before bytes u t h.1 rest (tokens_steps before u ts bytes h) k in

@@ -2,8 +2,8 @@
 use Rattle.std.specs.Prelude.{◌≡◌, ◌≢◌, ℕ, ◌≤◌, List, [], ◌∷◌, ◌++◌, replicate}
 use Rattle.pb_epd.specs.declared.token.Lexeme.{Lexeme}
 use Rattle.pb_epd.specs.declared.token.Lexeme.TheVariants as lexeme
-use Rattle.pb_epd.specs.declared.token.Step.{Step}
-use Rattle.pb_epd.specs.declared.token.Step.TheVariants as step
+use Rattle.pb_epd.specs.declared.token.Next.{Next}
+use Rattle.pb_epd.specs.declared.token.Next.TheVariants as next
 use Rattle.pb_epd.specs.Token.{Token, word, text, end_mark, IsToken, IsWordByte, token_text}
 
 -- a word or a text
@@ -54,7 +54,7 @@ pub record Begins (bytes : List ℕ) (t : Token) (rest : List ℕ) : Type 0 wher
   pub whole : IsWholeBefore t rest
 
 -- so many spaces, and then a token that may stand there
-pub record Steps (before : Token) (bytes : List ℕ) (t : Token) (rest : List ℕ) : Type 0 where
+pub record NextIs (before : Token) (bytes : List ℕ) (t : Token) (rest : List ℕ) : Type 0 where
   pub spaces : ℕ
   pub back : List ℕ
   pub cut : bytes ≡ replicate spaces 32 ++ back
@@ -69,7 +69,7 @@ pub record IsStuck (before : Token) (bytes : List ℕ) (spaces : ℕ) : Type 0 w
   pub bad : (t : Token) → BeginsWith back t → ¬ MayFollow before spaces t
 
 -- what comes after a token
-abbrev pub IsStep : Token → List ℕ → Step → Type 0
-IsStep before bytes step.Done = (n : ℕ) × (bytes ≡ replicate n 32)
-IsStep before bytes (step.Found found rest) = Steps before bytes (token_of found) rest.now
-IsStep before bytes (step.Bad spaces) = IsStuck before bytes spaces
+abbrev pub IsNext : Token → List ℕ → Next → Type 0
+IsNext before bytes next.Done = (n : ℕ) × (bytes ≡ replicate n 32)
+IsNext before bytes (next.Found found rest) = NextIs before bytes (token_of found) rest.now
+IsNext before bytes (next.Bad spaces) = IsStuck before bytes spaces

@@ -1,47 +1,32 @@
-//! Runs of bytes of one kind at the front of a text.
+//! Counts bytes of one kind at the front of a text.
 
 ghost use Rattle.std.specs.Prelude.{◌≡◌, ◌↔◌, ◌<◌, IsTrue};
 ghost use Rattle.pb_epd.specs.Token.{IsWordByte, IsTextByte};
 ghost use Rattle.pb_epd.specs.Run.{IsRun};
 
-/// For each byte whether it may stand in a word. Lines are long, so a byte is told by one look-up.
-static WORD_BYTES: [bool; 256] = [
-    false, false, false, false, false, false, false, false, false, false, false, false, false,
-    false, false, false, false, false, false, false, false, false, false, false, false, false,
-    false, false, false, false, false, false, false, true, false, true, true, true, true, true,
-    true, true, true, true, true, true, true, true, true, true, true, true, true, true, true, true,
-    true, true, true, false, true, true, true, true, true, true, true, true, true, true, true,
-    true, true, true, true, true, true, true, true, true, true, true, true, true, true, true, true,
-    true, true, true, true, true, true, true, true, true, true, true, true, true, true, true, true,
-    true, true, true, true, true, true, true, true, true, true, true, true, true, true, true, true,
-    true, true, true, true, true, true, true, true, false, false, false, false, false, false,
-    false, false, false, false, false, false, false, false, false, false, false, false, false,
-    false, false, false, false, false, false, false, false, false, false, false, false, false,
-    false, false, false, false, false, false, false, false, false, false, false, false, false,
-    false, false, false, false, false, false, false, false, false, false, false, false, false,
-    false, false, false, false, false, false, false, false, false, false, false, false, false,
-    false, false, false, false, false, false, false, false, false, false, false, false, false,
-    false, false, false, false, false, false, false, false, false, false, false, false, false,
-    false, false, false, false, false, false, false, false, false, false, false, false, false,
-    false, false, false, false, false, false, false, false, false, false, false, false, false,
-    false, false, false, false, false, false,
-];
+/// Lines are long, so a byte is judged by one look-up: `y` if a word may have it.
+static WORD_BYTES: [u8; 256] = *b"\
+    nnnnnnnnnnnnnnnnnnnnnnnnnnnnnnnn\
+    nynyyyyyyyyyyyyyyyyyyyyyyyynyyyy\
+    yyyyyyyyyyyyyyyyyyyyyyyyyyyyyyyy\
+    yyyyyyyyyyyyyyyyyyyyyyyyyyyyyyyn\
+    nnnnnnnnnnnnnnnnnnnnnnnnnnnnnnnn\
+    nnnnnnnnnnnnnnnnnnnnnnnnnnnnnnnn\
+    nnnnnnnnnnnnnnnnnnnnnnnnnnnnnnnn\
+    nnnnnnnnnnnnnnnnnnnnnnnnnnnnnnnn";
 
-/// Whether the byte may stand in a word.
 fn is_word_byte(byte: u8) -> bool
     ensures { IsTrue result ↔ IsWordByte byte }
 {
-    WORD_BYTES[byte as usize]
+    WORD_BYTES[byte as usize] == b'y'
 }
 
-/// Whether the byte may stand in a text.
 fn is_text_byte(byte: u8) -> bool
     ensures { IsTrue result ↔ IsTextByte byte }
 {
     (32..=126).contains(&byte) && byte != b'"'
 }
 
-/// How many spaces begin the text.
 pub(crate) fn space_run(text: &[u8]) -> usize
     ensures { IsRun (λ b. b ≡ 32) text.now result }
 {
@@ -50,7 +35,6 @@ pub(crate) fn space_run(text: &[u8]) -> usize
         .unwrap_or(text.len())
 }
 
-/// How many bytes of a word begin the text.
 pub(crate) fn word_run(text: &[u8]) -> usize
     ensures { IsRun IsWordByte text.now result }
 {
@@ -59,7 +43,6 @@ pub(crate) fn word_run(text: &[u8]) -> usize
         .unwrap_or(text.len())
 }
 
-/// How many bytes of a quoted text begin the text.
 pub(crate) fn text_run(text: &[u8]) -> usize
     ensures { IsRun IsTextByte text.now result }
 {

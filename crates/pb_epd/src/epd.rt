@@ -14,8 +14,7 @@ use std::alloc::Global;
 use std::collections::BTreeMap;
 use std::marker::Model;
 
-/// A setup, and operations in byte order of their opcodes. Each operation is an opcode with its
-/// operands, and no opcode stands twice.
+/// Holds a setup, and operations in byte order of their opcodes, of which none stands twice.
 #[derive(Drop)]
 pub struct Epd {
     alloc: Global,
@@ -37,7 +36,7 @@ impl Model for Epd {
 }
 
 impl Epd {
-    /// A record without operations.
+    /// Makes a record without operations.
     pub fn new(alloc: Global, setup: Setup) -> Epd
         ensures value { result ≡ record { setup = setup; operations = [] } }
         ensures rules { IsEpd result }
@@ -51,7 +50,7 @@ impl Epd {
         }
     }
 
-    /// The setup.
+    /// Gives the setup.
     pub fn setup(&self) -> Setup
         ensures value { result ≡ self.now.setup }
         ensures rules { IsEpd self.now }
@@ -59,28 +58,27 @@ impl Epd {
         self.setup
     }
 
-    /// The operations, by their opcodes.
     pub(crate) fn operations(&self) -> &BTreeMap<Vec<u8>, Vec<Operand>>
         ensures { operations_of result.now.entries ≡ self.now.operations }
     {
         &self.operations
     }
 
-    /// How many operations there are.
+    /// Counts the operations.
     pub fn len(&self) -> usize
         ensures { result ≡ length self.now.operations }
     {
         self.operations.len()
     }
 
-    /// Whether there is no operation.
+    /// Tells whether there is no operation.
     pub fn is_empty(&self) -> bool
         ensures { IsTrue result ↔ (self.now.operations ≡ []) }
     {
         self.operations.is_empty()
     }
 
-    /// The operands of an opcode. None exactly where the record has no operation with it.
+    /// Gives the operands of an opcode. None exactly where the record has no operation with it.
     pub fn get(&self, opcode: &[u8]) -> Option<&[Operand]>
         ensures { MatchOption result
             ((operands : List Operand) → ¬ Contains self.now.operations (opcode.now, operands))
@@ -92,9 +90,8 @@ impl Epd {
         }
     }
 
-    /// Adds an operation. The first refusal that is due is answered, of the opcode, of an operand,
-    /// of an opcode that the record has, and at last of memory. The record then stays as it was,
-    /// and the operands are dropped.
+    /// Adds an operation, or answers the first refusal that is due, in the order of `PutError`'s
+    /// variants: the record then stays as it was, and the operands are dropped.
     pub fn put(&mut self, opcode: &[u8], operands: Vec<Operand>) -> Result<(), PutError>
         ensures { Puts self.old self.new (opcode.now, operands.items) result }
     {
@@ -107,7 +104,6 @@ impl Epd {
         self.add(opcode, operands)
     }
 
-    /// Adds a lawful operation, if the record does not have its opcode and memory suffices.
     pub(crate) fn add(&mut self, opcode: &[u8], operands: Vec<Operand>) -> Result<(), PutError>
         requires { IsOperation (opcode.now, operands.items) }
         ensures rules { IsEpd self.new }

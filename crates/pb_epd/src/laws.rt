@@ -1,12 +1,6 @@
-//! Laws of EPD records and their texts, and of equality (`==`) between refusals.
+//! Laws of EPD records and their texts.
 
-ghost use Rattle.std.specs.Prelude.{◌≡◌};
-ghost use Rattle.std.specs.Bool.{Decides};
 ghost use Rattle.pb_epd.specs.Laws.{FormIsText, RecordIsOne, BadIsOne, NoneDue};
-ghost use Rattle.pb_epd.specs.declared.refusal.EpdError.{EpdError};
-ghost use Rattle.pb_epd.specs.declared.refusal.PutError.{PutError};
-
-use crate::refusal::{EpdError, PutError};
 
 /// The form of a record is a text of it.
 pub fn form_is_text()
@@ -26,11 +20,4 @@ pub fn one_bad_token()
 /// No refusal but want of memory is due for a text of a record.
 pub fn none_due()
     ensures { NoneDue }
-{}
-
-/// Refusals of operations, and of texts, are equal (`==`) exactly where cause and place are the
-/// same.
-pub fn equal_refusals()
-    ensures operations { (a b : PutError) → Decides (⟦<PutError as PartialEq>⟧.eq a b) (a ≡ b) }
-    ensures texts { (a b : EpdError) → Decides (⟦<EpdError as PartialEq>⟧.eq a b) (a ≡ b) }
 {}

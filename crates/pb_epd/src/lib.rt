@@ -1,5 +1,5 @@
-//! EPD records: a setup and operations, and the reader and the writer of their texts (PGN Standard
-//! 16.2). Opcodes are kept as they are spelt; what they mean isn't looked at.
+//! EPD records, and the reader and the writer of their texts (PGN Standard 16.2). What opcodes mean
+//! isn't looked at.
 //!
 //! ```rust
 //! let epd = read_epd(alloc, b"4k3/8/8/8/8/8/4P3/4K3 w - - ce 100;")?;

@@ -4,7 +4,7 @@ ghost use Rattle.std.specs.Prelude.{◌≡◌};
 
 use std::marker::Model;
 
-/// The bytes of a word or a text.
+/// Holds the bytes of a word or a text.
 #[derive(Drop)]
 pub struct OperandBytes {
     bytes: Vec<u8>,
@@ -19,14 +19,14 @@ impl Model for OperandBytes {
 }
 
 impl OperandBytes {
-    /// The operand of these bytes, whether they are lawful or not.
+    /// Makes an operand of bytes, whether they are lawful or not.
     pub fn of(bytes: Vec<u8>) -> OperandBytes
         ensures { result ≡ bytes.items }
     {
         OperandBytes { bytes }
     }
 
-    /// The bytes.
+    /// Gives the bytes.
     pub fn as_bytes(&self) -> &[u8]
         ensures { result.now ≡ self.now }
     {
@@ -34,7 +34,7 @@ impl OperandBytes {
     }
 }
 
-/// An operand of an operation. Which of the two stood in the text is kept.
+/// Holds an operand of an operation, of the form in which it stands in the text.
 #[derive(Drop)]
 pub enum Operand {
     /// 1 to 255 bytes of 33 to 126 without `;` and `"`.

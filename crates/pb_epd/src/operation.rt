@@ -9,31 +9,27 @@ use crate::byte_runs::{text_run, word_run};
 use crate::operand::Operand;
 use crate::token::LONGEST;
 
-/// The most bytes of an opcode after its first.
+/// In bytes, after the first.
 const OPCODE_REST: usize = 14;
 
-/// Whether the byte is a letter of ASCII.
 fn is_letter(byte: u8) -> bool
     ensures { IsTrue result ↔ IsLetter byte }
 {
     byte.is_ascii_alphabetic()
 }
 
-/// Whether the byte may stand in an opcode after its first byte.
 fn is_name_byte(byte: u8) -> bool
     ensures { IsTrue result ↔ IsNameByte byte }
 {
     is_letter(byte) || byte.is_ascii_digit() || byte == b'_'
 }
 
-/// Whether each byte may stand in an opcode after its first byte.
 fn are_name_bytes(bytes: &[u8]) -> bool
     ensures { IsTrue result ↔ All IsNameByte bytes.now }
 {
     bytes.iter().all(|byte| is_name_byte(*byte))
 }
 
-/// Whether the bytes are an opcode.
 pub(crate) fn is_opcode(bytes: &[u8]) -> bool
     ensures { IsTrue result ↔ IsOpcode bytes.now }
 {
@@ -45,21 +41,18 @@ pub(crate) fn is_opcode(bytes: &[u8]) -> bool
     }
 }
 
-/// Whether the bytes are a word.
 fn is_word(bytes: &[u8]) -> bool
     ensures { IsTrue result ↔ IsToken (word bytes.now) }
 {
     !bytes.is_empty() && bytes.len() <= LONGEST && word_run(bytes) == bytes.len()
 }
 
-/// Whether the bytes are those of a text.
 fn is_text(bytes: &[u8]) -> bool
     ensures { IsTrue result ↔ IsToken (text_token bytes.now) }
 {
     bytes.len() <= LONGEST && text_run(bytes) == bytes.len()
 }
 
-/// Whether the operand is a lawful word or text.
 fn is_lawful(operand: &Operand) -> bool
     ensures { IsTrue result ↔ IsOperand operand.now }
 {
@@ -69,7 +62,7 @@ fn is_lawful(operand: &Operand) -> bool
     }
 }
 
-/// The first unlawful operand, counted from 1.
+/// Counted from 1.
 pub(crate) fn first_unlawful(operands: &[Operand]) -> Option<usize>
     ensures { MatchOption result (All IsOperand operands.now) (λ n.
         BreaksAt (All IsOperand) operands.now n) }

@@ -1,4 +1,4 @@
-//! Reading an EPD record.
+//! Reads EPD records.
 
 ghost use Rattle.std.specs.Prelude.{◌≡◌, ◌≢◌, ◌∷◌, ◌++◌, ◌+◌, ◌^◌, ◌<◌, ◌≤◌, [], ℕ, List, All};
 ghost use Rattle.std.specs.Prelude.{length, map, IfOk, IfErr, IfSome, MatchOption, MatchResult};
@@ -18,12 +18,11 @@ use crate::epd::Epd;
 use crate::operand::{Operand, OperandBytes};
 use crate::operation::is_opcode;
 use crate::refusal::{EpdError, PutError};
-use crate::token::{Lexeme, Step, first_bad, next_token};
+use crate::token::{Lexeme, Next, first_bad, next_token};
 use crate::write::write_with_words;
 use pb_board::{Setup, read_setup};
 use std::alloc::{AllocError, Global};
 
-/// The words that a line begins with, and what follows them.
 #[derive(Clone, Copy)]
 pub(crate) struct FourWords<'a> {
     pub(crate) placement: &'a [u8],
@@ -33,14 +32,11 @@ pub(crate) struct FourWords<'a> {
     pub(crate) rest: &'a [u8],
 }
 
-/// What stands first among the operations.
 #[derive(Drop)]
 pub(crate) enum Taken<'a> {
-    /// No token.
     Done,
-    /// Tokens without an end.
     Unended,
-    /// An ended operation that does not begin with an opcode.
+    /// It doesn't begin with an opcode.
     Unnamed,
     /// An opcode with its operands, and what follows their end.
     Operation {
@@ -50,8 +46,7 @@ pub(crate) enum Taken<'a> {
     },
 }
 
-/// The operations that were read so far: the record of them, their number, and the first whose
-/// opcode stood before.
+/// `repeated` is the first operation, from 1, whose opcode stood before.
 #[derive(Drop)]
 pub(crate) struct SoFar {
     pub(crate) epd: Epd,
@@ -59,14 +54,12 @@ pub(crate) struct SoFar {
     pub(crate) repeated: Option<usize>,
 }
 
-/// A line that was read: the four words that it begins with, and the record that it spells.
 #[derive(Drop)]
 pub(crate) struct Line<'a> {
     pub(crate) words: FourWords<'a>,
     pub(crate) epd: Epd,
 }
 
-/// The word that comes next, and what follows it.
 fn next_word<'a>(before: Lexeme<'_>, text: &'a [u8]) -> Option<(&'a [u8], &'a [u8])>
     ensures next { MatchOption result
         ((bytes : List ℕ) (ts : List Token) → ¬ TokensAfter (token_of before.entry)
@@ -76,7 +69,7 @@ fn next_word<'a>(before: Lexeme<'_>, text: &'a [u8]) -> Option<(&'a [u8], &'a [u
     ensures back { IfSome result (λ cut. HasTokens (word cut.0.now) cut.1.now
         → HasTokens (token_of before.entry) text.now) }
 {
-    let Step::Found(token, rest) = next_token(before, text) else {
+    let Next::Found(token, rest) = next_token(before, text) else {
         return None;
     };
     let Lexeme::Word(bytes) = token else {
@@ -85,7 +78,6 @@ fn next_word<'a>(before: Lexeme<'_>, text: &'a [u8]) -> Option<(&'a [u8], &'a [u
     Some((bytes, rest))
 }
 
-/// The four words that a line begins with.
 fn four_words(text: &[u8]) -> Option<FourWords<'_>>
     ensures next { MatchOption result
         ((four : List (List ℕ)) (ts : List Token) → length four ≡ 4
@@ -108,7 +100,6 @@ fn four_words(text: &[u8]) -> Option<FourWords<'_>>
     })
 }
 
-/// The operand that a word or a text is.
 fn operand_of(alloc: Global, token: Lexeme<'_>) -> Result<Option<Operand>, AllocError>
     ensures { IfOk result (λ r. MatchOption r (token_of token.entry ≡ end_mark) (λ o.
         token_of token.entry ≡ operand_token o)) }
@@ -121,8 +112,6 @@ fn operand_of(alloc: Global, token: Lexeme<'_>) -> Result<Option<Operand>, Alloc
     Ok(Some(operand))
 }
 
-/// The operands up to the next end, and what follows it; nothing where no end follows, or a bad
-/// token comes first.
 fn read_operands<'a>(
     alloc: Global,
     before: Lexeme<'_>,
@@ -136,7 +125,7 @@ fn read_operands<'a>(
     let mut before = before;
     let mut rest = text;
     loop {
-        let Step::Found(token, after) = next_token(before, rest) else {
+        let Next::Found(token, after) = next_token(before, rest) else {
             return Ok(None);
         };
         let Some(operand) = operand_of(alloc, token)? else {
@@ -148,7 +137,6 @@ fn read_operands<'a>(
     }
 }
 
-/// The opcode that the token is.
 fn opcode_of(token: Lexeme<'_>) -> Option<&[u8]>
     ensures { MatchOption result ((ts : List Token) → ¬ IsNamed (token_of token.entry ∷ ts))
         (λ opcode. (token_of token.entry ≡ word opcode.now) × IsOpcode opcode.now) }
@@ -159,8 +147,6 @@ fn opcode_of(token: Lexeme<'_>) -> Option<&[u8]>
     }
 }
 
-/// What stands first among operations. Where a bad token comes first, the answer says nothing of
-/// the text.
 fn next_operation<'a>(
     alloc: Global,
     before: Lexeme<'_>,
@@ -173,9 +159,9 @@ fn next_operation<'a>(
         → TokensAfter (token_of before.entry) ts text.now → ts ≢ []) }
 {
     let (first, rest) = match next_token(before, text) {
-        Step::Done => return Ok(Taken::Done),
-        Step::Found(first, rest) => (first, rest),
-        Step::Bad(_) => return Ok(Taken::Unended),
+        Next::Done => return Ok(Taken::Done),
+        Next::Found(first, rest) => (first, rest),
+        Next::Bad(_) => return Ok(Taken::Unended),
     };
     if !first.is_operand() {
         return Ok(Taken::Unnamed);
@@ -193,9 +179,7 @@ fn next_operation<'a>(
     }
 }
 
-/// Adds an operation to those that were read so far. An opcode that stood before is noted, and its
-/// operands are dropped.
-fn step(so_far: &mut SoFar, opcode: &[u8], operands: Vec<Operand>) -> Result<(), EpdError>
+fn note(so_far: &mut SoFar, opcode: &[u8], operands: Vec<Operand>) -> Result<(), EpdError>
     requires lawful { IsOperation (opcode.now, operands.items) }
     requires room { so_far.old.count + 1 < 2 ^ 64 }
     ensures rules { IsEpd so_far.new.epd }
@@ -215,7 +199,6 @@ fn step(so_far: &mut SoFar, opcode: &[u8], operands: Vec<Operand>) -> Result<(),
     }
 }
 
-/// The record of the setup and of the operations that the text spells.
 fn read_operations(
     alloc: Global,
     setup: Setup,
@@ -248,7 +231,7 @@ fn read_operations(
                     rest,
                 },
             ) => {
-                step(&mut so_far, opcode, operands)?;
+                note(&mut so_far, opcode, operands)?;
                 before = Lexeme::End;
                 left = rest;
             }
@@ -261,7 +244,6 @@ fn read_operations(
     }
 }
 
-/// What the text spells, or a refusal, which is the first that is due unless a token is bad.
 fn read_tokens(alloc: Global, text: &[u8]) -> Result<Line<'_>, EpdError>
     ensures found { IfOk result (λ l. IsEpd l.epd × EpdText l.epd text.now) }
     ensures words { IfOk result (λ l. four_of l.words ≡ setup_fields l.epd.setup) }
@@ -281,13 +263,10 @@ fn read_tokens(alloc: Global, text: &[u8]) -> Result<Line<'_>, EpdError>
         Ok(setup) => setup,
         Err(error) => return Err(EpdError::Setup(error)),
     };
-    match read_operations(alloc, setup, Lexeme::Word(words.en_passant), words.rest) {
-        Ok(epd) => Ok(Line { words, epd }),
-        Err(error) => Err(error),
-    }
+    let epd = read_operations(alloc, setup, Lexeme::Word(words.en_passant), words.rest)?;
+    Ok(Line { words, epd })
 }
 
-/// What the text spells, or the first refusal that is due.
 fn read_line(alloc: Global, text: &[u8]) -> Result<Line<'_>, EpdError>
     ensures found { IfOk result (λ l. IsEpd l.epd × EpdText l.epd text.now) }
     ensures words { IfOk result (λ l. four_of l.words ≡ setup_fields l.epd.setup) }
@@ -304,22 +283,17 @@ fn read_line(alloc: Global, text: &[u8]) -> Result<Line<'_>, EpdError>
     }
 }
 
-/// The record that the text spells (PGN Standard 16.2): four words that spell a setup, and
-/// operations in any order.
+/// Reads the record that the text spells (PGN Standard 16.2), its operations in any order.
 ///
 /// # Errors
 ///
-/// The first refusal that is due is answered, in the order of `EpdError`'s variants; only want of
-/// memory may come before the refusals of the operations.
+/// The first that is due, in the order of `EpdError`'s variants; only want of memory may come before
+/// those of the operations.
 pub fn read_epd(alloc: Global, text: &[u8]) -> Result<Epd, EpdError>
-    // What is read is a record, and the text spells it.
     ensures found { IfOk result (λ e. IsEpd e × EpdText e text.now) }
-    // The text of a record is read, where memory suffices.
     ensures only { (e : EpdRecord) → IsEpd e → EpdText e text.now
         → MatchResult result (λ r. r ≡ e) (λ x. x ≡ epd.Memory) }
-    // A refusal is the first whose condition holds.
     ensures refused { IfErr result (λ x. IsFirstDueEpd x text.now) }
-    // Four words alone take no memory.
     ensures memory { IfErr result (λ x. x ≡ epd.Memory → ¬ IsFourWords text.now) }
 {
     match read_line(alloc, text) {
@@ -328,25 +302,19 @@ pub fn read_epd(alloc: Global, text: &[u8]) -> Result<Epd, EpdError>
     }
 }
 
-/// The ordered form of the record that the text spells: what `read_epd` and then `write_epd` give.
+/// Gives the ordered form of the record that the text spells, as `read_epd` and then `write_epd` do.
 ///
 /// # Errors
 ///
 /// The refusals of `read_epd`, and want of memory for the form.
 pub fn form_of(alloc: Global, text: &[u8]) -> Result<Vec<u8>, EpdError>
-    // The text spells a record, and its form is answered.
     ensures found { IfOk result (λ v. (e : EpdRecord) × IsEpd e × EpdText e text.now
         × (v.items ≡ epd_form e)) }
-    // The form of a record is answered for its text, where memory suffices.
     ensures only { (e : EpdRecord) → IsEpd e → EpdText e text.now
         → MatchResult result (λ v. v.items ≡ epd_form e) (λ x. x ≡ epd.Memory) }
-    // A refusal is the first whose condition holds.
     ensures refused { IfErr result (λ x. IsFirstDueEpd x text.now) }
 {
-    let line = match read_line(alloc, text) {
-        Ok(line) => line,
-        Err(error) => return Err(error),
-    };
+    let line = read_line(alloc, text)?;
     // The words stand in the form as they were read.
     match write_with_words(alloc, text.len(), &line.words, &line.epd) {
         Ok(form) => Ok(form),

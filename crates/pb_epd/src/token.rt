@@ -2,14 +2,12 @@
 
 ghost use Rattle.std.specs.Prelude.{◌≡◌, ◌≢◌, ◌↔◌, ◌++◌, ◌∷◌, List, ℕ, IsTrue, MatchOption};
 ghost use Rattle.pb_epd.specs.Token.{Token, text as text_token, word, Tokens, IsToken, IsBadAt};
-ghost use Rattle.pb_epd.specs.Lexeme.{IsOperandToken, BeginsWith, token_of, Begins, IsStep};
+ghost use Rattle.pb_epd.specs.Lexeme.{IsOperandToken, BeginsWith, token_of, Begins, IsNext};
 
 use crate::byte_runs::{space_run, text_run, word_run};
 
-/// The most bytes of a word or a text.
 pub(crate) const LONGEST: usize = 255;
 
-/// A token as it stands in a line.
 #[derive(Clone, Copy)]
 pub(crate) enum Lexeme<'a> {
     Word(&'a [u8]),
@@ -17,19 +15,15 @@ pub(crate) enum Lexeme<'a> {
     End,
 }
 
-/// What comes next in a line.
 #[derive(Clone, Copy)]
-pub(crate) enum Step<'a> {
-    /// Spaces alone are left.
+pub(crate) enum Next<'a> {
     Done,
-    /// A token, and what follows it.
     Found(Lexeme<'a>, &'a [u8]),
-    /// A bad token, after so many spaces.
+    /// After so many spaces.
     Bad(usize),
 }
 
 impl Lexeme<'_> {
-    /// Whether the token is a word or a text.
     pub(crate) fn is_operand(&self) -> bool
         ensures { IsTrue result ↔ IsOperandToken (token_of self.now) }
     {
@@ -37,7 +31,6 @@ impl Lexeme<'_> {
     }
 }
 
-/// The word that begins the text, and what follows it.
 fn word_at(text: &[u8]) -> Option<(&[u8], &[u8])>
     ensures { MatchOption result ((bytes : List ℕ) → ¬ BeginsWith text.now (word bytes))
         (λ cut. Begins text.now (word cut.0.now) cut.1.now) }
@@ -49,7 +42,6 @@ fn word_at(text: &[u8]) -> Option<(&[u8], &[u8])>
     Some((&text[..length], &text[length..]))
 }
 
-/// What stands before the closing quote, and what follows that.
 fn quoted_at(text: &[u8]) -> Option<(&[u8], &[u8])>
     ensures { MatchOption result ((bytes rest : List ℕ) → IsToken (text_token bytes)
         → text.now ≢ bytes ++ 34 ∷ rest)
@@ -62,7 +54,6 @@ fn quoted_at(text: &[u8]) -> Option<(&[u8], &[u8])>
     Some((&text[..length], &text[length + 1..]))
 }
 
-/// The whole token that begins the text, and what follows it.
 fn token_at(text: &[u8]) -> Option<(Lexeme<'_>, &[u8])>
     ensures { MatchOption result ((t : Token) → ¬ BeginsWith text.now t)
         (λ cut. Begins text.now (token_of cut.0) cut.1.now) }
@@ -81,24 +72,22 @@ fn token_at(text: &[u8]) -> Option<(Lexeme<'_>, &[u8])>
     }
 }
 
-/// What comes first in a text that follows a token.
-pub(crate) fn next_token<'a>(before: Lexeme<'_>, text: &'a [u8]) -> Step<'a>
-    ensures { IsStep (token_of before.entry) text.now result }
+pub(crate) fn next_token<'a>(before: Lexeme<'_>, text: &'a [u8]) -> Next<'a>
+    ensures { IsNext (token_of before.entry) text.now result }
 {
     let spaces = space_run(text);
     if spaces == text.len() {
-        return Step::Done;
+        return Next::Done;
     }
     let Some((token, rest)) = token_at(&text[spaces..]) else {
-        return Step::Bad(spaces);
+        return Next::Bad(spaces);
     };
     if spaces == 0 && before.is_operand() && token.is_operand() {
-        return Step::Bad(spaces);
+        return Next::Bad(spaces);
     }
-    Step::Found(token, rest)
+    Next::Found(token, rest)
 }
 
-/// The offset of the first bad token.
 pub(crate) fn first_bad(text: &[u8]) -> Option<usize>
     ensures { MatchOption result ((ts : List Token) × Tokens ts text.now) (λ at.
         IsBadAt text.now at) }
@@ -107,9 +96,9 @@ pub(crate) fn first_bad(text: &[u8]) -> Option<usize>
     let mut rest = text;
     loop {
         match next_token(before, rest) {
-            Step::Done => return None,
-            Step::Bad(spaces) => return Some(text.len() - rest.len() + spaces),
-            Step::Found(token, after) => {
+            Next::Done => return None,
+            Next::Bad(spaces) => return Some(text.len() - rest.len() + spaces),
+            Next::Found(token, after) => {
                 before = token;
                 rest = after;
             }

@@ -1,4 +1,4 @@
-//! Writing an EPD record.
+//! Writes EPD records.
 
 ghost use Rattle.std.specs.Prelude.{◌≡◌, ◌∷◌, ◌++◌, IfOk, OnOk, flat_map};
 ghost use Rattle.std.specs.List.{join_with_byte};
@@ -15,7 +15,6 @@ use crate::read::FourWords;
 use pb_board::write_setup;
 use std::alloc::{AllocError, Global};
 
-/// Writes an operand, a text in quotes.
 fn put_operand(out: &mut Vec<u8>, operand: &Operand) -> Result<(), AllocError>
     ensures { OnOk result (out.new.items ≡ out.old.items
         ++ token_text (operand_token operand.now)) }
@@ -31,7 +30,6 @@ fn put_operand(out: &mut Vec<u8>, operand: &Operand) -> Result<(), AllocError>
     Ok(())
 }
 
-/// Writes a space and an operation, its operands after single spaces and its end after none.
 fn put_operation(out: &mut Vec<u8>, opcode: &[u8], operands: &[Operand]) -> Result<(), AllocError>
     ensures { OnOk result (out.new.items ≡ out.old.items ++ 32
         ∷ operation_text (opcode.now, operands.now)) }
@@ -46,7 +44,6 @@ fn put_operation(out: &mut Vec<u8>, opcode: &[u8], operands: &[Operand]) -> Resu
     Ok(())
 }
 
-/// Writes each operation after a space, in byte order of their opcodes.
 fn put_operations(out: &mut Vec<u8>, epd: &Epd) -> Result<(), AllocError>
     ensures { OnOk result (out.new.items ≡ out.old.items
         ++ flat_map (λ o. space ∷ operation_text o) epd.now.operations) }
@@ -57,7 +54,6 @@ fn put_operations(out: &mut Vec<u8>, epd: &Epd) -> Result<(), AllocError>
     Ok(())
 }
 
-/// Writes the four words with single spaces between.
 fn put_words(out: &mut Vec<u8>, words: &FourWords<'_>) -> Result<(), AllocError>
     ensures { OnOk result (out.new.items ≡ out.old.items ++ join_with_byte 32 (four_of words.now)) }
 {
@@ -70,7 +66,6 @@ fn put_words(out: &mut Vec<u8>, words: &FourWords<'_>) -> Result<(), AllocError>
     out.extend_from_slice(words.en_passant)
 }
 
-/// The form of the record whose four fields are these words, in a list that begins with this room.
 pub(crate) fn write_with_words(
     alloc: Global,
     room: usize,
@@ -86,9 +81,8 @@ pub(crate) fn write_with_words(
     Ok(out)
 }
 
-/// The one ordered text of the record (PGN Standard 16.2.1 and 16.2.2): the four fields, and then
-/// the operations in byte order of their opcodes, with single spaces, no space before an end and
-/// none after the last.
+/// Gives the one ordered text of the record (PGN Standard 16.2.1 and 16.2.2): the four fields and the
+/// operations, with single spaces, no space before an end and none after the last.
 ///
 /// # Errors
 ///

@@ -222,5 +222,5 @@ setups_few (x ∷ S) games =
     omega (arith, length-append (setups_before x.1) (all_setups S), first, own, setups_few S (λ k d lt. games (suc k) d (omega (arith, lt))))
 
 -- so a ledger's setups can be counted in 32 bits
-pub setups_fit : (l : LedgerState) (book : List Entry) (moves : List (Moved × ℕ)) (listed : List ListedSetup) → IsLedger l → ListsSetups l.basis.words book (all_setups l.accepted) moves listed → length listed < 2 ^ 32
+pub setups_fit : (l : LedgerState) (book : List Entry) (moves : List (Moved × ℕ)) (listed : List ListedSetup) → IsLedger l → ListsSetups l.basis.randoms book (all_setups l.accepted) moves listed → length listed < 2 ^ 32
 setups_fit l book moves listed rules h = omega (arith, h.few, setups_few l.accepted rules.games, rules.room, rules.few)

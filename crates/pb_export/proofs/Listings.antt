@@ -19,7 +19,7 @@ use Rattle.pb_io.specs.declared.source.Failed.{Failed}
 use Rattle.pb_poly.proofs.Finding.{found_is_one}
 use Rattle.pb_export.specs.Exporting.{Listed, SaysMoves, with_book_moves}
 use Rattle.pb_export.specs.Listing.{IsListedOf, IsListingOf, PutsFront, PutsListing, text_of}
-use Rattle.pb_export.specs.Setups.{InTextOrder, Named}
+use Rattle.pb_export.specs.Setups.{InTextOrder, Spelled}
 use Rattle.pb_export.specs.declared.exporting.ExportFault.TheVariants as fault
 
 -- ---- texts
@@ -32,12 +32,12 @@ text_of-push : (xs : List Listed) (x : Listed) → text_of (xs ++ x ∷ []) ≡ 
 text_of-push xs x = text_of-append xs (x ∷ []) ∙ ap (λ bytes. text_of xs ++ bytes) (append-nil (x.line ++ 10 ∷ []))
 
 -- the first of what is in order are in order
-pub front_in_order : (front back : List Named) → InTextOrder (front ++ back) → InTextOrder front
+pub front_in_order : (front back : List Spelled) → InTextOrder (front ++ back) → InTextOrder front
 front_in_order front back h i j d lt within =
     let wide : j < length (front ++ back) = omega (arith, within, length-append front back) in
     let first = get_or_append_left front back d i (omega (arith, lt, within)) in
     let second = get_or_append_left front back d j within in
-    subst (λ (p : Named × Named). IsBytesBelow p.0.0 p.1.0) (λ k. (first k, second k)) (h i j d lt wide)
+    subst (λ (p : Spelled × Spelled). IsBytesBelow p.0.0 p.1.0) (λ k. (first k, second k)) (h i j d lt wide)
 
 -- ---- listings
 
@@ -48,7 +48,7 @@ module _ (words : List ℕ) (book : List Entry) where
     members = λ x. ((λ h. absurd (contains_none x h)), (λ h. absurd (contains_none (x.fields, x.setup) h.0)));
   }
 
-  module _ (front : List Named) (t : List ℕ) (s : Position) (listed : List Listed) (h : IsListingOf words book front listed) (rules : IsSetup s) where
+  module _ (front : List Spelled) (t : List ℕ) (s : Position) (listed : List Listed) (h : IsListingOf words book front listed) (rules : IsSetup s) where
     earlier : (x : Listed) → IsListedOf words book front x → IsListedOf words book (front ++ (t, s) ∷ []) x
     earlier x k = (Contains-append_left front ((t, s) ∷ []) (x.fields, x.setup) k.0, k.1)
 
@@ -62,10 +62,10 @@ module _ (words : List ℕ) (book : List Entry) where
       is_listed_here : IsListedOf words book (front ++ (t, s) ∷ []) listed_here
       is_listed_here = (Contains-push front (t, s), says)
 
-      here : (x : Listed) → ◌≡◌ {A = Named} (t, s) (x.fields, x.setup) → IsListedOf words book (front ++ (t, s) ∷ []) x → listed_here ≡ x
+      here : (x : Listed) → ◌≡◌ {A = Spelled} (t, s) (x.fields, x.setup) → IsListedOf words book (front ++ (t, s) ∷ []) x → listed_here ≡ x
       here x e k =
-          let text : t ≡ x.fields = ap (λ (y : Named). y.0) e in
-          let setup : s ≡ x.setup = ap (λ (y : Named). y.1) e in
+          let text : t ≡ x.fields = ap (λ (y : Spelled). y.0) e in
+          let setup : s ≡ x.setup = ap (λ (y : Spelled). y.1) e in
           let played : moves ≡ x.moves = sym (found_here x moves setup says.found k.1.found) in
           let lines : line ≡ x.line = says.says ∙ (λ i. epd_form (with_book_moves (setup i) (played i))) ∙ sym k.1.says in
           λ i. record { setup = setup i; fields = text i; moves = played i; line = lines i }
@@ -76,7 +76,7 @@ module _ (words : List ℕ) (book : List Entry) where
         ordered = all_pairs_push (λ (x y : Listed). IsBytesBelow x.fields y.fields) listed listed_here h.ordered (λ k d lt.
             let x = get_or listed k d in
             let member = (h.members x).0 (Contains-get_or listed k d lt) in
-            pairs_split (λ (y z : Named). IsBytesBelow y.0 z.0) front (t, s) [] (x.fields, x.setup) order member.0);
+            pairs_split (λ (y z : Spelled). IsBytesBelow y.0 z.0) front (t, s) [] (x.fields, x.setup) order member.0);
         members = λ x. (
           λ k. elim (Contains-push_cases listed listed_here x k) [
             | inl old ↦ earlier x ((h.members x).0 old)
@@ -92,8 +92,8 @@ module _ (words : List ℕ) (book : List Entry) where
 -- ---- lines that are put
 
 -- the lines of the setups before the rest have been put
-pub record Putting (words : List ℕ) (book : List Entry) (all : List Named) (sink now : SinkState) (count : ℕ) (rest : List Named) : Type 0 where
-  pub front : List Named
+pub record Putting (words : List ℕ) (book : List Entry) (all : List Spelled) (sink now : SinkState) (count : ℕ) (rest : List Spelled) : Type 0 where
+  pub front : List Spelled
   pub are : front ++ rest ≡ all
   pub listed : List Listed
   pub is : IsListingOf words book front listed
@@ -101,7 +101,7 @@ pub record Putting (words : List ℕ) (book : List Entry) (all : List Named) (si
   pub put : Appends sink.bytes now.bytes (text_of listed)
   pub awaits : AwaitsFlush sink now
 
-pub Putting-none : (words : List ℕ) (book : List Entry) (all : List Named) (sink : SinkState) → Putting words book all sink sink 0 all
+pub Putting-none : (words : List ℕ) (book : List Entry) (all : List Spelled) (sink : SinkState) → Putting words book all sink sink 0 all
 Putting-none words book all sink = record {
   front = [];
   are = refl;
@@ -112,18 +112,18 @@ Putting-none words book all sink = record {
   awaits = inl refl;
 }
 
-module _ (words : List ℕ) (book : List Entry) (all : List Named) (sink now : SinkState) (count : ℕ) where
+module _ (words : List ℕ) (book : List Entry) (all : List Spelled) (sink now : SinkState) (count : ℕ) where
   pub Putting-all : Putting words book all sink now count [] → PutsListing words book all sink now count
   Putting-all h = record {
     listed = h.listed;
-    is = subst (λ named. IsListingOf words book named h.listed) (sym (append-nil h.front) ∙ h.are) h.is;
+    is = subst (λ spelled. IsListingOf words book spelled h.listed) (sym (append-nil h.front) ∙ h.are) h.is;
     counted = h.counted;
     put = h.put;
     awaits = h.awaits;
   }
 
   -- no memory for a line
-  pub Putting-memory : (rest : List Named) → Putting words book all sink now count rest → PutsFront words book all sink now fault.Memory
+  pub Putting-memory : (rest : List Spelled) → Putting words book all sink now count rest → PutsFront words book all sink now fault.Memory
   Putting-memory rest h = record {
     front = h.front;
     back = rest;
@@ -137,7 +137,7 @@ module _ (words : List ℕ) (book : List Entry) (all : List Named) (sink now : S
     cause = h.awaits;
   }
 
-  module _ (t : List ℕ) (s : Position) (rest : List Named) (h : Putting words book all sink now count ((t, s) ∷ rest)) (rules : IsSetup s) where
+  module _ (t : List ℕ) (s : Position) (rest : List Spelled) (h : Putting words book all sink now count ((t, s) ∷ rest)) (rules : IsSetup s) where
     passed : (h.front ++ (t, s) ∷ []) ++ rest ≡ all
     passed = append_assoc h.front ((t, s) ∷ []) rest ∙ h.are
 

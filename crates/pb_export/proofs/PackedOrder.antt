@@ -1,7 +1,9 @@
 -- The order of packed setups is that of their texts.
-use Rattle.std.proofs.Common.{◌≡◌, ℕ, suc, zero, ◌+◌, ◌*◌, ◌<◌, ◌≤◌, Bool, true, false, List, [], ◌∷◌, ◌++◌, Some, None, map, append_assoc, length, drop, refl, sym, ap, subst, ◌∙◌, ◌⊎◌, inl, inr, arith, lit<}
-use Rattle.std.specs.Prelude.{All, codes, is_none, slice_index}
+use Rattle.std.proofs.Common.{◌≡◌, ℕ, suc, zero, ◌+◌, ◌*◌, ◌<◌, ◌≤◌, Bool, true, false, List, [], ◌∷◌, ◌++◌, Some, None, map, append_assoc, length, drop, get_or, refl, sym, ap, subst, ◌∙◌, ◌⊎◌, inl, inr, arith, lit<}
+use Rattle.std.specs.Prelude.{All, bit_and, codes, is_none, slice_index}
+use Rattle.std.specs.Int.Bits.{and_zero_r}
 use Rattle.std.specs.List.{join_with_byte}
+use Rattle.std.proofs.lemmas.Grind.{and_numeral}
 use Rattle.std.proofs.lemmas.List.{length-take, length-drop}
 use Rattle.std.proofs.lemmas.List.Elements.{All-cons, All-head, All-nil, All-tail}
 use Rattle.pb_board.specs.declared.piece.Colour.{Colour}
@@ -15,12 +17,13 @@ use Rattle.pb_board.specs.Position.{Position}
 use Rattle.pb_board.specs.Text.{empty_squares, piece_letter, placement_text, rank_text, setup_text}
 use Rattle.pb_board.proofs.Letters.{letter_above, letter_injective}
 use Rattle.pb_epd.specs.ByteOrder.{IsBytesBelow}
+use Rattle.pb_export.specs.declared.packed.TheConstants.{CARRIES, SYMBOLS, WIDTHS}
 use Rattle.pb_export.specs.Packed.{number_after, piece_digit, place_digit, rank_digits, rank_number, rank_numbers, row, state_text}
 
 -- ---- pieces
 
 -- with what the text of a digit begins
-abbrev letter_at : ℕ → ℕ
+abbrev pub letter_at : ℕ → ℕ
 letter_at d = slice_index (codes "1BKNPQRbknpqr111") d
 
 -- its digit is below that of a square that is empty as its neighbour, and its letter follows from
@@ -63,24 +66,44 @@ letter_back Black Rook = refl
 letter_back Black Queen = refl
 letter_back Black King = refl
 
-pub letter_low : (d : ℕ) → letter_at d < 115
-letter_low zero = lit< tt
-letter_low (suc zero) = lit< tt
-letter_low (suc (suc zero)) = lit< tt
-letter_low (suc (suc (suc zero))) = lit< tt
-letter_low (suc (suc (suc (suc zero)))) = lit< tt
-letter_low (suc (suc (suc (suc (suc zero))))) = lit< tt
-letter_low (suc (suc (suc (suc (suc (suc zero)))))) = lit< tt
-letter_low (suc (suc (suc (suc (suc (suc (suc zero))))))) = lit< tt
-letter_low (suc (suc (suc (suc (suc (suc (suc (suc zero)))))))) = lit< tt
-letter_low (suc (suc (suc (suc (suc (suc (suc (suc (suc zero))))))))) = lit< tt
-letter_low (suc (suc (suc (suc (suc (suc (suc (suc (suc (suc zero)))))))))) = lit< tt
-letter_low (suc (suc (suc (suc (suc (suc (suc (suc (suc (suc (suc zero))))))))))) = lit< tt
-letter_low (suc (suc (suc (suc (suc (suc (suc (suc (suc (suc (suc (suc zero)))))))))))) = lit< tt
-letter_low (suc (suc (suc (suc (suc (suc (suc (suc (suc (suc (suc (suc (suc zero))))))))))))) = lit< tt
-letter_low (suc (suc (suc (suc (suc (suc (suc (suc (suc (suc (suc (suc (suc (suc zero)))))))))))))) = lit< tt
-letter_low (suc (suc (suc (suc (suc (suc (suc (suc (suc (suc (suc (suc (suc (suc (suc zero))))))))))))))) = lit< tt
-letter_low (suc (suc (suc (suc (suc (suc (suc (suc (suc (suc (suc (suc (suc (suc (suc (suc i)))))))))))))))) = lit< tt
+pub split : (i j : ℕ) → i < suc j → (i < j) ⊎ (i ≡ j)
+split i j lt = grind arith
+
+-- what the tables have for a digit that begins a symbol
+abbrev BeginsSymbol : ℕ → Type 0
+BeginsSymbol d = (get_or CARRIES d 0 ≡ 0) × (get_or SYMBOLS d 0 ≡ letter_at d) × (letter_at d < 115) × (get_or WIDTHS d 0 ≡ 1)
+
+pub begins_symbol : (d : ℕ) → d < 15 → BeginsSymbol d
+begins_symbol zero below = (refl, refl, lit< tt, refl)
+begins_symbol (suc zero) below = (refl, refl, lit< tt, refl)
+begins_symbol (suc (suc zero)) below = (refl, refl, lit< tt, refl)
+begins_symbol (suc (suc (suc zero))) below = (refl, refl, lit< tt, refl)
+begins_symbol (suc (suc (suc (suc zero)))) below = (refl, refl, lit< tt, refl)
+begins_symbol (suc (suc (suc (suc (suc zero))))) below = (refl, refl, lit< tt, refl)
+begins_symbol (suc (suc (suc (suc (suc (suc zero)))))) below = (refl, refl, lit< tt, refl)
+begins_symbol (suc (suc (suc (suc (suc (suc (suc zero))))))) below = (refl, refl, lit< tt, refl)
+begins_symbol (suc (suc (suc (suc (suc (suc (suc (suc zero)))))))) below = (refl, refl, lit< tt, refl)
+begins_symbol (suc (suc (suc (suc (suc (suc (suc (suc (suc zero))))))))) below = (refl, refl, lit< tt, refl)
+begins_symbol (suc (suc (suc (suc (suc (suc (suc (suc (suc (suc zero)))))))))) below = (refl, refl, lit< tt, refl)
+begins_symbol (suc (suc (suc (suc (suc (suc (suc (suc (suc (suc (suc zero))))))))))) below = (refl, refl, lit< tt, refl)
+begins_symbol (suc (suc (suc (suc (suc (suc (suc (suc (suc (suc (suc (suc zero)))))))))))) below = (refl, refl, lit< tt, refl)
+begins_symbol (suc (suc (suc (suc (suc (suc (suc (suc (suc (suc (suc (suc (suc zero))))))))))))) below = (refl, refl, lit< tt, refl)
+begins_symbol (suc (suc (suc (suc (suc (suc (suc (suc (suc (suc (suc (suc (suc (suc zero)))))))))))))) below = (refl, refl, lit< tt, refl)
+begins_symbol (suc (suc (suc (suc (suc (suc (suc (suc (suc (suc (suc (suc (suc (suc (suc d))))))))))))))) below = absurd (omega (arith, below))
+
+-- the symbol of a digit after another symbol
+pub symbol_is : (last d : ℕ) → last < 255 → d < 16
+    → ((d ≡ 15) × (bit_and last (get_or CARRIES d 0) + get_or SYMBOLS d 0 ≡ last + 1))
+    ⊎ (¬ (d ≡ 15) × (bit_and last (get_or CARRIES d 0) + get_or SYMBOLS d 0 ≡ letter_at d) × (letter_at d < 115))
+symbol_is last d short digit = elim (split d 15 digit) [
+  | inl below ↦
+      let h = begins_symbol d below in
+      let zero_first : 0 + letter_at d ≡ letter_at d = omega arith in
+      inr (λ is. omega (arith, is, below), (λ i. bit_and last (h.0 i) + h.1 i) ∙ ap (λ n. n + letter_at d) (and_zero_r last) ∙ zero_first, h.2)
+  | inr same ↦
+      let all : bit_and last 255 ≡ last = and_numeral last 254 refl ∙ omega (arith, short) in
+      inl (same, ap (λ n. bit_and last (get_or CARRIES n 0) + get_or SYMBOLS n 0) same ∙ ap (λ n. n + 1) all)
+]
 
 next_letter : (i : ℕ) → 0 < i → i < 12 → letter_at i < letter_at (suc i)
 next_letter zero low high = absurd (omega (arith, low))
@@ -103,9 +126,6 @@ letters_rise i (suc j) low lt high = elim (split i j lt) [
   | inl before ↦ omega (arith, letters_rise i j low before (omega (arith, high)), next_letter j (omega (arith, low, before)) (omega (arith, high)))
   | inr same ↦ subst (λ k. letter_at i < letter_at (suc k)) same (next_letter i low (omega (arith, same, high)))
 ]
-  where
-    split : (i j : ℕ) → i < suc j → (i < j) ⊎ (i ≡ j)
-    split i j lt = grind arith
 
 pub letter_order : (p q : Piece) → piece_digit p < piece_digit q → piece_letter p < piece_letter q
 letter_order p q lt =

@@ -1,14 +1,14 @@
 -- The texts of packed setups.
-use Rattle.std.proofs.Common.{◌≡◌, ℕ, suc, zero, ◌+◌, ◌-◌, ◌*◌, ◌/◌, ◌%◌, ◌<◌, ◌≤◌, Bool, true, false, List, [], ◌∷◌, ◌++◌, Some, None, append-nil, append_assoc, length, drop, get_or, refl, sym, ap, subst, ◌∙◌, arith}
+use Rattle.std.proofs.Common.{◌≡◌, ℕ, suc, zero, ◌+◌, ◌-◌, ◌*◌, ◌/◌, ◌%◌, ◌<◌, ◌≤◌, Bool, true, false, List, [], ◌∷◌, ◌++◌, Some, None, append-nil, append_assoc, length, take, drop, set, get_or, inl, inr, refl, sym, ap, subst, ◌∙◌, arith}
 use Rattle.std.specs.Prelude.{All, is_none}
-use Rattle.std.proofs.lemmas.List.{drop_more, drop_all, length-drop, length-take}
+use Rattle.std.proofs.lemmas.List.{drop_more, drop_all, length-drop, length-take, take-set, take_more}
 use Rattle.pb_board.specs.declared.piece.Piece.{Piece}
 use Rattle.pb_board.specs.Board.{Board, Place}
 use Rattle.pb_board.specs.Text.{empty_squares, piece_letter, placement_text, rank_text, setup_text}
 use Rattle.pb_board.specs.Position.{Position}
 use Rattle.pb_board.proofs.Writes.{InRows, row_written, rows_done, rows_start}
 use Rattle.pb_export.specs.Packed.{number_after, piece_digit, place_digit, rank_digits, rank_number, rank_numbers, row, state_text}
-use Rattle.pb_export.proofs.PackedOrder.{a_run, digit_high}
+use Rattle.pb_export.proofs.PackedOrder.{a_run, digit_high, split}
 
 -- ---- digits
 
@@ -111,7 +111,7 @@ none_open false run last base out h e = h.0
 none_open true run last base out h e = absurd cc
 
 pub PutsRank-first : (number : ℕ) (digits start : List ℕ) (symbol : ℕ) → length digits ≡ 8 → ((squares : List Place) → length squares ≡ 8 → number ≡ rank_number squares → digits ≡ rank_digits false squares)
-    → IsSymbol (get_or digits 0 0) symbol → symbol ≤ 114 → PutsRank number digits 1 symbol start start
+    → IsSymbol (get_or digits 0 0) symbol → symbol ≤ 115 → PutsRank number digits 1 symbol start start
 PutsRank-first number digits start symbol eight are is low = record { few = omega (arith, low); eight = eight; each = λ squares places n. first squares places (are squares places n) }
   where
     single : (x : Place) → ¬ (place_digit false x ≡ 15)
@@ -146,7 +146,7 @@ module _ (number : ℕ) (digits : List ℕ) (i last : ℕ) (start out : List ℕ
       record { written = w; place = place; digit = first; squares_left = squares_left; left = later; text = ap (λ (s : List Place). w.base ++ rank_text w.run s) (sym squares_left) ∙ w.completes }
 
   -- one more of a run
-  pub put_empty : get_or digits i 0 ≡ 15 → PutsRank number digits (i + 1) (last + 1) start out
+  put_empty : get_or digits i 0 ≡ 15 → PutsRank number digits (i + 1) (last + 1) start out
   put_empty at = record {
     few = omega (arith, h.few);
     eight = h.eight;
@@ -168,9 +168,9 @@ module _ (number : ℕ) (digits : List ℕ) (i last : ℕ) (start out : List ℕ
           }
 
   -- the last symbol is whole, and another begins
-  pub put_symbol : (symbol : ℕ) (new : List ℕ) → ¬ (get_or digits i 0 ≡ 15) → IsSymbol (get_or digits i 0) symbol → symbol ≤ 114 → new ≡ out ++ last ∷ [] → PutsRank number digits (i + 1) symbol start new
+  put_symbol : (symbol : ℕ) (new : List ℕ) → ¬ (get_or digits i 0 ≡ 15) → IsSymbol (get_or digits i 0) symbol → symbol ≤ 115 + (last - 114) → new ≡ out ++ last ∷ [] → PutsRank number digits (i + 1) symbol start new
   put_symbol symbol new other is low put = record {
-    few = omega (arith, low);
+    few = omega (arith, low, h.few);
     eight = h.eight;
     each = λ squares places n.
         let x = here squares places n in
@@ -178,6 +178,22 @@ module _ (number : ℕ) (digits : List ℕ) (i last : ℕ) (start out : List ℕ
         begun digits (i + 1) symbol w.after_empty x.place w.run w.base new start squares (drop (i + 1) squares) x.left refl (subst (λ d. IsSymbol d symbol) x.digit is) (λ e. other (x.digit ∙ e))
         (none_open w.after_empty w.run last w.base out w.ends) (whole w.after_empty w.run last w.base out w.ends ∙ sym put) x.text;
   }
+
+  -- the symbol after the last one is put over it where it makes it longer, and else behind it
+  pub symbol_put : (text : List ℕ) (end width symbol : ℕ) → out ≡ take end text → get_or text end 0 ≡ last → end + width < length text → get_or digits i 0 < 16
+      → (get_or digits i 0 ≡ 15 → width ≡ 0) → (¬ (get_or digits i 0 ≡ 15) → width ≡ 1) → (get_or digits i 0 ≡ 15 → symbol ≡ last + 1) → IsSymbol (get_or digits i 0) symbol → symbol ≤ 115 + (last - 114)
+      → PutsRank number digits (i + 1) symbol start (take (end + width) (set text (end + width) symbol))
+  symbol_put text end width symbol is last-is room small none one more symbol-is low = elim (split (get_or digits i 0) 15 small) [
+    | inl below ↦
+        let other : ¬ (get_or digits i 0 ≡ 15) = λ e. omega (arith, e, below) in
+        let moved : end + width ≡ end + 1 = omega (arith, one other) in
+        put_symbol symbol (take (end + width) (set text (end + width) symbol)) other symbol-is low
+        (take-set text (end + width) symbol ∙ ap (λ n. take n text) moved ∙ take_more text end 0 (omega (arith, room)) ∙ (λ j. sym is j ++ last-is j ∷ []))
+    | inr same ↦
+        let still : end + width ≡ end = omega (arith, none same) in
+        let kept : out ≡ take (end + width) (set text (end + width) symbol) = is ∙ ap (λ n. take n text) (sym still) ∙ sym (take-set text (end + width) symbol) in
+        subst (λ (w : List ℕ). PutsRank number digits (i + 1) symbol start w) kept (subst (λ n. PutsRank number digits (i + 1) n start out) (sym (more same)) (put_empty same))
+  ]
 
 pub put_whole : (number : ℕ) (digits : List ℕ) (i last : ℕ) (start out new : List ℕ) → PutsRank number digits i last start out → length digits ≤ i → new ≡ out ++ last ∷ []
     → (squares : List Place) → length squares ≡ 8 → number ≡ rank_number squares → new ≡ start ++ rank_text 0 squares

@@ -57,7 +57,7 @@ pub record SaysMoves (words : List ℕ) (book : List Entry) (s : Position) (move
 -- the setup stands before a ply, with these four fields, and the line says what the book has for it
 abbrev pub IsListed : Basis → List Submission → List Entry → Listed → Type 0
 IsListed T S book x = StandsBefore S x.setup × (x.fields ≡ setup_text x.setup)
-    × SaysMoves T.words book x.setup x.moves x.line
+    × SaysMoves T.randoms book x.setup x.moves x.line
 
 -- those of which this is so, each once, in byte order of their four fields
 pub record IsListing (is : Listed → Type 0) (listed : List Listed) : Type 0 where

@@ -4,7 +4,7 @@ ghost use Rattle.std.specs.Prelude.{◌≡◌, ◌<◌, ◌^◌, ℕ, IfErr, IfO
 ghost use Rattle.pb_poly.specs.declared.entry.Entry.{Entry};
 ghost use Rattle.pb_export.specs.Exporting.{Exports, ExportsUntil, fault_of_export};
 ghost use Rattle.pb_export.specs.Listing.{PutsFront, PutsListing};
-ghost use Rattle.pb_export.specs.Setups.{AreListed, CanBeNamed, IsListingOfLedger, Named};
+ghost use Rattle.pb_export.specs.Setups.{AreListed, CanBeSpelled, IsListingOfLedger, Spelled};
 ghost use Rattle.pb_export.specs.declared.exporting.ExportFault.TheVariants as fault;
 
 use crate::book_moves::put_line;
@@ -16,13 +16,13 @@ use pb_points::Tally;
 use std::alloc::{AllocError, Global};
 use thiserror::Error;
 
-/// Why the export of a ledger wasn't written whole.
+/// Tells why an export or a book of the games held wasn't written whole.
 #[derive(Clone, Copy, Debug, PartialEq, Eq, Error)]
 pub enum ExportFault {
     /// The sink has failed.
-    #[error("the export can't be written")]
+    #[error("the text can't be written")]
     Write,
-    /// No memory for the book, for the setups of the games, or for a line.
+    /// No memory for what the text is made of.
     #[error("no memory is left")]
     Memory,
 }
@@ -54,11 +54,10 @@ impl From<ExportFault> for Fault {
     }
 }
 
-/// Writes the opening book of the games held as EPD (PGN Standard 16.2): one line for each setup
-/// that stands before a move of a game and that the book has moves for. A line is the setup's four
-/// fields and the operation `bkm`, whose operands are the moves in the book's order, each followed
-/// by its weight in decimal. The lines are in byte order of their four fields, and each ends with
-/// an LF. The answer is how many they are.
+/// Writes the opening book of the games held as EPD (PGN Standard 16.2), and answers how many lines
+/// it has: one for each setup that stands before a move of a game and that the book has moves for,
+/// in byte order of the setup's four fields, with the operation `bkm`, whose operands are the moves
+/// in the book's order, each followed by its weight in decimal. Each line ends with an LF.
 ///
 /// # Errors
 ///
@@ -69,9 +68,7 @@ pub fn export<T: Tally, K: Sink>(
     ledger: &Ledger<T>,
     sink: &mut K,
 ) -> Result<u32, ExportFault>
-    // The export of the games held was put and handed on, once, in so many lines.
     ensures ok { IfOk result (Exports ledger.now (K.state sink.old) (K.state sink.new)) }
-    // A front of it was put and nothing was handed on, and where the fault lies.
     ensures fault { IfErr result (ExportsUntil ledger.now (K.state sink.old) (K.state sink.new)) }
 {
     let listing = list_setups(alloc, ledger)?;
@@ -80,7 +77,6 @@ pub fn export<T: Tally, K: Sink>(
     Ok(count)
 }
 
-/// The setups for which the book of the ledger has moves.
 fn list_setups<T: Tally>(alloc: Global, ledger: &Ledger<T>) -> Result<Listing, AllocError>
     ensures { IfOk result (IsListingOfLedger ledger.now) }
 {
@@ -88,16 +84,15 @@ fn list_setups<T: Tally>(alloc: Global, ledger: &Ledger<T>) -> Result<Listing, A
     Listing::of(alloc, ledger, &book)
 }
 
-/// Puts the line of each setup.
 fn put_lines<K: Sink>(alloc: Global, listing: &Listing, sink: &mut K) -> Result<u32, ExportFault>
-    requires listed { CanBeNamed listing.now }
+    requires listed { CanBeSpelled listing.now }
     requires few { length listing.now.setups.items < 2 ^ 32 }
-    ensures ok { IfOk result (λ count. (words : List ℕ) (book : List Entry) (named : List Named)
-        → AreListed words book named listing.now
-        → PutsListing words book named (K.state sink.old) (K.state sink.new) count) }
-    ensures fault { IfErr result (λ e. (words : List ℕ) (book : List Entry) (named : List Named)
-        → AreListed words book named listing.now
-        → PutsFront words book named (K.state sink.old) (K.state sink.new) e) }
+    ensures ok { IfOk result (λ count. (words : List ℕ) (book : List Entry) (spelled : List Spelled)
+        → AreListed words book spelled listing.now
+        → PutsListing words book spelled (K.state sink.old) (K.state sink.new) count) }
+    ensures fault { IfErr result (λ e. (words : List ℕ) (book : List Entry) (spelled : List Spelled)
+        → AreListed words book spelled listing.now
+        → PutsFront words book spelled (K.state sink.old) (K.state sink.new) e) }
 {
     let mut line = Vec::new(alloc);
     for listed in listing.setups.as_slice() {

@@ -12,7 +12,7 @@ use std::marker::Model;
 /// or two lines of the processor's cache.
 const FRONTS: u64 = 262_144;
 
-/// A book, with a place for each front that a key may have, from which on entries are looked for.
+/// A book, and for each front of a key the index from which on its entries are looked for.
 #[derive(Drop)]
 pub(crate) struct IndexedBook {
     book: Book,
@@ -32,11 +32,6 @@ impl Model for IndexedBook {
 }
 
 impl IndexedBook {
-    /// The book, with its places.
-    ///
-    /// # Errors
-    ///
-    /// There was no memory for the places.
     pub(crate) fn of(alloc: Global, book: Book) -> Result<IndexedBook, AllocError>
         ensures { IfOk result (λ b. b ≡ book) }
     {
@@ -44,7 +39,6 @@ impl IndexedBook {
         Ok(IndexedBook { book, firsts })
     }
 
-    /// The entries of this key, which stand together from this place on.
     pub(crate) fn under(&self, first: usize, key: u64) -> &[Entry]
         requires { IsFirstUnder self.now key first }
         ensures { result.now ≡ filter (λ e. e.key == key) self.now }
@@ -53,8 +47,8 @@ impl IndexedBook {
         &rest[..count_under(rest, key)]
     }
 
-    /// The place of the first entry whose key isn't lower, for each key. What these places read
-    /// lies far apart, and in a short loop the processor waits for several at once.
+    /// The index of the first entry of each key. What is read for them lies far apart, and in a short
+    /// loop the processor waits for several at once.
     pub(crate) fn firsts_under(&self, alloc: Global, keys: &[u64]) -> Result<Vec<usize>, AllocError>
         ensures { IfOk result (λ firsts. AreFirstsUnder self.now keys.now firsts.items) }
     {
@@ -65,55 +59,49 @@ impl IndexedBook {
         Ok(firsts)
     }
 
-    /// The place of the first entry whose key isn't lower.
     fn first_under(&self, key: u64) -> usize
         ensures { IsFirstUnder self.now key result }
     {
         let IndexedBook { book, firsts } = self;
-        let place = firsts[(key >> 46) as usize] as usize;
-        place + count_below(&book.entries()[place..], key)
+        let start = firsts[(key >> 46) as usize] as usize;
+        start + count_below(&book.entries()[start..], key)
     }
 }
 
-/// The place of the first entry for each front, as far as 32 bits hold it: one that is lower serves
-/// as well.
+/// The index of the first entry of each front, as far as 32 bits hold it: a lower one serves as well.
 fn firsts_of(alloc: Global, entries: &[Entry]) -> Result<Vec<u32>, AllocError>
     requires { NeverFall entries.now }
     ensures { IfOk result (λ firsts. AreFirsts entries.now firsts.items) }
 {
     let mut firsts = Vec::with_capacity(alloc, FRONTS as usize)?;
-    let mut place = 0;
+    let mut start = 0;
     for front in 0..FRONTS {
-        place = first_from(entries, place, front << 46);
-        firsts.push(in_32_bits(place))?;
+        start = first_from(entries, start, front << 46);
+        firsts.push(in_32_bits(start))?;
     }
     Ok(firsts)
 }
 
-/// The place of the first entry whose key isn't below the floor, where those before a place are.
-fn first_from(entries: &[Entry], place: usize, floor: u64) -> usize
+fn first_from(entries: &[Entry], start: usize, floor: u64) -> usize
     requires rises { NeverFall entries.now }
-    requires before { IsBefore entries.now place floor }
+    requires before { IsBefore entries.now start floor }
     ensures { IsBefore entries.now result floor }
 {
-    place + count_below(&entries[place..], floor)
+    start + count_below(&entries[start..], floor)
 }
 
-/// The place, or the greatest number of 32 bits where that is lower.
-fn in_32_bits(place: usize) -> u32
-    ensures { result ≤ place }
+fn in_32_bits(start: usize) -> u32
+    ensures { result ≤ start }
 {
-    place.min(u32::MAX as usize) as u32
+    start.min(u32::MAX as usize) as u32
 }
 
-/// How many entries with lower keys these begin with.
 fn count_below(entries: &[Entry], key: u64) -> usize
     ensures { result ≡ length (take_while (λ e. nat_lt e.key key) entries.now) }
 {
     entries.iter().take_while(|entry| entry.key < key).count()
 }
 
-/// How many entries of this key these begin with.
 fn count_under(entries: &[Entry], key: u64) -> usize
     ensures { result ≡ length (take_while (λ e. e.key == key) entries.now) }
 {

@@ -1,7 +1,7 @@
 //! Setups packed in the order of their texts.
 
 ghost use Rattle.std.specs.Prelude.{◌≡◌, ◌≤◌, ◌<◌, ◌+◌, ◌++◌, ◌∷◌, ◌&&◌, ℕ, false, is_none, List};
-ghost use Rattle.std.specs.Prelude.{OnOk, Option, length, vec_capacity, vec_len};
+ghost use Rattle.std.specs.Prelude.{◌-◌, OnOk, Option, length, take};
 ghost use Rattle.std.specs.Prelude.{◌*◌, ◌^◌, All};
 ghost use Rattle.std.specs.Int.{bit_at, from_bool};
 ghost use Rattle.std.specs.Cmp.Lexicographic.{slice_cmp};
@@ -20,32 +20,35 @@ ghost use Rattle.pb_export.specs.Packed.{pairs_of, piece_digit, rank_digits, ran
 ghost use Rattle.pb_export.specs.Packed.{rank_numbers, row, spread, state_number, state_text};
 ghost use Rattle.pb_export.specs.Packed.{turn_number};
 
-use crate::book_moves::put_word;
+use crate::book_moves::put_spaced;
 use pb_board::{Colour, Kind, Piece, Rights, Setup, Square};
 use std::alloc::AllocError;
 use std::cmp::Ordering;
 
-/// The digit of an empty square after an empty one.
-const EMPTY_TOO: u32 = 15;
-
-/// With what the text of a digit begins. As a table, since no branch of it could be foreseen.
+/// With what the text of a digit begins. An empty square after an empty one, whose digit is 15, adds
+/// one to the symbol before. These are tables, since no branch of it could be foreseen.
 const SYMBOLS: [u8; 16] = [
-    b'1', b'B', b'K', b'N', b'P', b'Q', b'R', b'b', b'k', b'n', b'p', b'q', b'r', b'1', b'1', b'1',
+    b'1', b'B', b'K', b'N', b'P', b'Q', b'R', b'b', b'k', b'n', b'p', b'q', b'r', b'1', b'1', 1,
 ];
 
-/// The number of castling rights for their bits, from `K` as 1 to `q` as 8.
+/// The bits of the symbol before that a digit's symbol takes over.
+const CARRIES: [u8; 16] = [0, 0, 0, 0, 0, 0, 0, 0, 0, 0, 0, 0, 0, 0, 0, 255];
+
+/// By how many bytes a digit makes the text longer.
+const WIDTHS: [usize; 16] = [1, 1, 1, 1, 1, 1, 1, 1, 1, 1, 1, 1, 1, 1, 1, 0];
+
+/// The number of castling rights by their bits, from `K` as 1 to `q` as 8.
 const CASTLING_NUMBERS: [u16; 16] = [0, 1, 9, 2, 13, 6, 10, 3, 15, 8, 12, 5, 14, 7, 11, 4];
 
-/// The squares of the a-file.
 const FILE_A: u64 = 0x0101_0101_0101_0101;
 
-/// The four bits of an index as digits of four bits each, the lowest bit first.
+/// The four bits of an index as four digits, the lowest bit first.
 const SPREAD: [u32; 16] = [
     0x0000, 0x1000, 0x0100, 0x1100, 0x0010, 0x1010, 0x0110, 0x1110, 0x0001, 0x1001, 0x0101, 0x1101,
     0x0011, 0x1011, 0x0111, 0x1111,
 ];
 
-/// How many bytes a placement has at most: eight for each rank, and the slashes between them.
+/// How many bytes a placement has at most, with its slashes.
 const MAX_PLACEMENT: usize = 71;
 
 /// For each bit of a square's digit, the squares whose digits have it.
@@ -66,7 +69,6 @@ pub(crate) struct PackedSetup {
     state: u16,
 }
 
-/// The squares on which a piece of this side and kind stands.
 #[inline(always)]
 fn squares_of(setup: &Setup, colour: Colour, kind: Kind) -> u64
     ensures { let piece = piece_of colour kind in
@@ -84,7 +86,6 @@ fn empty_after_empty(occupied: u64) -> u64
     !(occupied | occupied << 1 | FILE_A)
 }
 
-/// The squares whose digits have each bit.
 #[inline(always)]
 fn digit_bits_of(setup: &Setup) -> DigitBits
     ensures digits { HasDigits result setup.now.board }
@@ -122,7 +123,7 @@ fn digit_bits_of(setup: &Setup) -> DigitBits
     }
 }
 
-/// The number whose digits of four bits are the bits of a rank, from the a-file on.
+/// The number whose digits are the bits of a rank, from the a-file on.
 #[inline(always)]
 fn spread(squares: u64, rank: u32) -> u32
     requires { rank < 8 }
@@ -133,7 +134,7 @@ fn spread(squares: u64, rank: u32) -> u32
     65_536 * SPREAD[(row % 16) as usize] + SPREAD[(row / 16 % 16) as usize]
 }
 
-/// The number of a rank, from 0 for rank 1.
+/// The number of a rank, counted from 0 for rank 1.
 #[inline(always)]
 fn pack_rank(bits: &DigitBits, rank: u32) -> u32
     requires { rank < 8 }
@@ -165,7 +166,6 @@ fn pack_ranks(setup: &Setup) -> [u32; 8]
     ]
 }
 
-/// The number of the castling rights in the order of their texts.
 fn castling_number_of(rights: Rights) -> u16
     ensures { result ≡ castling_number rights }
 {
@@ -174,7 +174,6 @@ fn castling_number_of(rights: Rights) -> u16
     CASTLING_NUMBERS[white + 4 * black]
 }
 
-/// The number of the en passant square in the order of the texts.
 fn en_passant_number_of(ep: Option<Square>) -> u16
     ensures value { result ≡ en_passant_number ep }
     ensures on_board { IsOnBoard ep }
@@ -186,7 +185,6 @@ fn en_passant_number_of(ep: Option<Square>) -> u16
     }
 }
 
-/// The number of the fields of a setup after the placement, in the order of their texts.
 fn state_of(setup: &Setup) -> u16
     ensures value { result ≡ state_number setup.now }
     ensures on_board { IsOnBoard setup.now.ep }
@@ -198,7 +196,6 @@ fn state_of(setup: &Setup) -> u16
     turn + 128 * castling_number_of(setup.rights()) + en_passant_number_of(setup.ep())
 }
 
-/// The letter of the side with this number.
 fn turn_of(number: u16) -> &'static [u8]
     ensures { (side : Colour) → number ≡ turn_number side → result.now ≡ turn_text side }
 {
@@ -208,7 +205,6 @@ fn turn_of(number: u16) -> &'static [u8]
     }
 }
 
-/// The text of castling rights with this number.
 fn castling_of(number: u16) -> &'static [u8]
     ensures { result.now ≡ castling_at number }
 {
@@ -249,33 +245,30 @@ fn put_state(line: &mut Vec<u8>, state: u16) -> Result<(), AllocError>
     }
 }
 
-/// Writes the fields after the placement one by one.
 fn put_each_field(line: &mut Vec<u8>, state: u16) -> Result<(), AllocError>
     ensures { OnOk result ((s : Position) → IsOnBoard s.ep → state ≡ state_number s
         → line.new.items ≡ line.old.items ++ 32 ∷ state_text s) }
 {
-    put_word(line, turn_of(state / 2_048))?;
-    put_word(line, castling_of(state / 128 % 16))?;
+    put_spaced(line, turn_of(state / 2_048))?;
+    put_spaced(line, castling_of(state / 128 % 16))?;
     put_en_passant(line, state % 128)
 }
 
-/// Writes the en passant square with this number, or a `-`, after a space.
 fn put_en_passant(line: &mut Vec<u8>, number: u16) -> Result<(), AllocError>
     requires { number < 128 }
     ensures { OnOk result ((ep : Option ℕ) → IsOnBoard ep → number ≡ en_passant_number ep
         → line.new.items ≡ line.old.items ++ 32 ∷ en_passant_text ep) }
 {
     if number == 0 {
-        return put_word(line, b"-");
+        return put_spaced(line, b"-");
     }
     let square = number - 1;
-    put_word(
+    put_spaced(
         line,
         &[b'a' + (square / 8) as u8, b'1' + (square % 8) as u8],
     )
 }
 
-/// The ranks two by two, each pair as one number.
 #[inline(always)]
 fn pairs_of(ranks: &[u32; 8]) -> [u64; 4]
     ensures value { result ≡ pairs_of ranks.now }
@@ -290,7 +283,6 @@ fn pairs_of(ranks: &[u32; 8]) -> [u64; 4]
     ]
 }
 
-/// The digits of a rank and of the one after it as those of one number.
 #[inline(always)]
 fn pair_of(first: u32, second: u32) -> u64
     ensures { result ≡ 2 ^ 32 * first + second }
@@ -299,7 +291,6 @@ fn pair_of(first: u32, second: u32) -> u64
 }
 
 impl PackedSetup {
-    /// The setup with this board, packed.
     pub(crate) fn of(setup: &Setup) -> PackedSetup
         ensures { IsPacked result setup.now }
     {
@@ -309,7 +300,7 @@ impl PackedSetup {
         }
     }
 
-    /// The order of the texts of this setup and another. Ranks are compared two at a time.
+    /// The order of the texts. Ranks are compared two at a time.
     #[inline(always)]
     pub(crate) fn order(&self, other: &PackedSetup) -> Ordering
         ensures { result ≡ ordering_then (slice_cmp nat_cmp self.now.ranks other.now.ranks)
@@ -319,25 +310,25 @@ impl PackedSetup {
         ranks.then(self.state.cmp(&other.state))
     }
 
-    /// Writes the four fields of the setup.
     pub(crate) fn put_fields(&self, line: &mut Vec<u8>) -> Result<(), AllocError>
         ensures { OnOk result ((s : Position) → length s.board ≡ 64 → IsPacked self.now s
             → line.new.items ≡ line.old.items ++ setup_text s) }
     {
-        line.reserve(MAX_PLACEMENT)?;
-        put_rank(line, self.ranks[0]);
+        let mut text = [0; MAX_PLACEMENT];
+        let mut end = put_rank(&mut text, 0, self.ranks[0]);
         for row in 1..8 {
-            line.push_reserved(b'/');
-            put_rank(line, self.ranks[row]);
+            text[end] = b'/';
+            end = put_rank(&mut text, end + 1, self.ranks[row]);
         }
+        line.extend_from_slice(&text[..end])?;
         put_state(line, self.state)
     }
 }
 
-/// The eight digits of the number of a rank.
 #[inline(always)]
 fn digits_of(number: u32) -> [u32; 8]
     ensures eight { length result ≡ 8 }
+    ensures small { All (λ d. d < 16) result }
     ensures digits { (squares : List Place) → length squares ≡ 8 → number ≡ rank_number squares
         → result ≡ rank_digits false squares }
 {
@@ -353,34 +344,44 @@ fn digits_of(number: u32) -> [u32; 8]
     ]
 }
 
-/// The letter of a piece's digit, or the digit with which the text of empty squares begins.
 #[inline(always)]
-fn symbol_of(digit: u32) -> u8
+fn symbol_after(last: u8, digit: u32) -> u8
+    requires last { last < 255 }
+    requires digit { digit < 16 }
     ensures piece { (p : Piece) → digit ≡ piece_digit p → result ≡ piece_letter p }
     ensures empty { digit ≡ 0 → result ≡ 49 }
-    ensures low { result ≤ 114 }
+    ensures run { digit ≡ 15 → result ≡ last + 1 }
+    ensures low { result ≤ 115 + (last - 114) }
 {
-    SYMBOLS[(digit % 16) as usize]
+    (last & CARRIES[digit as usize]) + SYMBOLS[digit as usize]
 }
 
-/// Writes the text of a rank, for which there is room.
-fn put_rank(line: &mut Vec<u8>, number: u32)
-    requires { vec_len line.old + 8 ≤ vec_capacity line.old }
+#[inline(always)]
+fn width_of(digit: u32) -> usize
+    requires { digit < 16 }
+    ensures run { digit ≡ 15 → result ≡ 0 }
+    ensures symbol { ¬ (digit ≡ 15) → result ≡ 1 }
+    ensures few { result ≤ 1 }
+{
+    WIDTHS[digit as usize]
+}
+
+/// Writes the text of a rank from `start` on, and gives its end.
+fn put_rank(text: &mut [u8; MAX_PLACEMENT], start: usize, number: u32) -> usize
+    requires { start + 8 ≤ length text.old }
     ensures text { (squares : List Place) → length squares ≡ 8 → number ≡ rank_number squares
-        → line.new.items ≡ line.old.items ++ rank_text 0 squares }
-    ensures len { vec_len line.new ≤ vec_len line.old + 8 }
-    ensures capacity { vec_capacity line.new ≡ vec_capacity line.old }
+        → take result text.new ≡ take start text.old ++ rank_text 0 squares }
+    ensures end { result ≤ start + 8 }
+    ensures len { length text.new ≡ length text.old }
 {
     let digits = digits_of(number);
-    // The last symbol is put once it is whole: the digit of empty squares grows with them.
-    let mut last = symbol_of(digits[0]);
+    let mut last = symbol_after(0, digits[0]);
+    let mut end = start;
+    text[end] = last;
     for file in 1..8 {
-        if digits[file] == EMPTY_TOO {
-            last += 1;
-        } else {
-            line.push_reserved(last);
-            last = symbol_of(digits[file]);
-        }
+        end += width_of(digits[file]);
+        last = symbol_after(last, digits[file]);
+        text[end] = last;
     }
-    line.push_reserved(last);
+    end + 1
 }

@@ -26,7 +26,7 @@ use pb_points::Tally;
 use pb_poly::{Entry, Table, code_of, key_next, key_of, move_of};
 use std::alloc::{AllocError, Global};
 
-/// How many keys of recent setups are kept.
+/// How many recent setups are noted.
 const RECENT: usize = 16_384;
 
 /// A setup, and where its moves stand among those of all.
@@ -41,7 +41,6 @@ pub(crate) struct ListedSetup {
     end: u32,
 }
 
-/// Setups, and the key and the board of each.
 #[derive(Drop)]
 struct KeyedSetups {
     keys: Vec<u64>,
@@ -53,24 +52,19 @@ struct KeyedSetups {
 pub(crate) struct Listing {
     pub(crate) setups: Vec<ListedSetup>,
     moves: Vec<(Move, u16)>,
-    // Half of the last key of each remainder, and the place of its setup. Any others would do no
-    // harm.
+    // The higher half of the last key of each remainder, and the index of its setup. Any others
+    // would do no harm.
     recent: Vec<(u32, u32)>,
 }
 
 impl Listing {
-    /// The setups that stand before a move of a game that is held, each once, in the byte order of
-    /// their texts.
-    ///
-    /// # Errors
-    ///
-    /// There was no memory for them.
+    /// The setups before the moves of the games held, each once, in the byte order of their texts.
     pub(crate) fn of<T: Tally>(
         alloc: Global,
         ledger: &Ledger<T>,
         book: &IndexedBook,
     ) -> Result<Listing, AllocError>
-        ensures setups { IfOk result (λ l. ListsSetups ledger.now.basis.words book.now
+        ensures setups { IfOk result (λ l. ListsSetups ledger.now.basis.randoms book.now
             (all_setups ledger.now.accepted) l.moves.items l.setups.items) }
         ensures ordered { IfOk result (λ l. AllPairs TextBelow l.setups.items) }
         ensures few { IfOk result (λ l. length l.setups.items < 2 ^ 32) }
@@ -88,7 +82,6 @@ impl Listing {
         Ok(listing)
     }
 
-    /// The moves of a listed setup.
     pub(crate) fn moves_of(&self, listed: &ListedSetup) -> &[(Move, u16)]
         requires some { listed.now.first < listed.now.end }
         requires within { listed.now.end ≤ length self.now.moves.items }
@@ -97,7 +90,6 @@ impl Listing {
         &self.moves[listed.first as usize..listed.end as usize]
     }
 
-    /// Adds the setups that stand before the moves of a game.
     fn add_game(
         &mut self,
         alloc: Global,
@@ -122,8 +114,7 @@ impl Listing {
         Ok(())
     }
 
-    /// Adds a setup that has this board and key, where one of the entries under the key is for the
-    /// setup.
+    /// Adds the setup of a key, where one of the entries of the key is for it.
     fn add_setup(
         &mut self,
         entries: &[Entry],
@@ -182,37 +173,36 @@ impl Listing {
         Ok(())
     }
 
-    /// Keeps the place of the setup that is listed next as that of this key.
+    /// Notes the setup that is listed next as that of this key.
     fn note_recent(&mut self, key: u64)
         ensures setups { self.new.setups.items ≡ self.old.setups.items }
         ensures moves { self.new.moves.items ≡ self.old.moves.items }
     {
-        let place = u32::try_from(self.setups.len()).unwrap_or(u32::MAX);
+        let index = u32::try_from(self.setups.len()).unwrap_or(u32::MAX);
         if let Some(recent) = self.recent.get_mut((key % RECENT as u64) as usize) {
-            *recent = ((key >> 32) as u32, place);
+            *recent = ((key >> 32) as u32, index);
         }
     }
 
-    /// Whether this setup is the last that was listed for the key, where that is still kept. So a
-    /// setup that many games meet is mostly listed once.
+    /// Whether this setup is the last noted of its key, so that one that many games meet is mostly
+    /// listed once.
     fn is_recent(&self, key: u64, packed: &PackedSetup) -> bool
         ensures { IsTrue result → (x : ListedSetup) × Contains self.now.setups.items x
             × (x.setup.ranks ≡ packed.now.ranks) × (x.setup.state ≡ packed.now.state) }
     {
-        let Some((noted, place)) = self.recent.get((key % RECENT as u64) as usize) else {
+        let Some((noted, index)) = self.recent.get((key % RECENT as u64) as usize) else {
             return false;
         };
         if u64::from(*noted) != key >> 32 {
             return false;
         }
-        match self.setups.get(*place as usize) {
+        match self.setups.get(*index as usize) {
             Some(listed) => listed.setup == *packed,
             None => false,
         }
     }
 }
 
-/// The setups that stand before the moves of a game, with their keys and boards.
 fn keyed_setups(alloc: Global, table: &Table, game: &Game) -> Result<KeyedSetups, AllocError>
     requires { IsLegalGame game.now }
     ensures setups { IfOk result (λ k. k.setups.items ≡ setups_before game.now) }
@@ -239,11 +229,8 @@ fn keyed_setups(alloc: Global, table: &Table, game: &Game) -> Result<KeyedSetups
     Ok(KeyedSetups { keys, setups })
 }
 
-/// How many moves there are, in 32 bits, so that a listed setup takes less room.
-///
-/// # Errors
-///
-/// There are more moves than that, which is counted as want of memory.
+/// The count in 32 bits, so that a listed setup takes less room. More than that counts as want of
+/// memory.
 fn in_32_bits(count: usize) -> Result<u32, AllocError>
     ensures { IfOk result (λ n. n ≡ count) }
 {
@@ -253,8 +240,7 @@ fn in_32_bits(count: usize) -> Result<u32, AllocError>
     }
 }
 
-/// Adds the moves of entries under the key of a setup. The one that a game plays there is known,
-/// and isn't looked for.
+/// Adds the moves of the entries. The one that a game plays is known, and isn't looked for.
 fn add_moves(
     moves: &mut Vec<(Move, u16)>,
     entries: &[Entry],
@@ -275,7 +261,6 @@ fn add_moves(
     Ok(())
 }
 
-/// The legal move with this code, which isn't looked for where it is the one that is known.
 #[inline(always)]
 fn move_by(setup: &Setup, code: u16, known: Move, known_code: u16) -> Option<Move>
     requires { HasCode setup.now known known_code }
@@ -289,7 +274,6 @@ fn move_by(setup: &Setup, code: u16, known: Move, known_code: u16) -> Option<Mov
     }
 }
 
-/// Puts the setups in the byte order of their texts, each once.
 fn put_in_order(setups: &mut Vec<ListedSetup>)
     ensures ordered { AllPairs TextBelow setups.new.items }
     ensures sound { (x : ListedSetup) → Contains setups.new.items x → Contains setups.old.items x }

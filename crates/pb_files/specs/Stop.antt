@@ -2,7 +2,6 @@
 use Rattle.std.specs.Prelude.{ℕ, List, codes}
 use Rattle.pb_io.specs.Fault.{fault_word}
 use Rattle.pb_io.specs.declared.fault.Fault.{Fault}
-use Rattle.pb_collecting.specs.declared.continuing_into.NotContinued.{NotContinued}
 use Rattle.pb_collecting.specs.declared.keeping.NoBook.{NoBook}
 use Rattle.pb_collecting.specs.declared.store.StoreError.{StoreError}
 use Rattle.pb_files.specs.declared.distinct_files.Clash.{Clash}
@@ -19,16 +18,11 @@ stop_of_store StoreError.Open = Stop.NotOpened
 stop_of_store StoreError.Write = Stop.Fault Fault.Write
 stop_of_store StoreError.Memory = Stop.Fault Fault.Memory
 
--- there is no book, or it isn't kept
+-- there is no book, or it or its ledger isn't kept
 abbrev pub stop_of_book : NoBook → Stop
 stop_of_book (NoBook.Run fault) = Stop.Fault fault
+stop_of_book (NoBook.Ledger why) = stop_of_store why
 stop_of_book (NoBook.Keep why) = stop_of_store why
-
--- there is no book, or not both the ledger and the book are kept
-abbrev pub stop_of_both : NotContinued → Stop
-stop_of_both (NotContinued.Run fault) = Stop.Fault fault
-stop_of_both (NotContinued.Ledger why) = stop_of_store why
-stop_of_both (NotContinued.Book why) = stop_of_store why
 
 -- the files can't be those of one run
 abbrev pub stop_of_clash : Clash → Stop

@@ -5,45 +5,41 @@ ghost use Rattle.std.specs.Prelude.{false, true, ⊤};
 ghost use Rattle.pb_files.specs.Apart.{Clashes, IsAmong, output};
 ghost use Rattle.pb_messages.specs.declared.part.Part.TheVariants.{Book};
 
-use crate::one_file::{OUTPUT, is_one_file};
 use crate::stop::Stop;
+use pb_folder::is_one_file;
 use pb_messages::{Messages, Part};
 use thiserror::Error;
 
-/// Paths, and which of them lead to one file.
+/// Where the file of standard output is found.
+const OUTPUT: &str = "/dev/stdout";
+
+/// Knows which paths lead to one file.
 pub trait Places {
-    /// The paths were looked at, and lead to different files.
+    /// The paths lead to different files.
     ghost apart: { Self → List ℕ → List ℕ → Type 0 };
 
-    /// The paths were looked at, and lead to one file.
+    /// The paths lead to one file.
     ghost one: { Self → List ℕ → List ℕ → Type 0 };
 
-    /// Whether both paths lead to one file, by whatever names. Where there is none yet the two are
-    /// taken for different ones; so are devices and pipes, which keep nothing.
+    /// Answers whether both paths lead to one file. Where there is none yet the two are taken for
+    /// different ones; so are devices and pipes, which keep nothing.
     fn are_one(&self, path: &str, other: &str) -> bool
         ensures apart { result ≡ false → apart self.now path.now other.now }
         ensures one { result ≡ true → one self.now path.now other.now };
 }
 
-/// Why files can't be those of one run.
+/// Says why files can't be those of one run.
 #[derive(Clone, Copy, Debug, Error)]
 pub enum Clash {
-    /// Two of the paths lead to one file.
     #[error("{one} and {other} are one file")]
-    OneFile {
-        /// The part of the first of them.
-        one: Part,
-        /// The part of the second.
-        other: Part,
-    },
+    OneFile { one: Part, other: Part },
     /// A file that is read is standard output: the replies would be written over its games, and so
     /// no line can tell of it there.
     #[error("{0} is standard output")]
     IsOutput(Part),
 }
 
-/// Finds two of these paths that lead to one file, or one that is read and leads to standard output.
-/// None where each can be a file of its own in one run.
+/// Finds two of these paths that lead to one file, or one that is read and is standard output.
 pub fn clash_among<P: Places>(places: &P, files: &[(Part, &str)]) -> Option<Clash>
     ensures apart { IfNone result
         (AllPairs (λ a b. P.apart places.now a.1.now b.1.now) files.now) }
@@ -61,7 +57,6 @@ pub fn clash_among<P: Places>(places: &P, files: &[(Part, &str)]) -> Option<Clas
     clash_among(places, rest)
 }
 
-/// The part of a file among these that the path leads to as well.
 fn same_among<P: Places>(places: &P, path: &str, files: &[(Part, &str)]) -> Option<Part>
     ensures none { IfNone result (All (λ file. P.apart places.now path.now file.1.now) files.now) }
     ensures some { IfSome result (λ part. IsAmong (P.one places.now path.now) part files.now) }
@@ -73,7 +68,6 @@ fn same_among<P: Places>(places: &P, path: &str, files: &[(Part, &str)]) -> Opti
     same_among(places, path, rest)
 }
 
-/// The paths of the system.
 #[derive(Clone, Copy)]
 struct SystemPlaces<'a>(&'a HostRuntime);
 
@@ -89,11 +83,6 @@ impl Places for SystemPlaces<'_> {
 
 /// Makes sure that no two of these paths lead to one file, and tells which do. Else a book could
 /// take the place of the journal with all games.
-///
-/// # Errors
-///
-/// `NotOpened` where two of them lead to one file, the fault of a write where one that is read is
-/// standard output.
 pub fn keep_apart(messages: Messages<'_>, files: &[(Part, &str)]) -> Result<(), Stop> {
     match clash_among(&SystemPlaces(messages.rt), files) {
         Some(clash) => {

@@ -11,15 +11,14 @@ use pb_messages::{Named, Told};
 use std::fs::File;
 use std::io;
 
-/// A file that this run holds, open to be read from its start and written at its end. No contract
-/// knows what is on it, so it tells nothing; it tells users what has failed.
+/// Reads a file that this run holds from its start, writes it at its end, and tells what fails.
 #[derive(Drop)]
 pub struct FileJournal<'g, 'a> {
     named: Named<'a>,
     guard: &'g JournalGuard<'a>,
     folder: System<'a>,
     file: SystemFile,
-    // Whether the file's name, and what an earlier run wrote, are on the disk.
+    // The file's name, and what an earlier run wrote, are on the disk.
     is_synced: bool,
     fault: Option<Fault>,
     ghost held: { IsHeldAlone file },
@@ -28,7 +27,6 @@ pub struct FileJournal<'g, 'a> {
 }
 
 impl<'g, 'a> FileJournal<'g, 'a> {
-    /// The journal in this file, which is the folder's.
     pub(crate) fn new(
         named: Named<'a>,
         guard: &'g JournalGuard<'a>,
@@ -52,7 +50,6 @@ impl<'g, 'a> FileJournal<'g, 'a> {
     }
 }
 
-/// Puts the file on the disk, and its name in the folder where that isn't there yet.
 fn sync_all(file: &mut SystemFile, folder: &mut System<'_>, is_named: bool) -> io::Result<()>
     requires { file.old.lost ≡ false }
     ensures synced { OnOk result (file.new.synced ≡ true) }

@@ -11,33 +11,28 @@ ghost use Rattle.pb_folder.specs.Steps.{Steps};
 
 use pb_io::{Fault, Source};
 
-/// A file that this run holds, so that no other run adds to it. It is read before it is added to.
+/// Reads a file that this run holds, and adds to it.
 pub trait JournalFile {
     /// What reads the file from its first byte.
     type Reader: Source;
 
-    /// What is known of the file.
     ghost state: { Self → JournalState };
 
-    /// The bytes that the file has taken from this run, in order.
+    /// The bytes that the file has taken from this run.
     ghost handed: { Self → List ℕ };
 
-    /// Whether a sync has put all of it on the disk, since the last byte was taken.
+    /// A sync has put all of it on the disk since the last byte was taken.
     ghost synced: { Self → Bool };
 
-    /// Whether files of this kind tell what is on them.
+    /// Of files of this kind it is known what is on them.
     ghost tells: { Bool };
 
-    /// Whether a write or a sync has failed so far.
+    /// Answers whether a write or a sync has failed.
     fn failed(&self) -> bool
         ensures { result ≡ is_some (state self.now).fault };
 
-    /// Adds a front of the bytes in one write, at least one byte where there are any, and answers
-    /// how many.
-    ///
-    /// # Errors
-    ///
-    /// `Write` where nothing was added. Nothing may be written any more then.
+    /// Adds a front of the bytes in one write, and answers how many. Where it fails nothing was
+    /// added, and nothing may be any more.
     fn append(&mut self, bytes: &[u8]) -> Result<usize, Fault>
         requires { (state self.old).fault ≡ None }
         ensures fault { (state self.new).fault ≡ result_err result }
@@ -53,12 +48,8 @@ pub trait JournalFile {
         ensures none { OnErr result (Steps (Adds []) (state self.old).told (state self.new).told) };
 
     /// Puts all that is found on the disk, and the file's name; but for bytes that the system calls
-    /// clean though they aren't there.
-    ///
-    /// # Errors
-    ///
-    /// `Write` where it may not be there. Nothing may be written any more then, since a later sync
-    /// could succeed without it.
+    /// clean though they aren't there. Once it has failed nothing may be written any more, since a
+    /// later sync could succeed without it.
     fn sync(&mut self) -> Result<(), Fault>
         requires { (state self.old).fault ≡ None }
         ensures fault { (state self.new).fault ≡ result_err result }
@@ -68,14 +59,9 @@ pub trait JournalFile {
         ensures handed { handed self.new ≡ handed self.old }
         ensures none { OnErr result (Steps (Adds []) (state self.old).told (state self.new).told) };
 
-    /// Writes all that is found over itself: the next sync then puts all of it on the disk. After
-    /// a sync that failed, of whichever run, the system calls bytes clean that never got there, and
+    /// Writes all that is found over itself, so that the next sync puts it on the disk. After a
+    /// sync that failed, of whichever run, the system calls bytes clean that never got there, and
     /// syncs pass over them.
-    ///
-    /// # Errors
-    ///
-    /// `Read` where not all could be read, and `Write` where not all could be written. Nothing may
-    /// be written any more then.
     fn write_over(&mut self) -> Result<(), Fault>
         requires { (state self.old).fault ≡ None }
         ensures fault { (state self.new).fault ≡ result_err result }
@@ -83,11 +69,7 @@ pub trait JournalFile {
         ensures handed { handed self.new ≡ handed self.old }
         ensures same { Steps (Adds []) (state self.old).told (state self.new).told };
 
-    /// A reader of all that is found.
-    ///
-    /// # Errors
-    ///
-    /// `Read` where the file can't be read.
+    /// Gives a reader of all that is found.
     fn reader(&mut self) -> Result<Self::Reader, Fault>
         ensures all { IfOk result (λ reader. ReadsAll (state self.old).told
             (Self.Reader.state reader)) }
@@ -95,6 +77,5 @@ pub trait JournalFile {
         ensures handed { handed self.new ≡ handed self.old }
         ensures same { state self.new ≡ state self.old };
 
-    /// They tell it always, or never.
     ghost always: { (file : Self) → is_some (state file).told ≡ tells };
 }

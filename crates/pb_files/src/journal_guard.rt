@@ -6,21 +6,20 @@ use pb_folder::HeldFile;
 use std::cell::RefCell;
 use std::io::{self, ErrorKind, Write};
 
-/// The journal of a run, once it has come to one. It has to be there when a reply goes out.
+/// Guards the journal of a run, which has to be there when a reply goes out.
 #[derive(Default, Drop)]
 pub struct JournalGuard<'a> {
     held: RefCell<Option<HeldFile<'a>>>,
 }
 
 impl<'a> JournalGuard<'a> {
-    /// Guards this journal from now on.
     pub(crate) fn begin(&self, journal: HeldFile<'a>) {
         if let Ok(mut held) = self.held.try_borrow_mut() {
             *held = Some(journal);
         }
     }
 
-    /// Notes that this run has added so many bytes to the journal.
+    /// By so many bytes of this run.
     pub(crate) fn grow(&self, count: usize) {
         if let Ok(held) = self.held.try_borrow()
             && let Some(held) = &*held
@@ -29,7 +28,7 @@ impl<'a> JournalGuard<'a> {
         }
     }
 
-    /// Whether the journal, if there is one, is as this run has left it. If not, that is told.
+    /// Whether the journal, if any, is as this run has left it. If not, that is told.
     fn is_kept(&self) -> bool {
         match self.held.try_borrow() {
             Ok(held) => match &*held {
@@ -41,8 +40,7 @@ impl<'a> JournalGuard<'a> {
     }
 }
 
-/// An output that takes replies as long as the journal that they speak of is kept. It fails each
-/// call once it isn't.
+/// Writes replies as long as the journal that they speak of is kept, and then fails each call.
 #[derive(Drop)]
 pub struct Guarded<'g, 'a, W> {
     writer: W,
@@ -53,7 +51,7 @@ pub struct Guarded<'g, 'a, W> {
 }
 
 impl<'g, 'a, W: Write> Guarded<'g, 'a, W> {
-    /// The writer, of replies that speak of this journal.
+    /// Guards the writer of replies that speak of this journal.
     pub fn new(writer: W, guard: &'g JournalGuard<'a>) -> Guarded<'g, 'a, W>
         ensures { ⟦<Guarded<'g, 'a, W> as Write>⟧.contents result ≡ W.contents writer }
     {
@@ -65,7 +63,6 @@ impl<'g, 'a, W: Write> Guarded<'g, 'a, W> {
         }
     }
 
-    /// Looks whether the journal is kept.
     fn look(&mut self) -> io::Result<()>
         ensures { self.new.writer ≡ self.old.writer }
     {

@@ -14,15 +14,14 @@ use pb_io::{Failed, History, Sink};
 use std::alloc::{AllocError, Global};
 use std::marker::Model;
 
-/// What is flushed is with the system, and outlives a kill.
+/// Has what is flushed outlive a kill.
 pub const WRITTEN: u8 = 0;
 
-/// What is flushed is on the disk, and outlives a crash.
+/// Has what is flushed on the disk, where it outlives a crash.
 pub const SYNCED: u8 = 1;
 
-/// The end of a file that this run holds. What is put waits until it is flushed: then it is
-/// written, at once where the file takes all, and in the mode `SYNCED` it is on the disk. Contracts
-/// know what the file has taken, and what was handed on, whether or not it tells what it holds.
+/// Adds to the end of a journal's file. What is put waits until it is flushed: then it is written,
+/// at once where the file takes all, and in the mode `SYNCED` it is on the disk.
 #[derive(Drop)]
 pub struct JournalSink<J: JournalFile, const MODE: u8> {
     file: J,
@@ -61,12 +60,8 @@ impl<J: JournalFile, const MODE: u8> Model for JournalSink<J, MODE> {
 }
 
 impl<J: JournalFile + Drop, const MODE: u8> JournalSink<J, MODE> {
-    /// The end of the file, where nothing waits. In the mode `SYNCED` the file is one that was
-    /// written over and synced when the run came to it, or has failed.
-    ///
-    /// # Errors
-    ///
-    /// Want of memory for what waits.
+    /// Begins at the end of the file. In the mode `SYNCED` that was written over and synced when
+    /// the run came to it, or has failed.
     pub fn new(alloc: Global, file: J) -> Result<JournalSink<J, MODE>, AllocError>
         requires sound { SyncsAll (syncs MODE) (J.state file) }
         requires untouched { J.handed file ≡ [] }
@@ -93,8 +88,7 @@ impl<J: JournalFile + Drop, const MODE: u8> JournalSink<J, MODE> {
         })
     }
 
-    /// Whether all that was put has been handed on, whoever flushed it: a reader finds it, and
-    /// in the mode `SYNCED` it outlives each crash.
+    /// Answers whether all that was put has been handed on.
     #[tactic(auto, using(crate::proofs::FileLemmas::told_on_disk_outlives))]
     pub fn handed_on(&self) -> bool
         ensures flushed { result ≡ self.now.flushed }
@@ -106,7 +100,7 @@ impl<J: JournalFile + Drop, const MODE: u8> JournalSink<J, MODE> {
         self.flushed
     }
 
-    /// The file.
+    /// Gives the file.
     pub fn file(&self) -> &J
         ensures { (J.state result.now).told ≡ self.now.told }
     {
@@ -160,8 +154,7 @@ impl<J: JournalFile, const MODE: u8> Sink for JournalSink<J, MODE> {
     }
 }
 
-/// Writes what waits, and in the mode `SYNCED` puts all that is found on the disk. It is noted what
-/// was handed on.
+/// Writes what waits, and in the mode `SYNCED` syncs it.
 fn hand_on<J: JournalFile, const MODE: u8>(
     file: &mut J,
     waiting: &mut Vec<u8>,
@@ -193,7 +186,7 @@ fn hand_on<J: JournalFile, const MODE: u8>(
     }
 }
 
-/// Puts all that is found on the disk in the mode `SYNCED`, unless the file has failed.
+/// Syncs in the mode `SYNCED`, unless the file has failed.
 #[tactic(auto, using(crate::proofs::FileLemmas::told_none, crate::proofs::FileLemmas::told_syncs, crate::proofs::FileLemmas::told_on_disk, crate::proofs::FileLemmas::told_synced))]
 fn settle<J: JournalFile, const MODE: u8>(file: &mut J) -> Result<(), Failed>
     requires { SyncsAll (syncs MODE) (J.state file.old) }
@@ -217,7 +210,7 @@ fn settle<J: JournalFile, const MODE: u8>(file: &mut J) -> Result<(), Failed>
     }
 }
 
-/// Writes the bytes, or as many as the file takes before it fails, and answers how many.
+/// Answers how many bytes the file took before it failed.
 #[tactic(auto, using(crate::proofs::FileLemmas::told_none, crate::proofs::FileLemmas::told_same, crate::proofs::FileLemmas::told_more, crate::proofs::FileLemmas::told_failed))]
 fn write_all<J: JournalFile>(file: &mut J, bytes: &[u8]) -> usize
     requires { (J.state file.old).fault ≡ None }

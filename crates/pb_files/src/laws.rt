@@ -1,5 +1,4 @@
-//! Laws of what kills and crashes leave of a file and of a journal. Each is the contract of a
-//! function that does nothing.
+//! Laws of what kills and crashes leave, each the contract of a function that does nothing.
 
 ghost use Rattle.std.specs.Prelude.{◌≡◌, ◌≤◌, ◌==◌, ◌++◌, ◌∷◌, ◌⊎◌, [], Bool, List, None, Option};
 ghost use Rattle.std.specs.Prelude.{Some, false, length, true, ℕ};
@@ -16,16 +15,15 @@ ghost use Rattle.pb_files.specs.Journaling.{LeavesAnswered, journal_over};
 
 use crate::journal_sink::{SYNCED, WRITTEN};
 
-/// Lines that are found outlive every later kill, which leaves what is found then: whatever is
-/// added later, they are the first.
+/// Lines that are found outlive every later kill: whatever is added later, they are the first.
 #[tactic(auto, using(crate::proofs::BeginLemmas::lines_outlive_kills))]
 pub fn lines_outlive_kills()
     ensures { (now later : Disk) → Grows now later
         → BeginsWith (ended_lines later.found) (ended_lines now.found) }
 {}
 
-/// Lines that are on the disk outlive every later crash: whatever is added later, and whatever
-/// bytes a crash leaves behind them, they are the first.
+/// Lines that are on the disk outlive every later crash: whatever is added later or left behind
+/// them, they are the first.
 pub fn lines_on_disk_outlive_crashes()
     ensures { (now later : Disk) → Grows now later → (left : List ℕ) → Leaves true later left
         → BeginsWith (ended_lines left) (ended_lines (on_disk now)) }
@@ -45,8 +43,7 @@ pub fn on_disk_is_what_outlives_crashes()
 {}
 
 /// With `sync` a crash may leave any bytes behind those that are on the disk. Without, all that is
-/// found may be left, and a run has come to a journal as soon as it reads all of it and nothing
-/// waits.
+/// found may be left.
 pub fn what_may_be_left()
     ensures crash { (disk : Disk) (behind : List ℕ) → Leaves true disk (on_disk disk ++ behind) }
     ensures killed { (disk : Disk) → Leaves false disk disk.found }
@@ -58,9 +55,9 @@ pub fn what_may_be_left()
         → IsOnDisk disk → IsStarted true disk end reader }
 {}
 
-/// A run that loses no game which it has answered `ok`, over the end of a journal's file that it
-/// has come to and that tells what it holds, has read no submission, or each such game is in what
-/// is left of the file, whatever comes then: with `sync` a crash, and else a kill.
+/// A run that loses no game which it has answered `ok`, over a file that tells what it holds, has
+/// read no submission, or each such game is in what is left of the file, whatever comes then: with
+/// `sync` a crash, and else a kill.
 pub fn answered_games_are_left()
     ensures { (tells sync : Bool) (disk : Disk) (reader : Change SourceState)
         (end : Change EndState) (e : EndStates) → tells ≡ true
@@ -70,15 +67,15 @@ pub fn answered_games_are_left()
         → IsSame e.lines ⊎ LeavesAnswered sync disk end.new e }
 {}
 
-/// Such a run over a file that tells nothing has read no submission, or each such game was read of
-/// the journal or handed on to it by flushes that succeeded, first.
+/// Over a file that tells nothing each such game was read of the journal, or handed on to it by
+/// flushes that succeeded, first.
 pub fn answered_games_are_handed_on()
     ensures run { (tells sync : Bool) (reader : Change SourceState) (end : Change EndState)
         (e : EndStates) → tells ≡ false → BeginsEmpty end.old
         → LosesNoneLater e (journal_over tells sync reader end)
         → IsSame e.lines ⊎ ((kept : List ℕ) × HandsOut reader.old reader.new kept
         × HandsOnAnswered kept end.new e) }
-    // What `JournalSink::new` makes begins so.
+    // So does what `JournalSink::new` makes.
     ensures begins { (told : Option Disk) (failed synced : Bool) → BeginsEmpty (record {
       told = told;
       taken = [];
@@ -91,8 +88,7 @@ pub fn answered_games_are_handed_on()
     }) }
 {}
 
-/// The end of a file that tells nothing tells, as a sink, what the file has taken and then what
-/// waits, and that what was handed on lasts.
+/// The end of a file that tells nothing tells what that has taken and what waits.
 pub fn what_an_untold_end_tells()
     ensures bytes { (sync : Bool) (end : EndState) → (sink_state false sync end).bytes
         ≡ Some (end.taken ++ end.waits) }
@@ -100,13 +96,11 @@ pub fn what_an_untold_end_tells()
         ≡ Some end.handed_on }
 {}
 
-/// Where the system calls bytes clean that aren't on the disk, a sync that succeeds may put nothing
-/// there.
+/// Where the system calls bytes clean that aren't on the disk, a sync may put nothing there.
 pub fn what_a_sync_may_pass_over()
     ensures { (disk : Disk) → disk.lost ≡ true → disk.kept ≤ length disk.found → Syncs disk disk }
 {}
 
-/// `SYNCED` syncs what is flushed, and `WRITTEN` doesn't.
 pub fn modes()
     ensures synced { syncs SYNCED ≡ true }
     ensures written { syncs WRITTEN ≡ false }

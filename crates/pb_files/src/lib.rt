@@ -1,9 +1,9 @@
 //! The journal and the streams of a run. It comes to its journal (`start_journal`), adds to it
 //! (`JournalSink`), and its replies go out as long as that is kept (`JournalGuard`).
 //!
-//! A trait says what a journal's file does, and what kills and crashes leave. Calls over it are
-//! proved for all that keep it. A file in memory tells what it holds, the system's tells nothing: of
-//! that the calls tell what it was handed. That the system's keeps the trait is trusted.
+//! A trait says what a journal's file does, and what kills and crashes leave. Of a file in memory
+//! it is known what it holds, of the system's what it was handed. That this one keeps the trait is
+//! trusted.
 #![tactic(auto)]
 
 mod distinct_files;
@@ -12,7 +12,6 @@ mod journal_file;
 mod journal_guard;
 mod journal_sink;
 pub mod laws;
-mod one_file;
 mod reading;
 mod replies;
 mod starting;

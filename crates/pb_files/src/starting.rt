@@ -13,22 +13,15 @@ use pb_folder::{HeldFile, Label, System, hold};
 use pb_io::Fault;
 use pb_messages::{Named, Part};
 
-/// A journal that a run has come to.
+/// Holds a journal that a run has come to.
 #[derive(Drop)]
 pub struct Started<J: JournalFile> {
-    /// The file, which the run holds.
     pub journal: J,
-    /// What reads it from its first byte.
     pub reader: J::Reader,
 }
 
-/// A reader of all that a held journal has. With `sync` all of it is put on the disk before, since
-/// an earlier run may have left it in the system's memory alone. It is written over itself first:
-/// where an earlier run's sync failed, the system takes it for written.
-///
-/// # Errors
-///
-/// `Write` where it can't be put on the disk, `Read` where it can't be read.
+/// Gives a reader of all that a held journal has. With `sync` it is put on the disk before: an
+/// earlier run may have left it in the system's memory alone, or its sync may have failed.
 pub fn whole_reader<J: JournalFile>(journal: &mut J, sync: bool) -> Result<J::Reader, Fault>
     requires { (J.state journal.old).fault ≡ None }
     ensures works { OnOk result ((J.state journal.new).fault ≡ None) }
@@ -48,15 +41,9 @@ pub fn whole_reader<J: JournalFile>(journal: &mut J, sync: bool) -> Result<J::Re
     journal.reader()
 }
 
-/// Holds the journal of this name, until the run ends, and then has it read: what other runs added
-/// before is read too, and no other adds to it from then on. Two runs that wrote one journal at a
-/// time would each give numbers of their own. With `sync` all that is read is on the disk: the
-/// workers that send its games again take their answer for a promise. From then on the guard has
-/// the journal.
-///
-/// # Errors
-///
-/// `NotOpened` where the file isn't held, and the faults of `whole_reader`. They are told.
+/// Holds the journal of this name until the run ends: two runs that wrote one at a time would each
+/// give numbers of their own. With `sync` all that is read is on the disk: the workers that send
+/// its games again take their answer for a promise. From then on the guard has the journal.
 pub fn start_journal<'g, 'a>(
     named: Named<'a>,
     guard: &'g JournalGuard<'a>,

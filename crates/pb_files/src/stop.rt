@@ -1,28 +1,26 @@
 //! Why a run stops before its end.
 
 ghost use Rattle.std.specs.Prelude.{◌≡◌};
-ghost use Rattle.pb_files.specs.Stop.{stop_of_book, stop_of_both, stop_of_clash, stop_of_store};
-ghost use Rattle.pb_files.specs.Stop.{stop_word};
+ghost use Rattle.pb_files.specs.Stop.{stop_of_book, stop_of_clash, stop_of_store, stop_word};
 ghost use Rattle.pb_files.specs.declared.stop.Stop.TheVariants as stops;
 
 use crate::distinct_files::Clash;
-use pb_collecting::{NoBook, NotContinued, StoreError};
+use pb_collecting::{NoBook, StoreError};
 use pb_io::Fault;
 use thiserror::Error;
 
-/// Why a run stops.
+/// Says why a run stops.
 #[derive(Clone, Copy, Debug, Error)]
 pub enum Stop {
     /// A file can't be opened or made, or another run holds it.
     #[error("a file can't be opened")]
     NotOpened,
-    /// Its command met a fault.
     #[error("{0}")]
     Fault(Fault),
 }
 
 impl Stop {
-    /// The word of the line `fault ..`.
+    /// Gives the word of the line `fault ..`.
     pub fn word(self) -> &'static str
         ensures { result.now ≡ stop_word self }
     {
@@ -59,18 +57,7 @@ impl From<NoBook> for Stop {
     fn from(why: NoBook) -> Stop {
         match why {
             NoBook::Run(fault) => Stop::Fault(fault),
-            NoBook::Keep(why) => Stop::from(why),
-        }
-    }
-}
-
-impl From<NotContinued> for Stop {
-    ghost from_gives = { λ why result. result ≡ stop_of_both why };
-
-    fn from(why: NotContinued) -> Stop {
-        match why {
-            NotContinued::Run(fault) => Stop::Fault(fault),
-            NotContinued::Ledger(why) | NotContinued::Book(why) => Stop::from(why),
+            NoBook::Ledger(why) | NoBook::Keep(why) => Stop::from(why),
         }
     }
 }

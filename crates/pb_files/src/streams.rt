@@ -5,10 +5,6 @@ use pb_io::Fault;
 use pb_messages::{Message, Messages, is_open};
 
 /// Makes sure that standard output is open, and standard input where it is read.
-///
-/// # Errors
-///
-/// The fault of a write, or that of a read.
 pub fn expect_open(messages: Messages<'_>, reads_input: bool) -> Result<(), Stop> {
     let rt = messages.rt;
     let (stream, fault) = if !is_open(&rt.stdout()) {

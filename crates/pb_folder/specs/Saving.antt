@@ -15,7 +15,7 @@ abbrev pub NamesBytes : Bool → List ℕ → Option Shelf → Option Shelf → 
 NamesBytes true bytes old new = new ≡ option_map settled (option_map (renamed (Some bytes)) old)
 NamesBytes false bytes old new = new ≡ option_map (renamed (Some bytes)) old
 
--- of the file that no draft can replace, if it could be opened, this is so
-abbrev pub IfRefused : {X : Type 0} → NotSaved X → (Option X → Type 0) → Type 0
-IfRefused (NotSaved.Refused file) P = P file
+-- of what no draft can replace this is so
+abbrev pub IfRefused : {X : Type 0} → NotSaved X → (X → Type 0) → Type 0
+IfRefused (NotSaved.Refused old) P = P old
 IfRefused why P = ⊤

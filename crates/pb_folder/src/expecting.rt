@@ -1,25 +1,20 @@
-//! Whether a file can be made anew, as far as that is known before it is: so a user knows it before
-//! all games are taken.
+//! Whether a file can be made anew, so that a user knows it before all games are taken.
 
 ghost use Rattle.std.specs.Prelude.{◌≡◌};
 ghost use Rattle.pb_folder.specs.File.{IsHolder};
 ghost use Rattle.pb_messages.specs.declared.part.Part.TheVariants.{Ledger};
 
-use crate::draft::{make_first_draft, remove_left_over};
+use crate::draft::{remove_left_over, try_draft};
 use crate::folder::{Entry, Folder, Seen};
 use crate::label::Label;
 use crate::ledger_file::LedgerFile;
 use crate::looking::{NotSaved, look_at};
-use crate::saving::{NotPut, new_draft};
+use crate::saving::new_draft;
 use pb_collecting::StoreError;
 use pb_messages::{Cause, Left, Message};
 use std::io::ErrorKind;
 
 /// Makes sure that a draft can take the place of the ledger.
-///
-/// # Errors
-///
-/// Those of `look_at` and of a draft, which are told.
 pub fn expect_ledger<F: Folder>(
     folder: &mut F,
     label: &Label<'_>,
@@ -41,17 +36,13 @@ pub fn expect_ledger<F: Folder>(
             folder.remove(draft);
             Ok(())
         }
-        Err(NotPut::Refused) => Err(StoreError::Open),
-        Err(NotPut::Failed(why)) => Err(why),
+        Err(NotSaved::Refused(())) => Err(StoreError::Open),
+        Err(NotSaved::Failed(why)) => Err(why),
     }
 }
 
 /// Makes sure that a book that is there can be written. Where none is and its folder takes none,
 /// that is a warning.
-///
-/// # Errors
-///
-/// `Open` where the book can't be written, which is told; `Memory` where there is none for a draft.
 pub fn expect_book<F: Folder>(folder: &mut F, label: &Label<'_>) -> Result<(), StoreError>
     ensures drafts { F.drafts folder.new ≡ F.drafts folder.old }
     ensures part { F.part folder.new ≡ F.part folder.old }
@@ -70,14 +61,14 @@ pub fn expect_book<F: Folder>(folder: &mut F, label: &Label<'_>) -> Result<(), S
     }
 }
 
-/// Warns where no file can be made of a name that is free.
+/// Warns where no file can be made of a free name.
 fn warn_of_folder<F: Folder>(folder: &mut F, label: &Label<'_>) -> Result<(), StoreError>
     ensures drafts { F.drafts folder.new ≡ F.drafts folder.old }
     ensures part { F.part folder.new ≡ F.part folder.old }
     ensures same { F.shelf folder.new ≡ F.shelf folder.old }
 {
     remove_left_over(folder, 0);
-    match make_first_draft(folder) {
+    match try_draft(folder, 0, false, false) {
         Ok(Some(draft)) => folder.remove(draft),
         Ok(None) => {}
         Err(error) => match error.kind() {

@@ -10,16 +10,16 @@ use pb_io::{Failed, Sink};
 use pb_messages::Named;
 use std::io;
 
-/// The room, in bytes, for what waits to go into a file.
+/// Gives the room, in bytes, for what waits to go into a file.
 pub const BUFFER_LEN: usize = 65_536;
 
-/// What is written is a draft, which a flush puts on the disk.
+/// Has a flush put a draft on the disk.
 pub const DRAFT: u8 = 0;
 
-/// What is written is a file in place, which a flush puts on the disk too, unless it is a device.
+/// Has a flush put a file that is written in place on the disk, unless it is a device.
 pub const IN_PLACE: u8 = 1;
 
-/// Writes into a file, which a flush puts on the disk. What fails is told.
+/// Writes into a file, and tells what fails.
 #[derive(Drop)]
 pub struct FileEnd<'a, const MODE: u8> {
     named: Named<'a>,
@@ -36,7 +36,7 @@ pub struct FileEnd<'a, const MODE: u8> {
 }
 
 impl<'a, const MODE: u8> FileEnd<'a, MODE> {
-    /// An end into this file, of which no write has failed, with this room for what waits.
+    /// With this room for what waits.
     pub(crate) fn new(named: Named<'a>, file: SystemFile, waiting: Vec<u8>) -> FileEnd<'a, MODE>
         requires mode { IsOfMode MODE file }
         requires works { file.lost ≡ false }
@@ -61,7 +61,6 @@ impl<'a, const MODE: u8> FileEnd<'a, MODE> {
         }
     }
 
-    /// The file, once all that was put has been handed on, or a write has failed.
     pub(crate) fn into_file(self) -> SystemFile
         ensures mode { IsOfMode MODE result }
         ensures front { (waits : List ℕ) × ((⟦<FileEnd<'a, MODE> as Sink>⟧.state self.entry).bytes
@@ -129,7 +128,6 @@ impl<'a, const MODE: u8> Sink for FileEnd<'a, MODE> {
     }
 }
 
-/// Writes what waits, and puts all that was written on the disk, if that is asked for.
 fn flush_out(file: &mut SystemFile, waiting: &mut Vec<u8>, is_synced: bool) -> io::Result<()>
     requires may { MayWrite file.old }
     requires works { file.old.lost ≡ false }
@@ -147,7 +145,7 @@ fn flush_out(file: &mut SystemFile, waiting: &mut Vec<u8>, is_synced: bool) -> i
     Ok(())
 }
 
-/// Writes what waits, or as much of it as the file takes before it fails.
+/// Writes what waits, as far as the file takes it.
 fn write_out(file: &mut SystemFile, waiting: &mut Vec<u8>) -> io::Result<()>
     requires { MayWrite file.old }
     ensures keeps { file.new.handed ++ waiting.new.items
@@ -161,8 +159,7 @@ fn write_out(file: &mut SystemFile, waiting: &mut Vec<u8>) -> io::Result<()>
     written
 }
 
-/// Writes the bytes, or as many as the file takes before it fails. The answer is how many, and why
-/// not all.
+/// Answers how many bytes the file took, and why not all.
 fn write_all(file: &mut SystemFile, bytes: &[u8]) -> (usize, io::Result<()>)
     requires { MayWrite file.old }
     ensures within { result.0 ≤ length bytes.now }

@@ -20,75 +20,65 @@ use pb_io::Sink;
 use pb_messages::Left;
 use std::io;
 
-/// A name in a folder.
+/// Says which name of a folder.
 #[derive(Clone, Copy, Debug)]
 pub enum Entry {
     /// The file's own.
     Target,
-    /// That of the draft of this number, beside it.
+    /// That of the draft of this number.
     Draft(u32),
 }
 
-/// What became of the wish to lock a file.
+/// Answers a wish to lock a file.
 #[derive(Clone, Copy, Debug)]
 pub enum Lock {
-    /// This run has the lock.
     Held,
-    /// Another run has one that keeps it out.
     InUse,
     /// The file system has no locks: it is left to the user to start one run alone.
     Unsupported,
 }
 
-/// The lock that a run has of a file that it has open.
+/// Says which lock a run has of an open file.
 #[derive(Clone, Copy, Debug)]
 pub enum Hold {
-    /// None.
     Nothing,
     /// One that other runs may have beside it.
     Shared,
-    /// One that this run alone has.
     Alone,
-    /// None, since the file system has no locks.
+    /// The file system has none.
     Unlockable,
 }
 
-/// What stands under a name.
+/// Says what stands under a name.
 #[derive(Clone, Copy, Debug)]
 pub enum Seen {
-    /// Nothing, no link that leads nowhere either.
+    /// No link that leads nowhere either.
     Nothing,
-    /// A file.
     File,
-    /// A folder.
     Folder,
-    /// A device or a pipe, or what can't be told.
+    /// A device or a pipe, or what can't be seen.
     Other,
 }
 
-/// A name in a folder and the drafts of its file, by calls of the system. Other runs act between any
-/// two of them, but they touch no file that this run has locked. So what a run may do is asked of
-/// it: a name is taken only from a file that the run was seen to hold under it, and a draft gets the
-/// name only when it is on the disk and can take the old file's place.
+/// Calls the system on a name in a folder and on the drafts of its file. Other runs act between any
+/// two calls, but they touch no file that this run has locked.
 pub trait Folder {
-    /// A file that is open, and its lock with it.
+    /// An open file, with its lock.
     type File: Drop;
 
-    /// An end into a draft of this run. A flush puts it on the disk.
+    /// Writes a draft, which a flush puts on the disk.
     type Draft: Sink + Drop;
 
-    /// An end into a file that is written in place. A flush puts it on the disk, unless it is a
-    /// device.
+    /// Writes a file in place, which a flush puts on the disk, unless it is a device.
     type InPlace: Sink + Drop;
 
     /// What is known of an open file.
     ghost file: { Self.File → FileState };
 
-    /// What a reader finds under the name, and what a crash leaves, where that is told.
+    /// What a reader finds under the name, and what a crash leaves, where that is known.
     ghost shelf: { Self → Option Shelf };
 
-    /// How many drafts of this run stand there: those that it has made, and neither named nor
-    /// removed, nor left to another run.
+    /// How many drafts this run has made, and not named, removed or left to another run.
     ghost drafts: { Self → ℕ };
 
     /// Nothing was seen under the name.
@@ -102,7 +92,7 @@ pub trait Folder {
     /// a journal is added to at its end, and a book alone is written in place.
     ghost part: { Self → Part };
 
-    /// Whether the name is that of a ledger.
+    /// Answers whether the name is that of a ledger.
     fn is_ledger(&self) -> bool
         ensures { result ≡ is_ledger (part self.now) };
 
@@ -124,8 +114,7 @@ pub trait Folder {
     fn open(&self, entry: Entry) -> io::Result<Self::File>
         ensures { IfOk result (λ f. file f ≡ opened entry (is_journal (part self.now))) };
 
-    /// Makes the draft of this number, which is empty, where nothing has its name. Its user alone
-    /// may read it, or whoever may read new files.
+    /// Makes the empty draft of this number where nothing has its name, for its user alone or not.
     fn make(&mut self, number: u32, is_private: bool) -> io::Result<Self::File>
         ensures made { IfOk result (λ f. file f ≡ new_draft number) }
         ensures drafts { OnOk result (drafts self.new ≡ drafts self.old + 1) }
@@ -143,24 +132,23 @@ pub trait Folder {
         requires { MayShare (file f.old) }
         ensures { file f.new ≡ locked Shared result (file f.old) };
 
-    /// Tells whether its entry leads to the file, and to a draft alone.
+    /// Answers whether its entry leads to the file, and to a draft alone.
     fn is_named(&self, f: &mut Self::File) -> bool
         ensures { file f.new ≡ record (file f.old) { named = result } };
 
-    /// Asks the system for what it tells of the file.
+    /// Asks the system for the status of the file.
     fn tell(&self, f: &mut Self::File) -> io::Result<Status>
         ensures told { IfOk result (λ status. file f.new
             ≡ record (file f.old) { status = Some status }) }
         ensures same { OnErr result (file f.new ≡ file f.old) };
 
-    /// Sets who may read and write the draft.
+    /// Sets the mode of the draft.
     fn set_mode(&self, f: &mut Self::File, mode: u32) -> io::Result<()>
         requires { IsOwnDraft (file f.old) }
         ensures set { OnOk result (file f.new ≡ with_mode mode (file f.old)) }
         ensures same { OnErr result (file f.new ≡ file f.old) };
 
-    /// Makes an end into a draft that has taken nothing yet, with this room for what waits. A
-    /// failure leaves so much, which is told then.
+    /// Begins to write a draft, with this room for what waits.
     fn draft(&self, f: Self::File, room: Vec<u8>, left: Left) -> Self::Draft
         requires new { IsNewDraft (is_ledger (part self.now)) (file f) }
         requires room { room.items ≡ [] }
@@ -173,8 +161,7 @@ pub trait Folder {
             → (Self.Draft.state draft).bytes ≡ Some (file result).handed }
         ensures synced { HandedOn (Self.Draft.state draft) → (file result).synced ≡ true };
 
-    /// Empties the file of a book, which no draft can replace, to be written in place. A device
-    /// stays as it is.
+    /// Empties the file of a book, unless it is a device, to be written in place.
     fn empty(&mut self, f: &mut Self::File) -> io::Result<()>
         requires book { part self.old ≡ Book }
         requires may { MayEmpty (file f.old) }
@@ -193,7 +180,7 @@ pub trait Folder {
         ensures drafts { drafts self.new ≡ drafts self.old }
         ensures part { part self.new ≡ part self.old };
 
-    /// Makes an end into a file that is written in place and has taken nothing yet.
+    /// Begins to write a file in place.
     fn in_place(&self, f: Self::File, room: Vec<u8>) -> Self::InPlace
         requires in_place { (file f).in_place ≡ true }
         requires works { (file f).lost ≡ false }
@@ -246,7 +233,7 @@ pub trait Folder {
         ensures same { shelf self.new ≡ shelf self.old }
         ensures part { part self.new ≡ part self.old };
 
-    /// Lets a draft of this run go, which another run has, or has removed.
+    /// Lets a draft go that another run has, or has removed.
     fn leave(&mut self, draft: Self::File)
         requires { IsOfOther (file draft) }
         ensures drafts { drafts self.new ≡ drafts self.old - 1 }

@@ -6,20 +6,19 @@ use std::cell::Cell;
 use std::fs;
 use std::io::ErrorKind;
 
-/// A file that this run holds under a name, and how long this run has left it. A lock keeps other
-/// runs out and no other program. One may remove the file, give its name to another, cut it or add
-/// to it, and what this run writes is for nothing then.
+/// Watches a file that this run holds. A lock keeps other runs out and no other program: one may
+/// remove the file, give its name to another, cut it or add to it, and what this run writes is for
+/// nothing then.
 #[derive(Drop)]
 pub struct HeldFile<'a> {
     named: Named<'a>,
     status: Status,
     len: Cell<u64>,
-    // This run adds to the file, and else only reads it.
     is_added_to: bool,
 }
 
 impl<'a> HeldFile<'a> {
-    /// The file of this name that the system tells this of.
+    /// Watches the file of this name and this status.
     pub fn new(named: Named<'a>, status: Status, is_added_to: bool) -> HeldFile<'a> {
         HeldFile {
             named,
@@ -34,13 +33,12 @@ impl<'a> HeldFile<'a> {
         self.len.set(self.len.get().saturating_add(count as u64));
     }
 
-    /// Whether somebody else has written the file, of which the system now tells this.
     fn is_changed(&self, now: &Status) -> bool {
         now.len != self.len.get() || (!self.is_added_to && now.modified != self.status.modified)
     }
 
-    /// Whether the name leads to the file, and it is as long as this run has left it, and of the
-    /// same time where this run only reads it. If not, that is told.
+    /// Answers whether the name leads to the file, and it is as long as this run has left it, and
+    /// of the same time where this run only reads it. If not, that is told.
     pub fn is_as_left(&self) -> bool {
         let messages = self.named.messages;
         let change = match fs::metadata(messages.rt, self.named.name) {

@@ -1,7 +1,7 @@
 //! How a run comes to hold the file of a name.
 
-ghost use Rattle.std.specs.Prelude.{◌≡◌, IfOk, Some};
-ghost use Rattle.pb_folder.specs.File.{IsHeldAlone, IsJustOpened, IsUntouched};
+ghost use Rattle.std.specs.Prelude.{◌≡◌, IfOk};
+ghost use Rattle.pb_folder.specs.File.{IsHolder, IsJustOpened, IsUntouched};
 ghost use Rattle.pb_folder.specs.Parts.{is_journal};
 
 use crate::folder::{Entry, Folder, Lock};
@@ -11,28 +11,20 @@ use pb_collecting::StoreError;
 use pb_messages::{Left, Message};
 use std::io::ErrorKind;
 
-/// How often a file is opened because another run put a new one in its place.
+/// How often a file is opened that another run replaces.
 const TRIES: u32 = 100;
 
-/// A file that this run alone holds.
+/// A file that is open, and its status.
 #[derive(Drop)]
-pub struct Held<X> {
-    /// The file.
+pub struct Opened<X> {
     pub file: X,
-    /// What the system told of it.
     pub status: Status,
 }
 
 /// Opens the file that the name leads to and holds it. A file that another run replaced after it
-/// was opened is no longer the name's, so the new one is opened in its place.
-///
-/// # Errors
-///
-/// `Open` where it can't be opened, is no ordinary file, or another run holds it, or has replaced it
-/// each of 100 times. That is told.
-pub fn hold<F: Folder>(folder: &mut F, label: &Label<'_>) -> Result<Held<F::File>, StoreError>
-    ensures held { IfOk result (λ held. IsHeldAlone (F.file held.file)) }
-    ensures told { IfOk result (λ held. (F.file held.file).status ≡ Some held.status) }
+/// was opened is no longer the name's, so the new one is opened. What fails is told.
+pub fn hold<F: Folder>(folder: &mut F, label: &Label<'_>) -> Result<Opened<F::File>, StoreError>
+    ensures holder { IfOk result (λ held. IsHolder (F.file held.file) held.status) }
     ensures appends { IfOk result (λ held. (F.file held.file).appends
         ≡ is_journal (F.part folder.old)) }
     ensures untouched { IfOk result (λ held. IsUntouched (F.file held.file)) }
@@ -47,31 +39,15 @@ pub fn hold<F: Folder>(folder: &mut F, label: &Label<'_>) -> Result<Held<F::File
             Lock::InUse => break,
         }
         if folder.follow().is_ok() && folder.is_named(&mut file) {
-            return told_of(folder, label, file);
+            // Another run may have added to it before.
+            return match folder.tell(&mut file) {
+                Ok(status) => Ok(Opened { file, status }),
+                Err(error) => Err(label.fail(Left::All, &error)),
+            };
         }
     }
     label.messages.tell(&Message::InUse(label.path));
     Err(StoreError::Open)
-}
-
-/// Asks what the system tells of a file that this run holds from now on: another run may have added
-/// to it before.
-fn told_of<F: Folder>(
-    folder: &F,
-    label: &Label<'_>,
-    mut file: F::File,
-) -> Result<Held<F::File>, StoreError>
-    requires held { IsHeldAlone (F.file file) }
-    requires untouched { IsUntouched (F.file file) }
-    ensures held { IfOk result (λ held. IsHeldAlone (F.file held.file)) }
-    ensures told { IfOk result (λ held. (F.file held.file).status ≡ Some held.status) }
-    ensures appends { IfOk result (λ held. (F.file held.file).appends ≡ (F.file file).appends) }
-    ensures untouched { IfOk result (λ held. IsUntouched (F.file held.file)) }
-{
-    match folder.tell(&mut file) {
-        Ok(status) => Ok(Held { file, status }),
-        Err(error) => Err(label.fail(Left::All, &error)),
-    }
 }
 
 /// Opens the file that the name leads to, unless it is a device, which keeps nothing.

@@ -13,23 +13,19 @@ use crate::folder::Folder;
 use crate::label::Label;
 use crate::ledger_file::LedgerFile;
 use crate::looking::{NotSaved, look_at};
-use crate::saving::{NotPut, put_text};
+use crate::saving::put_text;
 use pb_collecting::{Store, StoreError, Text};
 use pb_messages::Left;
 
-/// A file that is made anew whole where a draft can take its place, and is written in place where
-/// none can.
+/// Keeps a text as a file that is made anew whole where a draft can take its place, and is written
+/// in place where none can.
 #[derive(Drop)]
 pub struct KeptFile<'f, 'a, F: Folder> {
-    /// The name, and the drafts of its file.
     pub folder: F,
-    /// What messages call the file.
     pub label: Label<'a>,
-    // What a ledger is read from.
     ledger: Option<&'f LedgerFile<'a, F::File>>,
-    /// The end into the file, where it is written in place.
     pub in_place: Option<F::InPlace>,
-    /// The file that a draft became. The lock on it lasts as long as it is kept.
+    /// The file that a draft became, whose lock lasts as long as it is open.
     pub named: Option<F::File>,
     fault: Option<StoreError>,
     ghost held: { is_ledger (F.part folder) ≡ is_some ledger },
@@ -39,7 +35,7 @@ pub struct KeptFile<'f, 'a, F: Folder> {
 }
 
 impl<'f, 'a, F: Folder> KeptFile<'f, 'a, F> {
-    /// The store of a book of this name, where nothing was kept yet.
+    /// Makes the store of a book.
     pub fn of_book(folder: F, label: Label<'a>) -> KeptFile<'f, 'a, F>
         requires { F.part folder ≡ Book }
         ensures state { ⟦<KeptFile<'f, 'a, F> as Store>⟧.state result
@@ -57,7 +53,7 @@ impl<'f, 'a, F: Folder> KeptFile<'f, 'a, F> {
         }
     }
 
-    /// The store of a saved ledger of this name, which was read from this file.
+    /// Makes the store of a saved ledger, which was read from this file.
     pub fn of_ledger(
         folder: F,
         label: Label<'a>,
@@ -116,7 +112,6 @@ impl<'f, 'a, F: Folder> Store for KeptFile<'f, 'a, F> {
     }
 }
 
-/// Keeps the text under the name: by a draft, or in place where none can take the old file's place.
 fn keep_at<F: Folder, X: Text>(
     folder: &mut F,
     label: &Label<'_>,
@@ -154,16 +149,15 @@ fn keep_at<F: Folder, X: Text>(
                 Err(StoreError::Write)
             }
         }
-        Err(NotPut::Failed(why)) => Err(why),
-        Err(NotPut::Refused) => {
+        Err(NotSaved::Failed(why)) => Err(why),
+        Err(NotSaved::Refused(())) => {
             let file = old.map(|old| old.file);
             keep_in_place(folder, label, file, in_place, text)
         }
     }
 }
 
-/// Writes the text in place, into the old file or a new one, and answers how many entries or games
-/// it tells.
+/// Writes the text into the old file or a new one.
 fn keep_in_place<F: Folder, X: Text>(
     folder: &mut F,
     label: &Label<'_>,
@@ -194,7 +188,6 @@ fn keep_in_place<F: Folder, X: Text>(
     }
 }
 
-/// Opens the old file, or a new one, to be written in place.
 fn open_in_place<F: Folder>(
     folder: &mut F,
     label: &Label<'_>,

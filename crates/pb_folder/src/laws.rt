@@ -1,5 +1,4 @@
-//! Laws of runs that make drafts by one name, and of what its name may lead to. Each is the
-//! contract of a function that does nothing.
+//! Laws of runs that make drafts by one name, each the contract of a function that does nothing.
 
 ghost use Rattle.std.specs.Prelude.{◌≡◌, ◌==◌, ◌++◌, ◌∷◌, [], List, None, Some, false, true, ℕ};
 ghost use Rattle.pb_folder.specs.File.{FileState, IsOwnDraft, MayRemove, locked};
@@ -9,8 +8,7 @@ ghost use Rattle.pb_folder.specs.Shelf.{Content, NamesNot, OldOrNew, Shelf};
 ghost use Rattle.pb_folder.specs.declared.folder.Hold.{Hold};
 ghost use Rattle.pb_folder.specs.declared.folder.Lock.TheVariants.{Held, InUse, Unsupported};
 
-/// A name that a reader doesn't see given may be there after a crash all the same. What is old or
-/// new is whole.
+/// A name that a reader doesn't see given may be there after a crash. What is old or new is whole.
 pub fn what_a_name_may_lead_to()
     ensures given { (content : Content) (old new : Shelf) → new.found ≡ old.found
         → new.leaves ≡ old.leaves ++ content ∷ [] → new.left ≡ old.left ++ content ∷ []
@@ -26,8 +24,8 @@ pub fn one_run_holds_a_draft()
         → holder names ≡ Some other → run ≡ other }
 {}
 
-/// What others do in a model of runs: steps that are none of a run's are those of others. Who holds
-/// a draft may take its name, and a run that ends lets its locks go.
+/// Steps that are none of a run's are those of others. Who holds a draft may take its name, and a
+/// run that ends lets its locks go.
 pub fn what_steps_do()
     ensures others { (run : ℕ) (step : Step) (steps : List Step) → (run == step.0 ≡ false)
         → OfOthers run steps → OfOthers run (step ∷ steps) }
@@ -43,16 +41,15 @@ pub fn a_locked_draft_is_held()
         → holder (after names ((run, Makes) ∷ (run, Locks names.next) ∷ [])) ≡ Some run }
 {}
 
-/// A run that holds a draft holds it on, whatever other runs do and in whatever order: so a run
-/// that has seen that it does may write the draft.
+/// A run that holds a draft holds it on, whatever other runs do: so it may write the draft.
 #[tactic(auto, using(crate::proofs::RunLemmas::still_held))]
 pub fn a_held_draft_stays_held()
     ensures { (run : ℕ) (names : NameState) (steps : List Step) → holder names ≡ Some run
         → OfOthers run steps → holder (after names steps) ≡ Some run }
 {}
 
-/// What the system has answered of a draft is so in the model, from the moment of the answer on:
-/// other runs' steps leave it so, and so never make what a call requires a thing of the past.
+/// What the system has answered of a draft is so in the model from then on: other runs' steps leave
+/// it so, and never make what a call requires a thing of the past.
 #[tactic(auto, using(crate::proofs::RunLemmas::claims_new))]
 pub fn what_is_known_stays_known()
     ensures locked { (run file : ℕ) (hold : Hold) (s : FileState) (names : NameState)
@@ -67,9 +64,8 @@ pub fn what_is_known_stays_known()
         → Claims run file s names → OfOthers run steps → Claims run file s (after names steps) }
 {}
 
-/// Where there are locks, a draft that a run may remove or give the name, by what `Folder::remove`
-/// and `Folder::rename` require, is one that it holds. So what the system does then, whoever calls
-/// it, is the step of the model that takes a name from a held draft alone.
+/// Where there are locks, a draft that `Folder::remove` and `Folder::rename` take is one that the
+/// run holds. So the system takes then, as in the model, a name from a held draft alone.
 #[tactic(auto, using(crate::proofs::RunLemmas::holds_by, crate::proofs::RunLemmas::unnames))]
 pub fn only_a_held_draft_loses_its_name()
     ensures remove { (run file : ℕ) (s : FileState) (names : NameState) → Claims run file s names

@@ -11,19 +11,16 @@ use crate::status::Status;
 use pb_collecting::StoreError;
 use pb_messages::Named;
 
-/// The file of a saved ledger, to be read. This run alone holds it until it ends, and makes it anew
-/// then.
+/// Holds the file of a saved ledger, which this run alone has until it ends, and makes anew then.
 #[derive(Drop)]
 pub struct LedgerFile<'a, X> {
-    /// The file.
     pub file: X,
-    /// What the system told of it.
     pub status: Status,
     guard: HeldFile<'a>,
 }
 
 impl<'a, X> LedgerFile<'a, X> {
-    /// Whether no other program has changed it, as far as its name, its length and its time tell.
+    /// Answers whether no other program has changed it, as far as its name, length and time show.
     /// If not, that is told.
     pub fn is_as_left(&self) -> bool {
         self.guard.is_as_left()
@@ -32,10 +29,6 @@ impl<'a, X> LedgerFile<'a, X> {
 
 /// Holds the file of the name. It has to be one that can be written: of two runs that went on from
 /// one ledger, the first would lose its games to the second.
-///
-/// # Errors
-///
-/// Those of `hold`.
 pub fn hold_ledger<'a, F: Folder>(
     folder: &mut F,
     label: &Label<'a>,

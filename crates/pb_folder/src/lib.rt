@@ -1,10 +1,8 @@
-//! The files that a run holds and makes anew. It holds a file (`hold`), and keeps a book or a ledger
-//! under a name (`KeptFile`): by a draft beside the old file, or in place where none can replace it.
+//! The files that a run holds (`hold`) and makes anew (`KeptFile`): by a draft beside the old file,
+//! or in place where none can replace it.
 //!
-//! A trait has the system's calls, and what each asks of a run (`Folder`). What is known of a file is
-//! what the system has answered of it. All above the trait is proved for every folder. The system's
-//! own (`System`) notes its answers: that these are of the right calls, and that the system keeps its
-//! word, is trusted.
+//! All is proved for every `Folder`, which has the system's calls and what each asks of a run. That
+//! `System` makes the right calls, and that the system keeps its word, is trusted.
 #![tactic(auto)]
 
 mod draft;
@@ -31,14 +29,14 @@ pub use expecting::{expect_book, expect_ledger};
 pub use file_end::{BUFFER_LEN, DRAFT, FileEnd, IN_PLACE, remove_front};
 pub use folder::{Entry, Folder, Hold, Lock, Seen};
 pub use held_file::HeldFile;
-pub use holding::{Held, hold};
+pub use holding::{Opened, hold};
 pub use kept::KeptFile;
 pub use label::Label;
 pub use ledger_file::{LedgerFile, hold_ledger};
-pub use looking::{NotSaved, Old, look_at};
+pub use looking::{NotSaved, look_at};
 pub use notes::FileNotes;
 pub use saved_ledger::{SavedLedger, book_store};
-pub use saving::{NotPut, Put, put_text};
-pub use status::{Status, why_not};
+pub use saving::{Put, put_text};
+pub use status::{Status, is_one_file, why_not};
 pub use system::System;
 pub use system_file::SystemFile;

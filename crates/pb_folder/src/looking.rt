@@ -7,45 +7,40 @@ ghost use Rattle.pb_folder.specs.File.{MayEmpty, ToldOfBoth, is_held};
 ghost use Rattle.pb_folder.specs.Parts.{is_ledger};
 ghost use Rattle.pb_folder.specs.Saving.{IfRefused};
 ghost use Rattle.pb_folder.specs.declared.folder.Entry.TheVariants.{Target};
+ghost use Rattle.pb_folder.specs.declared.looking.NotSaved.TheVariants.{Failed};
 
 use crate::folder::{Entry, Folder, Lock, Seen};
+use crate::holding::Opened;
 use crate::label::Label;
 use crate::ledger_file::LedgerFile;
 use crate::status::Status;
 use pb_collecting::StoreError;
 use pb_messages::{Cause, Left, Message, Unreplaceable};
-use std::io::{self, ErrorKind};
+use std::io::ErrorKind;
 
-/// A file that stands under a name, and what was told of it.
-#[derive(Drop)]
-pub struct Old<X> {
-    /// The file.
-    pub file: X,
-    /// What the system told of it.
-    pub status: Status,
-}
-
-/// Why a file isn't made anew by a draft.
+/// Why a file isn't made anew by a draft. What was there still is.
 #[derive(Drop)]
 pub enum NotSaved<X> {
-    /// A draft can't take the place of what stands there. That is as it was, and open if it could be
-    /// opened.
-    Refused(Option<X>),
-    /// The draft can't be made, written or named. The old file is there.
+    Refused(X),
+    /// The draft can't be made, written or given the name.
     Failed(StoreError),
 }
 
-/// Looks at what stands under the name, and tells whether a draft can take its place. Where nothing
-/// stands there one can. A ledger has to be the file that this run holds.
-///
-/// # Errors
-///
-/// Those of `NotSaved`. The failures are told.
+impl<X> From<StoreError> for NotSaved<X> {
+    ghost from_gives = { λ why result. result ≡ Failed why };
+
+    fn from(why: StoreError) -> NotSaved<X> {
+        NotSaved::Failed(why)
+    }
+}
+
+/// Opens what stands under the name, if anything, and makes sure that a draft can take its place. A
+/// ledger has to be the file that this run holds. Failures are told.
 pub fn look_at<F: Folder>(
     folder: &mut F,
     label: &Label<'_>,
     ledger: Option<&LedgerFile<'_, F::File>>,
-) -> Result<Option<Old<F::File>>, NotSaved<F::File>>
+) -> Result<Option<Opened<F::File>>, NotSaved<Option<F::File>>>
     requires ledger { is_ledger (F.part folder.old) ≡ is_some ledger }
     requires holder { IfSome ledger (λ l. IsHolder (F.file l.now.file) l.now.status) }
     ensures old { IfOk result (λ old. IfSome old (λ o.
@@ -63,51 +58,33 @@ pub fn look_at<F: Folder>(
     ensures part { F.part folder.new ≡ F.part folder.old }
     ensures same { F.shelf folder.new ≡ F.shelf folder.old }
 {
-    match folder.open(Entry::Target) {
-        Ok(file) => look_at_file(folder, label, ledger, file),
-        Err(error) => look_at_none(folder, label, ledger, &error),
-    }
-}
-
-/// Looks at a name that can't be opened for this reason.
-fn look_at_none<F: Folder>(
-    folder: &mut F,
-    label: &Label<'_>,
-    ledger: Option<&LedgerFile<'_, F::File>>,
-    error: &io::Error,
-) -> Result<Option<Old<F::File>>, NotSaved<F::File>>
-    requires { is_ledger (F.part folder.old) ≡ is_some ledger }
-    ensures none { IfOk result (λ old. IsNone old) }
-    ensures free { OnOk result (F.free folder.new ≡ true) }
-    ensures book { OnOk result (is_ledger (F.part folder.new) ≡ false) }
-    ensures refused { IfErr result (λ why. IfRefused why (λ _.
-        is_ledger (F.part folder.new) ≡ false)) }
-    ensures refused_file { IfErr result (λ why. IfRefused why (λ file.
-        IfSome file (λ f. MayEmpty (F.file f)))) }
-    ensures drafts { F.drafts folder.new ≡ F.drafts folder.old }
-    ensures part { F.part folder.new ≡ F.part folder.old }
-    ensures same { F.shelf folder.new ≡ F.shelf folder.old }
-{
+    let error = match folder.open(Entry::Target) {
+        Ok(file) => return look_at_file(folder, label, ledger, file),
+        Err(error) => error,
+    };
+    let is_gone = error.kind() == ErrorKind::NotFound;
     if let Some(ledger) = ledger {
-        if error.kind() == ErrorKind::NotFound && !ledger.is_as_left() {
+        if is_gone && !ledger.is_as_left() {
             return Err(NotSaved::Failed(StoreError::Write));
         }
-        return Err(NotSaved::Failed(label.fail(Left::Old(label.part), error)));
     }
-    if error.kind() == ErrorKind::NotFound && matches!(folder.look(), Seen::Nothing) {
+    if ledger.is_some() || !is_gone {
+        return Err(NotSaved::Failed(label.fail(Left::Old(label.part), &error)));
+    }
+    if matches!(folder.look(), Seen::Nothing) {
         let _ = folder.follow();
         return Ok(None);
     }
+    // A link leads to a file that isn't there yet.
     Err(NotSaved::Refused(None))
 }
 
-/// Looks at the file that was opened.
 fn look_at_file<F: Folder>(
     folder: &mut F,
     label: &Label<'_>,
     ledger: Option<&LedgerFile<'_, F::File>>,
     mut file: F::File,
-) -> Result<Option<Old<F::File>>, NotSaved<F::File>>
+) -> Result<Option<Opened<F::File>>, NotSaved<Option<F::File>>>
     requires ledger { is_ledger (F.part folder.old) ≡ is_some ledger }
     requires holder { IfSome ledger (λ l. IsHolder (F.file l.now.file) l.now.status) }
     requires opened { (F.file file).entry ≡ Target }
@@ -132,16 +109,15 @@ fn look_at_file<F: Folder>(
         Err(error) => return Err(NotSaved::Failed(label.fail(Left::Old(label.part), &error))),
     };
     if !status.is_file {
-        return Err(refuse(folder, label, file, Unreplaceable::Link));
+        refuse_ledger(folder, label, Unreplaceable::Link)?;
+        return Err(NotSaved::Refused(Some(file)));
     }
-    if let Err(why) = expect_free(folder, label, ledger, &mut file, &status) {
-        return Err(NotSaved::Failed(why));
+    expect_free(folder, label, ledger, &mut file, &status)?;
+    if let Some(why) = unreplaceable(folder, &mut file, &status)? {
+        refuse_ledger(folder, label, why)?;
+        return Err(NotSaved::Refused(Some(file)));
     }
-    match unreplaceable(folder, &mut file, &status) {
-        Ok(None) => Ok(Some(Old { file, status })),
-        Ok(Some(why)) => Err(refuse(folder, label, file, why)),
-        Err(why) => Err(NotSaved::Failed(why)),
-    }
+    Ok(Some(Opened { file, status }))
 }
 
 /// Makes sure that no other run holds the file, and that a ledger is the one that this run holds. A
@@ -180,7 +156,7 @@ fn expect_free<F: Folder>(
     }
 }
 
-/// Tells why no draft can take the place of the file, as far as that is known before there is one.
+/// Why no draft can take the place of the file, as far as that is known before there is one.
 fn unreplaceable<F: Folder>(
     folder: &mut F,
     file: &mut F::File,
@@ -209,23 +185,19 @@ fn unreplaceable<F: Folder>(
     Ok(None)
 }
 
-/// Answers that no draft can take the file's place, which is told of a ledger: that isn't written in
-/// place.
-fn refuse<F: Folder>(
+/// Tells why no draft can take a ledger's place: that isn't written in place.
+pub(crate) fn refuse_ledger<F: Folder>(
     folder: &F,
     label: &Label<'_>,
-    file: F::File,
     why: Unreplaceable,
-) -> NotSaved<F::File>
-    requires { is_ledger (F.part folder.now) ≡ false → MayEmpty (F.file file) }
-    ensures refused_file { IfRefused result (λ file. IfSome file (λ f. MayEmpty (F.file f))) }
-    ensures refused { IfRefused result (λ _. is_ledger (F.part folder.now) ≡ false) }
+) -> Result<(), StoreError>
+    ensures { OnOk result (is_ledger (F.part folder.now) ≡ false) }
 {
-    if folder.is_ledger() {
-        label
-            .messages
-            .tell(&Message::CannotBeReplaced(label.path, why));
-        return NotSaved::Failed(StoreError::Open);
+    if !folder.is_ledger() {
+        return Ok(());
     }
-    NotSaved::Refused(Some(file))
+    label
+        .messages
+        .tell(&Message::CannotBeReplaced(label.path, why));
+    Err(StoreError::Open)
 }

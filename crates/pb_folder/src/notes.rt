@@ -9,8 +9,7 @@ use crate::status::Status;
 use pb_io::History;
 use std::marker::Model;
 
-/// What was answered of a file that is open, and which bytes it took. Nothing is done with the file
-/// here.
+/// Notes what was answered of a file that is open, and which bytes it took.
 #[derive(Drop)]
 pub struct FileNotes {
     entry: Entry,
@@ -45,7 +44,7 @@ impl Model for FileNotes {
 }
 
 impl FileNotes {
-    /// Begins with a file that was opened by this entry.
+    /// Begins with a file that was opened.
     pub fn opened(entry: Entry, appends: bool) -> FileNotes
         ensures { result ≡ opened entry appends }
     {
@@ -63,7 +62,7 @@ impl FileNotes {
         }
     }
 
-    /// Begins with the draft of this number, which was opened, or made by this run.
+    /// Begins with the draft of this number, opened or made by this run.
     pub fn draft(number: u32, made: bool) -> FileNotes
         ensures { result ≡ record (opened (Draft number) false) { made = made } }
     {
@@ -81,7 +80,7 @@ impl FileNotes {
         emptied
     }
 
-    /// The number of the draft that it is.
+    /// Answers the number of the draft that it is.
     pub fn draft_number(&self) -> Option<u32> {
         match self.entry {
             Entry::Target => None,
@@ -89,14 +88,14 @@ impl FileNotes {
         }
     }
 
-    /// Whether this run made it.
+    /// Answers whether this run made it.
     pub fn is_made(&self) -> bool
         ensures { result ≡ self.now.made }
     {
         self.made
     }
 
-    /// What was told of it last, and the mode that it was given since.
+    /// Answers its last status, with the mode that it was given since.
     pub fn status(&self) -> Option<Status>
         ensures { result ≡ self.now.status }
     {
@@ -122,7 +121,7 @@ impl FileNotes {
         self.named = named;
     }
 
-    /// Notes what was told of it.
+    /// Notes its status.
     pub fn note_status(&mut self, status: Status)
         ensures { self.new ≡ record self.old { status = Some status } }
     {
@@ -145,7 +144,7 @@ impl FileNotes {
         self.in_place = true;
     }
 
-    /// Notes that it has the name.
+    /// Notes that it got the name.
     pub fn note_renamed(&mut self)
         ensures { self.new ≡ record self.old { entry = Target } }
     {

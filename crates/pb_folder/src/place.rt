@@ -4,8 +4,7 @@ use std::fs::{self, File};
 use std::io::{self, ErrorKind};
 use std::path::{Path, PathBuf};
 
-/// The place of the file that a name leads to: the name itself or, where that is a symbolic link,
-/// what its links lead to.
+/// A name, and what its links lead to where it is a symbolic link.
 #[derive(Drop)]
 pub(crate) struct Place<'a> {
     name: &'a str,
@@ -13,17 +12,12 @@ pub(crate) struct Place<'a> {
 }
 
 impl<'a> Place<'a> {
-    /// The name itself, whatever stands there.
     pub(crate) fn of_name(name: &'a str) -> Place<'a> {
         Place { name, target: None }
     }
 
-    /// The place that the name leads to.
-    ///
-    /// # Errors
-    ///
-    /// A link that leads nowhere, or that can't be followed; of the kind `OutOfMemory` where there
-    /// is no memory for its path.
+    /// Fails where a link leads nowhere or can't be followed, by `OutOfMemory` where its path has
+    /// no memory.
     pub(crate) fn followed(rt: &HostRuntime, name: &'a str) -> io::Result<Place<'a>> {
         let target = match fs::symlink_metadata(rt, name) {
             Ok(told) if told.is_symlink() => Some(fs::canonicalize(rt, name)?),
@@ -32,7 +26,6 @@ impl<'a> Place<'a> {
         Ok(Place { name, target })
     }
 
-    /// The path.
     pub(crate) fn path(&self) -> &str {
         match &self.target {
             Some(path) => path.as_str(),
@@ -40,8 +33,8 @@ impl<'a> Place<'a> {
         }
     }
 
-    /// Puts the names of the folder on the disk, so that a crash can't undo a new one. A folder that
-    /// may not be read, or of which the system keeps no such order, has done what it can.
+    /// Syncs the folder, so that a crash can't undo a new name. One that may not be read, or that
+    /// can't be synced, has done what it can.
     pub(crate) fn sync_folder(&self, rt: &HostRuntime) -> io::Result<()> {
         let folder = match Path::new(self.path()).parent() {
             Some(folder) if !folder.as_str().is_empty() => folder,

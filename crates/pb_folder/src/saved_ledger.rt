@@ -15,29 +15,24 @@ use pb_messages::{Left, Messages, Part};
 use std::fs::{self, File};
 use std::io;
 
-/// A file that this run holds.
+/// Holds the file of a saved ledger.
 #[derive(Drop)]
 pub struct HeldLedger<'a> {
     ledger: LedgerFile<'a, SystemFile>,
     ghost holder: { IsHolder ledger.file ledger.status },
 }
 
-/// The file that a saved ledger is read from.
+/// Holds the file that a saved ledger is read from.
 #[derive(Drop)]
 pub enum SavedLedger<'a> {
-    /// One that this run holds, and makes anew.
     Held(HeldLedger<'a>),
-    /// A pipe or a device, which nobody holds.
+    /// Nobody holds a pipe or a device.
     Stream(SystemFile),
 }
 
 impl<'a> SavedLedger<'a> {
-    /// Opens the file of this path, to be read, and not emptied yet. This run holds it until it ends,
-    /// unless it is a pipe or a device.
-    ///
-    /// # Errors
-    ///
-    /// Those of `hold`, and `Open` where a pipe can't be opened. They are told.
+    /// Opens the file of this path, to be read. This run holds it until it ends, unless it is a
+    /// pipe or a device. What fails is told.
     pub fn open(messages: Messages<'a>, path: &'a str) -> Result<SavedLedger<'a>, StoreError> {
         let label = Label {
             messages,
@@ -57,10 +52,6 @@ impl<'a> SavedLedger<'a> {
     }
 
     /// Opens what reads the file from its first byte.
-    ///
-    /// # Errors
-    ///
-    /// The system gives no reader of it.
     pub fn reader(&self) -> io::Result<File> {
         match self {
             SavedLedger::Held(held) => held.ledger.file.reader(),
@@ -68,11 +59,7 @@ impl<'a> SavedLedger<'a> {
         }
     }
 
-    /// The store where the ledger is made anew, once it is known that it can be.
-    ///
-    /// # Errors
-    ///
-    /// Those of `expect_ledger`.
+    /// Gives the store where the ledger is made anew, once it is known that it can be.
     pub fn store<'f>(
         &'f self,
         messages: Messages<'a>,
@@ -101,11 +88,7 @@ impl<'a> SavedLedger<'a> {
     }
 }
 
-/// The store of a book, once it is known that one can be made there.
-///
-/// # Errors
-///
-/// Those of `expect_book`.
+/// Gives the store of a book, once it is known that one can be made there.
 pub fn book_store<'a>(
     messages: Messages<'a>,
     path: &'a str,

@@ -1,37 +1,30 @@
-//! What the system tells of a file, and which file can take another's place.
+//! What the system knows of a file, and which file can take another's place.
 
 ghost use Rattle.std.specs.Prelude.{◌↔◌, IfSome, IsNone, IsTrue};
 ghost use Rattle.pb_folder.specs.File.{Bars, IsOfOne, TakesAfter};
 
 use pb_messages::Unreplaceable;
-use std::fs::Metadata;
+use std::fs::{self, Metadata};
 use std::os::unix::fs::MetadataExt;
 
-/// What the system tells of a file.
+/// Holds what the system knows of a file.
 #[derive(Clone, Copy, Debug)]
 pub struct Status {
-    /// The mount that it is on.
     pub device: u64,
-    /// Its number there.
     pub inode: u64,
-    /// How many names it has.
     pub names: u64,
-    /// Its owner.
     pub user: u32,
-    /// Its group.
     pub group: u32,
-    /// What kind of file it is, and who may read and write it.
     pub mode: u32,
-    /// It is an ordinary file, and no device or pipe.
+    /// No device or pipe.
     pub is_file: bool,
-    /// How many bytes it has.
     pub len: u64,
-    /// When it was written last, in seconds and nanoseconds.
+    /// In seconds and nanoseconds.
     pub modified: (i64, i64),
 }
 
 impl Status {
-    /// Takes it from what the system told.
+    /// Takes it from the system's answer.
     pub fn of(told: &Metadata) -> Status {
         Status {
             device: told.dev(),
@@ -46,7 +39,7 @@ impl Status {
         }
     }
 
-    /// Whether both tell of one file, and no device or pipe.
+    /// Answers whether both are of one ordinary file.
     pub fn is_of_one(&self, other: &Status) -> bool
         ensures { IsTrue result ↔ IsOfOne self.now other.now }
     {
@@ -54,7 +47,15 @@ impl Status {
     }
 }
 
-/// Tells why the new file can't take the old one's place, once it has its mode.
+/// Answers whether both paths lead to one ordinary file.
+pub fn is_one_file(rt: &HostRuntime, path: &str, other: &str) -> bool {
+    match (fs::metadata(rt, path), fs::metadata(rt, other)) {
+        (Ok(one), Ok(two)) => Status::of(&one).is_of_one(&Status::of(&two)),
+        _ => false,
+    }
+}
+
+/// Answers why the new file can't take the old one's place, once it has its mode.
 pub fn why_not(old: &Status, new: &Status) -> Option<Unreplaceable>
     ensures takes { IsNone result
         → TakesAfter old.now (record new.now { mode = old.now.mode }) }

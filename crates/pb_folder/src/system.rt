@@ -9,7 +9,7 @@ use crate::file_end::{DRAFT, FileEnd, IN_PLACE};
 use crate::folder::{Entry, Folder, Lock, Seen};
 use crate::notes::FileNotes;
 use crate::place::Place;
-use crate::status::Status;
+use crate::status::{Status, is_one_file};
 use crate::system_file::SystemFile;
 use pb_messages::{Left, Messages, Named, Part};
 use std::fs::{self, File, OpenOptions};
@@ -17,27 +17,23 @@ use std::io::{self, ErrorKind};
 use std::os::unix::fs::OpenOptionsExt;
 use std::path::{Path, PathBuf};
 
-/// The permissions of a draft that is to replace a file, until it has that file's.
+/// The mode of a draft that is to replace a file, until it has that file's.
 const OWN: u32 = 0o600;
 
-/// The permissions of a new file, of which the system takes those away that its user doesn't give.
+/// The mode of a new file, less what its user's umask takes away.
 const ANYBODY: u32 = 0o666;
 
-/// Where the file of standard input is found, whatever its name.
 const INPUT: &str = "/dev/stdin";
 
-/// Where that of standard output is.
 const OUTPUT: &str = "/dev/stdout";
 
-/// A path in the system's folders, and the drafts of its file beside it: `.NAME.pbook-0` and so on.
-/// Each method makes one call of the system, as far as it can.
+/// Calls the system on a path, and on the drafts beside its file: `.NAME.pbook-0` and so on.
 #[derive(Drop)]
 pub struct System<'a> {
     messages: Messages<'a>,
     path: &'a str,
     place: Place<'a>,
     part: Part,
-    // What is opened is read too.
     is_read: bool,
     drafts: u64,
     is_free: bool,
@@ -45,7 +41,7 @@ pub struct System<'a> {
 }
 
 impl<'a> System<'a> {
-    /// The name of a file of this part.
+    /// Begins with the path of a file of this part.
     pub fn new(messages: Messages<'a>, path: &'a str, part: Part) -> System<'a>
         ensures { ⟦<System<'a> as Folder>⟧.part result ≡ part }
     {
@@ -61,7 +57,7 @@ impl<'a> System<'a> {
         }
     }
 
-    /// The same name, whose file is read too.
+    /// Has the file opened to be read too.
     pub fn read(mut self) -> System<'a>
         ensures { ⟦<System<'a> as Folder>⟧.part result
             ≡ ⟦<System<'a> as Folder>⟧.part self.entry }
@@ -70,19 +66,13 @@ impl<'a> System<'a> {
         self
     }
 
-    /// Whether what is opened is added to at its end.
     fn is_journal(&self) -> bool
         ensures { result ≡ is_journal self.now.part }
     {
         matches!(self.part, Part::Journal)
     }
 
-    /// The path of the draft of this number.
-    ///
-    /// # Errors
-    ///
-    /// `InvalidInput` where the path doesn't end in a file's name, `OutOfMemory` where there is no
-    /// memory for it.
+    /// Fails by `InvalidInput` where the path doesn't end in a file's name.
     fn draft_path(&self, number: u32) -> io::Result<PathBuf> {
         let path = Path::new(self.place.path());
         let Some(file) = path.file_name() else {
@@ -101,16 +91,15 @@ impl<'a> System<'a> {
         }
     }
 
-    /// Opens the draft of this number. Only a file is opened, since opening a pipe may wait, and
-    /// none that is a stream of this run.
+    /// Opens a file alone, since opening a pipe may wait, and none that is a stream of this run.
     fn open_draft(&self, number: u32) -> io::Result<SystemFile>
         ensures { IfOk result (λ f. f ≡ opened (Draft number) false) }
     {
         let rt = self.messages.rt;
         let path = self.draft_path(number)?;
         if !fs::symlink_metadata(rt, path.as_path())?.is_file()
-            || self.is_stream(path.as_str(), INPUT)
-            || self.is_stream(path.as_str(), OUTPUT)
+            || is_one_file(rt, path.as_str(), INPUT)
+            || is_one_file(rt, path.as_str(), OUTPUT)
         {
             return Err(io::Error::from(ErrorKind::InvalidInput));
         }
@@ -119,16 +108,6 @@ impl<'a> System<'a> {
         Ok(SystemFile::new(file, Some(path), notes))
     }
 
-    /// Whether the path leads to the file of this stream, and not to a device or a pipe.
-    fn is_stream(&self, path: &str, stream: &str) -> bool {
-        let rt = self.messages.rt;
-        match (fs::metadata(rt, path), fs::metadata(rt, stream)) {
-            (Ok(one), Ok(two)) => Status::of(&one).is_of_one(&Status::of(&two)),
-            _ => false,
-        }
-    }
-
-    /// The name for messages, and what a failure leaves of it.
     fn named(&self, left: Left) -> Named<'a> {
         Named {
             messages: self.messages,
@@ -138,7 +117,7 @@ impl<'a> System<'a> {
     }
 }
 
-/// No contract knows what a reader finds, so nothing is told of that.
+// No contract knows what a reader finds under the name.
 impl<'a> Folder for System<'a> {
     type File = SystemFile;
 
@@ -165,7 +144,7 @@ impl<'a> Folder for System<'a> {
     // Replies are written where a link such as `/dev/stdout` leads.
     fn follow(&mut self) -> io::Result<()> {
         self.place = Place::of_name(self.path);
-        if !self.is_stream(self.path, OUTPUT) {
+        if !is_one_file(self.messages.rt, self.path, OUTPUT) {
             self.place = Place::followed(self.messages.rt, self.path)?;
         }
         Ok(())

@@ -22,14 +22,12 @@ const TRIES: u32 = 100;
 /// How many bytes are written over themselves at a time.
 const PIECE: usize = 16_384;
 
-/// A file of the system that is open, and what the system has answered of it so far. Each method
-/// makes one call of the system.
+/// Calls the system on a file that is open, and notes its answers.
 #[derive(Drop)]
 pub struct SystemFile {
     file: File,
-    // That of a draft.
+    // Of a draft.
     path: Option<PathBuf>,
-    /// What was answered of it.
     pub(crate) notes: FileNotes,
 }
 
@@ -42,19 +40,13 @@ impl Model for SystemFile {
 }
 
 impl SystemFile {
-    /// Takes a file of which this is noted, and the path of a draft.
     pub(crate) fn new(file: File, path: Option<PathBuf>, notes: FileNotes) -> SystemFile
         ensures { result ≡ notes }
     {
         SystemFile { file, path, notes }
     }
 
-    /// Opens a pipe or a device, to be read. It is no draft for this run and others, whatever its
-    /// name looks like.
-    ///
-    /// # Errors
-    ///
-    /// It can't be opened.
+    /// Opens a pipe or a device, to be read. The lock keeps runs from taking it for a draft.
     pub(crate) fn open_stream(rt: &HostRuntime, path: &str) -> io::Result<SystemFile> {
         let file = File::open(rt, path)?;
         let _ = file.try_lock_shared();
@@ -62,7 +54,6 @@ impl SystemFile {
         Ok(SystemFile::new(file, None, notes))
     }
 
-    /// The path of a draft.
     pub(crate) fn path(&self) -> Option<&str> {
         match &self.path {
             Some(path) => Some(path.as_str()),
@@ -70,12 +61,10 @@ impl SystemFile {
         }
     }
 
-    /// Whether what was told of it is that it is no ordinary file.
     pub(crate) fn is_device(&self) -> bool {
         self.notes.status().is_some_and(|status| !status.is_file)
     }
 
-    /// Locks the file, so that no other run has a lock of it.
     pub(crate) fn lock(&mut self) -> Lock
         ensures { self.new ≡ locked Alone result self.old }
     {
@@ -84,7 +73,6 @@ impl SystemFile {
         lock
     }
 
-    /// Locks the file, so that no other run has it alone.
     pub(crate) fn lock_shared(&mut self) -> Lock
         ensures { self.new ≡ locked Shared result self.old }
     {
@@ -93,8 +81,8 @@ impl SystemFile {
         lock
     }
 
-    /// Tells whether the draft's own path or, of another file, this path leads to the file, and no
-    /// link of it; and to a draft alone.
+    /// Whether the draft's own path or, of another file, this path leads to the file, and no link
+    /// of it; a draft has that name alone.
     pub(crate) fn is_named(&mut self, rt: &HostRuntime, path: &str) -> bool
         ensures { self.new ≡ record self.old { named = result } }
     {
@@ -113,7 +101,6 @@ impl SystemFile {
         is_named
     }
 
-    /// Gives the draft the name of this path, in the place of what has it.
     pub(crate) fn rename(&mut self, rt: &HostRuntime, path: &str) -> io::Result<()>
         ensures named { OnOk result (self.new ≡ record self.old { entry = Target }) }
         ensures same { OnErr result (self.new ≡ self.old) }
@@ -127,7 +114,6 @@ impl SystemFile {
         Ok(())
     }
 
-    /// Empties the file, to be written in place. A device stays as it is.
     pub(crate) fn empty(&mut self) -> io::Result<()>
         ensures emptied { OnOk result (self.new ≡ record self.old { in_place = true }) }
         ensures same { OnErr result (self.new ≡ self.old) }
@@ -139,7 +125,6 @@ impl SystemFile {
         Ok(())
     }
 
-    /// Asks the system for what it tells of the file.
     pub(crate) fn tell(&mut self) -> io::Result<Status>
         ensures told { IfOk result (λ status. self.new
             ≡ record self.old { status = Some status }) }
@@ -150,7 +135,6 @@ impl SystemFile {
         Ok(status)
     }
 
-    /// Sets who may read and write the file.
     pub(crate) fn set_mode(&mut self, mode: u32) -> io::Result<()>
         requires { IsOwnDraft self.old }
         ensures set { OnOk result (self.new ≡ with_mode mode self.old) }
@@ -187,7 +171,7 @@ impl SystemFile {
         }
     }
 
-    /// Puts the file on the disk. Once a write or a sync has failed, none tells anything.
+    /// Puts the file on the disk. Once a write or a sync has failed, none says anything.
     pub fn sync(&mut self) -> io::Result<()>
         ensures synced { OnOk result (self.old.lost ≡ false → self.new.synced ≡ true) }
         ensures works { OnOk result (self.new.lost ≡ self.old.lost) }
@@ -203,7 +187,7 @@ impl SystemFile {
         synced
     }
 
-    /// Puts the bytes of the file on the disk, as `sync` does, but not what is told of it.
+    /// Puts the bytes of the file on the disk, as `sync` does, but not its status.
     pub fn sync_data(&mut self) -> io::Result<()>
         ensures synced { OnOk result (self.old.lost ≡ false → self.new.synced ≡ true) }
         ensures works { OnOk result (self.new.lost ≡ self.old.lost) }
@@ -246,7 +230,6 @@ impl SystemFile {
     }
 }
 
-/// Writes a front of the bytes, again where a signal interrupts it.
 fn write_once(file: &mut File, bytes: &[u8]) -> io::Result<usize>
     ensures within { IfOk result (λ count. count ≤ length bytes.now) }
     ensures some { IfOk result (λ count. 0 < length bytes.now → 0 < count) }
@@ -261,7 +244,6 @@ fn write_once(file: &mut File, bytes: &[u8]) -> io::Result<usize>
     Err(io::Error::from(ErrorKind::Interrupted))
 }
 
-/// Tells what became of a wish to lock a file.
 fn lock_by(locked: Result<(), TryLockError>) -> Lock {
     match locked {
         Ok(()) => Lock::Held,

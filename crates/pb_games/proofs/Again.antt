@@ -1,34 +1,37 @@
 -- A game that comes again.
-use Rattle.std.proofs.Common.{◌≡◌, ℕ, List, [], ◌∷◌, get_or, sym, ap, ◌∙◌}
+use Rattle.std.proofs.Common.{◌≡◌, ℕ, List, ◌∷◌, [], get_or, sym, ap, ◌∙◌}
 use Rattle.std.specs.List.{join_with_byte}
 use Rattle.std.specs.Str.Lines.{strip_carriage_return}
 use Rattle.std.proofs.lemmas.List.Splits.{join_with_byte-slice_split}
-use Rattle.pb_games.specs.Header.{fields_of}
+use Rattle.pb_games.specs.declared.fields.LineFields.{LineFields}
+use Rattle.pb_games.specs.declared.game.Game.{Game}
+use Rattle.pb_games.specs.Cuts.{IsCut}
 use Rattle.pb_games.specs.Repeat.{AreFieldsOf}
 use Rattle.pb_games.specs.Submissions.{IsLawful, IsSubmission, Submission, moves_text}
-use Rattle.pb_games.specs.Words.{words_of}
-use Rattle.pb_games.proofs.OneLine.{words_of_text}
+use Rattle.pb_games.specs.Tokens.{tokens_of}
+use Rattle.pb_games.proofs.OneLine.{tokens_of_text}
 use Rattle.pb_games.proofs.Texts.{fields_back}
-use Rattle.pb_games.proofs.WordLemmas.{words-back}
+use Rattle.pb_games.proofs.TokenLemmas.{tokens-back}
 
--- a line with the fields of a legal game submits it
-pub again : (line id outcome start moves : List ℕ) (s : Submission) → fields_of line ≡ id ∷ outcome ∷ start ∷ moves ∷ [] → IsSubmission s → AreFieldsOf s id outcome start moves → IsLawful line s
-again line id outcome start moves s cut known of =
-    let moves_are : moves ≡ moves_text s.1.moves = sym (words-back moves) ∙ ap (join_with_byte 32) of.words_are in
-    record {
-      text =
-          sym (join_with_byte-slice_split 9 (strip_carriage_return line))
-          ∙ ap (join_with_byte 9) (cut ∙ (λ i. of.id_is i ∷ of.outcome_is i ∷ of.start_is i ∷ moves_are i ∷ []));
-      id = known.id;
-      start = known.game.start;
-      playable = known.legal.playable;
-      few = known.game.few;
-      legal = known.legal.legal;
-    }
+module _ (line : List ℕ) (f : LineFields) (h : IsCut line f) where
+  -- a line with the fields of a legal game submits it
+  pub again : (g : Game) → IsSubmission (f.id.now, g) → AreFieldsOf g f → IsLawful line (f.id.now, g)
+  again g known are =
+      let moves_are : f.moves.now ≡ moves_text g.moves = sym (tokens-back f.moves.now) ∙ ap (join_with_byte 32) are.tokens_are in
+      record {
+        text =
+            sym (join_with_byte-slice_split 9 (strip_carriage_return line))
+            ∙ ap (join_with_byte 9) (h.cut ∙ (λ i. f.id.now ∷ are.outcome_is i ∷ are.start_is i ∷ moves_are i ∷ []));
+        id = known.id;
+        start = known.game.start;
+        playable = known.legal.playable;
+        few = known.game.few;
+        legal = known.legal.legal;
+      }
 
--- and the fields of a line that submits a game are the game's
-pub fields_again : (line id outcome start moves : List ℕ) (s : Submission) → fields_of line ≡ id ∷ outcome ∷ start ∷ moves ∷ [] → IsLawful line s → AreFieldsOf s id outcome start moves
-fields_again line id outcome start moves s cut lawful =
-    let cells = sym cut ∙ fields_back line s lawful in
-    let cell = λ (i : ℕ). ap (λ (w : List (List ℕ)). get_or w i []) cells in
-    record { id_is = cell 0; outcome_is = cell 1; start_is = cell 2; words_are = ap words_of (cell 3) ∙ words_of_text s.1.moves }
+  -- and the fields of a line that submits a game are its id and the game's
+  pub fields_again : (s : Submission) → IsLawful line s → (f.id.now ≡ s.0) × AreFieldsOf s.1 f
+  fields_again s lawful =
+      let cells = sym h.cut ∙ fields_back line s lawful in
+      let cell = λ (i : ℕ). ap (λ (w : List (List ℕ)). get_or w i []) cells in
+      (cell 0, record { outcome_is = cell 1; start_is = cell 2; tokens_are = ap tokens_of (cell 3) ∙ tokens_of_text s.1.moves })

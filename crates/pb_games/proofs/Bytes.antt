@@ -1,4 +1,4 @@
--- The bytes of the parts of a text, and how many they are.
+-- The bytes of the fields of a text, and how many they are.
 use Rattle.std.proofs.Common.{ℕ, ◌-◌, ◌*◌, ◌<◌, ◌≤◌, List, [], ◌∷◌, ◌++◌, length, length-append, map, Option, Some, None, subst, arith, lit<}
 use Rattle.std.specs.List.{All, join_with_byte}
 use Rattle.std.specs.Prelude.{decimal, option_to_list}
@@ -36,7 +36,7 @@ Above-append n [] ys h k = k
 Above-append n (x ∷ xs) ys h k = (h.0, Above-append n xs ys h.1 k)
 
 -- where the separator is above n too, so is each byte of the whole
-join_above : (n c : ℕ) (parts : List (List ℕ)) → n < c → AllAbove n parts → Above n (join_with_byte c parts)
+join_above : (n c : ℕ) (cells : List (List ℕ)) → n < c → AllAbove n cells → Above n (join_with_byte c cells)
 join_above n c [] lt h = tt
 join_above n c (t ∷ []) lt h = h.0
 join_above n c (t ∷ u ∷ ts) lt h = Above-append n t (c ∷ join_with_byte c (u ∷ ts)) h.0 (lt, join_above n c (u ∷ ts) lt h.1)

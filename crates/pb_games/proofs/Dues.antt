@@ -8,7 +8,7 @@ use Rattle.pb_board.specs.declared.refusal.FenError.{FenError}
 use Rattle.pb_board.specs.declared.refusal.FenError.TheVariants as fen
 use Rattle.pb_games.specs.declared.refusal.Refusal.{Refusal}
 use Rattle.pb_games.specs.declared.refusal.Refusal.TheVariants as refusal
-use Rattle.pb_games.specs.Header.{fields_of}
+use Rattle.pb_games.specs.Cuts.{fields_of}
 use Rattle.pb_games.specs.Refusing as refusing
 use Rattle.pb_games.specs.Refusing.{Refuses, in_order}
 
@@ -16,9 +16,9 @@ use Rattle.pb_games.specs.Refusing.{Refuses, in_order}
 abbrev pub IsDue : Refusal → List ℕ → Type 0
 IsDue r line = refusing.IsDue line (fields_of line) r
 
--- ---- places in the order
+-- ---- positions in the order
 
--- the place of each refusal in the order, from 1, and after them the refusals that look at more
+-- the position of each refusal in the order, from 1, and after them the refusals that look at more
 -- than the line
 abbrev pub order : Refusal → ℕ
 order refusal.Long = 1
@@ -32,7 +32,7 @@ order refusal.Plies = 8
 order (refusal.Illegal n) = 9
 order _ = 10
 
--- refusals at the places from the n-th on
+-- refusals at the positions from the n-th on
 abbrev AreFrom : ℕ → List Refusal → Type 0
 AreFrom n [] = Unit {0}
 AreFrom n (r ∷ rs) = (order r ≡ n) × AreFrom (suc n) rs
@@ -40,41 +40,41 @@ AreFrom n (r ∷ rs) = (order r ≡ n) × AreFrom (suc n) rs
 all_from : (e : FenError) (m n : ℕ) → AreFrom 1 (in_order e m n)
 all_from e m n = (refl, (refl, (refl, (refl, (refl, (refl, (refl, (refl, (refl, tt)))))))))
 
-place_of : (n : ℕ) (before : List Refusal) (r : Refusal) (after : List Refusal) → AreFrom n (before ++ r ∷ after) → order r ≡ n + length before
-place_of n [] r after are = omega (arith, are.0)
-place_of n (d ∷ before) r after are = omega (arith, place_of (suc n) before r after are.1)
+position_of : (n : ℕ) (before : List Refusal) (r : Refusal) (after : List Refusal) → AreFrom n (before ++ r ∷ after) → order r ≡ n + length before
+position_of n [] r after are = omega (arith, are.0)
+position_of n (d ∷ before) r after are = omega (arith, position_of (suc n) before r after are.1)
 
 are_before : (n : ℕ) (before : List Refusal) (r : Refusal) (after : List Refusal) → AreFrom n (before ++ r ∷ after) → All (λ d. order d < order r) before
 are_before n [] r after are = All-nil (λ d. order d < order r)
 are_before n (d ∷ before) r after are =
-    All-cons (λ d. order d < order r) d before (omega (arith, are.0, place_of n (d ∷ before) r after are)) (are_before (suc n) before r after are.1)
+    All-cons (λ d. order d < order r) d before (omega (arith, are.0, position_of n (d ∷ before) r after are)) (are_before (suc n) before r after are.1)
 
 -- the cause or the number of a refusal, where it has one
 abbrev cause_of : Refusal → FenError → FenError
 cause_of (refusal.Fen e) other = e
 cause_of _ other = other
 
-abbrev word_of : Refusal → ℕ → ℕ
-word_of (refusal.Spelling n) other = n
-word_of _ other = other
+abbrev token_of : Refusal → ℕ → ℕ
+token_of (refusal.Spelling n) other = n
+token_of _ other = other
 
 abbrev move_of : Refusal → ℕ → ℕ
 move_of (refusal.Illegal n) other = n
 move_of _ other = other
 
-cause_kept : (d : Refusal) (e : FenError) → order d < 5 → cause_of d e ≡ e
-cause_kept (refusal.Fen x) e lt = absurd (omega (arith, lt))
-cause_kept _ e lt = refl
+cause_stays : (d : Refusal) (e : FenError) → order d < 5 → cause_of d e ≡ e
+cause_stays (refusal.Fen x) e lt = absurd (omega (arith, lt))
+cause_stays _ e lt = refl
 
-word_kept : (d : Refusal) (n : ℕ) → order d < 7 → word_of d n ≡ n
-word_kept (refusal.Spelling m) n lt = absurd (omega (arith, lt))
-word_kept _ n lt = refl
+token_stays : (d : Refusal) (n : ℕ) → order d < 7 → token_of d n ≡ n
+token_stays (refusal.Spelling m) n lt = absurd (omega (arith, lt))
+token_stays _ n lt = refl
 
-move_kept : (d : Refusal) (n : ℕ) → order d < 9 → move_of d n ≡ n
-move_kept (refusal.Illegal m) n lt = absurd (omega (arith, lt))
-move_kept _ n lt = refl
+move_stays : (d : Refusal) (n : ℕ) → order d < 9 → move_of d n ≡ n
+move_stays (refusal.Illegal m) n lt = absurd (omega (arith, lt))
+move_stays _ n lt = refl
 
-stands : (d : Refusal) (e : FenError) (m n : ℕ) → order d < 10 → get_or (in_order (cause_of d e) (word_of d m) (move_of d n)) (order d - 1) d ≡ d
+stands : (d : Refusal) (e : FenError) (m n : ℕ) → order d < 10 → get_or (in_order (cause_of d e) (token_of d m) (move_of d n)) (order d - 1) d ≡ d
 stands refusal.Long e m n lt = refl
 stands refusal.Shape e m n lt = refl
 stands refusal.Id e m n lt = refl
@@ -88,43 +88,43 @@ stands _ e m n lt = absurd (omega (arith, lt))
 
 -- a list of the refusals in which both of these stand
 abbrev both : Refusal → Refusal → List Refusal
-both d e = in_order (cause_of d (cause_of e fen.Fields)) (word_of d (word_of e 0)) (move_of d (move_of e 0))
+both d e = in_order (cause_of d (cause_of e fen.Fields)) (token_of d (token_of e 0)) (move_of d (move_of e 0))
 
 stands_later : (d e : Refusal) → order d < order e → order e < 10 → get_or (both d e) (order e - 1) e ≡ e
 stands_later d refusal.Long less lt = refl
 stands_later d refusal.Shape less lt = refl
 stands_later d refusal.Id less lt = refl
 stands_later d refusal.Result less lt = refl
-stands_later d (refusal.Fen c) less lt = ap (λ x. refusal.Fen x) (cause_kept d c less)
+stands_later d (refusal.Fen c) less lt = ap (λ x. refusal.Fen x) (cause_stays d c less)
 stands_later d refusal.Start less lt = refl
-stands_later d (refusal.Spelling k) less lt = ap (λ x. refusal.Spelling x) (word_kept d k less)
+stands_later d (refusal.Spelling k) less lt = ap (λ x. refusal.Spelling x) (token_stays d k less)
 stands_later d refusal.Plies less lt = refl
-stands_later d (refusal.Illegal k) less lt = ap (λ x. refusal.Illegal x) (move_kept d k less)
+stands_later d (refusal.Illegal k) less lt = ap (λ x. refusal.Illegal x) (move_stays d k less)
 stands_later d _ less lt = absurd (omega (arith, lt))
 
-first_place : (d : Refusal) → 1 ≤ order d
-first_place refusal.Long = omega arith
-first_place _ = omega arith
+first_position : (d : Refusal) → 1 ≤ order d
+first_position refusal.Long = omega arith
+first_position _ = omega arith
 
-due_place : (e : Refusal) (line : List ℕ) → IsDue e line → order e < 10
-due_place (refusal.Conflict n) line due = absurd due
-due_place refusal.Full line due = absurd due
-due_place refusal.Memory line due = absurd due
-due_place _ line due = omega arith
+due_position : (e : Refusal) (line : List ℕ) → IsDue e line → order e < 10
+due_position (refusal.Conflict n) line due = absurd due
+due_position refusal.Full line due = absurd due
+due_position refusal.Memory line due = absurd due
+due_position _ line due = omega arith
 
--- ---- what stands before a refusal is what has a lower place
+-- ---- what stands before a refusal is what has a lower position
 
 pub none_before : (line : List ℕ) (e : Refusal) → Refuses line e → (d : Refusal) → order d < order e → ¬ IsDue d line
 none_before line e h d less due =
     let k = order e - 1 in
     let xs = both d e in
-    let low : order d - 1 < k = omega (arith, less, first_place d) in
-    let within : k < length xs = omega (arith, due_place e line h.due) in
+    let low : order d - 1 < k = omega (arith, less, first_position d) in
+    let within : k < length xs = omega (arith, due_position e line h.due) in
     let is : xs ≡ take k xs ++ e ∷ drop (k + 1) xs =
-    sym (take-append-drop k xs) ∙ ap (λ w. take k xs ++ w) (drop_more xs k e within ∙ ap (λ x. x ∷ drop (k + 1) xs) (stands_later d e less (due_place e line h.due))) in
-    let all = h.first (cause_of d (cause_of e fen.Fields)) (word_of d (word_of e 0)) (move_of d (move_of e 0)) (take k xs) (drop (k + 1) xs) is in
+    sym (take-append-drop k xs) ∙ ap (λ w. take k xs ++ w) (drop_more xs k e within ∙ ap (λ x. x ∷ drop (k + 1) xs) (stands_later d e less (due_position e line h.due))) in
+    let all = h.first (cause_of d (cause_of e fen.Fields)) (token_of d (token_of e 0)) (move_of d (move_of e 0)) (take k xs) (drop (k + 1) xs) is in
     let here : get_or (take k xs) (order d - 1) d ≡ d =
-    get_or-take k xs (order d - 1) d low ∙ stands d (cause_of e fen.Fields) (word_of e 0) (move_of e 0) (due_place d line due) in
+    get_or-take k xs (order d - 1) d low ∙ stands d (cause_of e fen.Fields) (token_of e 0) (move_of e 0) (due_position d line due) in
     all (order d - 1) d (omega (arith, low, length-take k xs, within)) (subst (λ x. IsDue x line) (sym here) due)
 
 refuses_from : (line : List ℕ) (e : Refusal) → IsDue e line → ((d : Refusal) → order d < order e → ¬ IsDue d line) → Refuses line e
@@ -134,9 +134,9 @@ refuses_from line e due none = record {
       All-weaker (λ d. order d < order e) (λ d. ¬ IsDue d line) none before (are_before 1 before e after (subst (AreFrom 1) is (all_from c m n)));
 }
 
--- ---- one place after the other
+-- ---- one position after the other
 
--- some refusal of this place in the order is due
+-- some refusal of this position in the order is due
 abbrev pub IsDueAt : ℕ → List ℕ → Type 0
 IsDueAt zero line = ⊥
 IsDueAt (suc zero) line = IsDue refusal.Long line
@@ -164,7 +164,7 @@ due_at (refusal.Conflict n) line due = due
 due_at refusal.Full line due = due
 due_at refusal.Memory line due = due
 
--- no refusal before the n-th place is due
+-- no refusal before the n-th position is due
 pub record NoneBefore (n : ℕ) (line : List ℕ) : Type 0 where
   pub none : (k : ℕ) → k < n → ¬ IsDueAt k line
 

@@ -7,8 +7,8 @@ use Rattle.pb_board.proofs.Dues.{IsFirstDue}
 use Rattle.pb_games.specs.declared.outcome.Outcome.{Outcome}
 use Rattle.pb_games.specs.declared.refusal.Refusal.TheVariants as refusal
 use Rattle.pb_games.specs.Ids.{IsId}
-use Rattle.pb_games.specs.declared.header.TheConstants.{MAX_BYTES}
-use Rattle.pb_games.specs.Header.{fields_of}
+use Rattle.pb_games.specs.declared.fields.TheConstants.{MAX_BYTES}
+use Rattle.pb_games.specs.Cuts.{fields_of}
 use Rattle.pb_games.specs.Refusing.{Refuses}
 use Rattle.pb_games.specs.Results.{outcome_text}
 use Rattle.pb_games.proofs.Dues.{NoneBefore, none_at_first, none_more, first_due}

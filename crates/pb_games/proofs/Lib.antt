@@ -1,5 +1,5 @@
 pub mod Pieces
-pub mod WordLemmas
+pub mod TokenLemmas
 pub mod Bytes
 pub mod Texts
 pub mod OneLine

@@ -14,11 +14,11 @@ use Rattle.pb_games.specs.declared.outcome.Outcome.{Outcome}
 use Rattle.pb_games.specs.declared.outcome.Outcome.TheVariants as outcome
 use Rattle.pb_games.specs.Results.{outcome_text}
 use Rattle.pb_games.specs.Submissions.{IsLawful, Submission, moves_text}
-use Rattle.pb_games.specs.Words.{words_of}
+use Rattle.pb_games.specs.Tokens.{tokens_of}
 use Rattle.pb_games.specs.Laws.{OneSubmission}
 use Rattle.pb_games.proofs.Bytes.{spellings_above}
-use Rattle.pb_games.proofs.Texts.{four_parts, lawful_game}
-use Rattle.pb_games.proofs.WordLemmas.{spelling_injective}
+use Rattle.pb_games.proofs.Texts.{four_fields, lawful_game}
+use Rattle.pb_games.proofs.TokenLemmas.{spelling_injective}
 
 outcome_from : List ℕ → Outcome
 outcome_from text = if length text == 7 then outcome.Draw else (if get_or text 0 0 == 49 then outcome.White else outcome.Black)
@@ -32,11 +32,11 @@ outcome_back outcome.Draw = refl
 pub outcome_injective : (o p : Outcome) → outcome_text o ≡ outcome_text p → o ≡ p
 outcome_injective o p e = sym (outcome_back o) ∙ ap outcome_from e ∙ outcome_back p
 
--- the words of moves are their spellings
-pub words_of_text : (ms : List Moved) → words_of (moves_text ms) ≡ map spelling ms
-words_of_text [] = refl
-words_of_text (m ∷ []) = split_join 32 (spelling m ∷ []) (spellings_above (m ∷ [])) (lit< tt)
-words_of_text (m ∷ n ∷ ms) = split_join 32 (map spelling (m ∷ n ∷ ms)) (spellings_above (m ∷ n ∷ ms)) (omega arith)
+-- the tokens of moves are their spellings
+pub tokens_of_text : (ms : List Moved) → tokens_of (moves_text ms) ≡ map spelling ms
+tokens_of_text [] = refl
+tokens_of_text (m ∷ []) = split_join 32 (spelling m ∷ []) (spellings_above (m ∷ [])) (lit< tt)
+tokens_of_text (m ∷ n ∷ ms) = split_join 32 (map spelling (m ∷ n ∷ ms)) (spellings_above (m ∷ n ∷ ms)) (omega arith)
 
 pub spellings_injective : (ls ms : List Moved) → All IsMove ls → All IsMove ms → map spelling ls ≡ map spelling ms → ls ≡ ms
 spellings_injective [] [] h k e = refl
@@ -54,13 +54,13 @@ game_of start o moves = record { start = start; outcome = o; moves = moves }
 pub one_submission : OneSubmission
 unfolding game_of
 one_submission s t s-id s-game t-id t-game same =
-    let cells = sym (four_parts s s-id s-game) ∙ ap (fields 9) same ∙ four_parts t t-id t-game in
+    let cells = sym (four_fields s s-id s-game) ∙ ap (fields 9) same ∙ four_fields t t-id t-game in
     let cell = λ (i : ℕ). ap (λ (w : List (List ℕ)). get_or w i []) cells in
     let ids : s.0 ≡ t.0 = cell 0 in
     let outcomes : s.1.outcome ≡ t.1.outcome = outcome_injective s.1.outcome t.1.outcome (cell 1) in
     let starts : s.1.start ≡ t.1.start = unique.one_record s.1.start t.1.start (fen_text s.1.start) s-game.start t-game.start refl (cell 2) in
-    let words : map spelling s.1.moves ≡ map spelling t.1.moves = sym (words_of_text s.1.moves) ∙ ap words_of (cell 3) ∙ words_of_text t.1.moves in
-    let moves : s.1.moves ≡ t.1.moves = spellings_injective s.1.moves t.1.moves s-game.moves t-game.moves words in
+    let tokens : map spelling s.1.moves ≡ map spelling t.1.moves = sym (tokens_of_text s.1.moves) ∙ ap tokens_of (cell 3) ∙ tokens_of_text t.1.moves in
+    let moves : s.1.moves ≡ t.1.moves = spellings_injective s.1.moves t.1.moves s-game.moves t-game.moves tokens in
     let P : List ℕ → Game → Submission = λ id g. (id, g) in
     ap (λ id. P id s.1) ids
     ∙ ap (λ f. P t.0 (game_of f s.1.outcome s.1.moves)) starts

@@ -12,16 +12,16 @@ use Rattle.pb_board.proofs.Unique.{one_record}
 use Rattle.pb_moves.specs.Played.{AreLegal, IsSpelled}
 use Rattle.pb_games.specs.declared.refusal.Refusal.{Refusal}
 use Rattle.pb_games.specs.declared.refusal.Refusal.TheVariants as refusal
-use Rattle.pb_games.specs.Header.{fields_of}
+use Rattle.pb_games.specs.Cuts.{fields_of}
 use Rattle.pb_games.specs.Refusing.{Refuses}
 use Rattle.pb_games.specs.Laws.{OneRefusal}
 use Rattle.pb_games.proofs.Dues.{IsDue, none_before, order}
 use Rattle.pb_games.proofs.OneLine.{spellings_injective}
 use Rattle.pb_games.proofs.Played.{legal_fronts}
 
--- ---- one place in the order
+-- ---- one position in the order
 
--- the refusal of a place in the order, with its number or its cause where it has one
+-- the refusal of a position in the order, with its number or its cause where it has one
 abbrev refusal_at : ℕ → ℕ → FenError → Refusal
 refusal_at zero n e = refusal.Memory
 refusal_at (suc zero) n e = refusal.Long
@@ -73,8 +73,8 @@ one_cause line (suc (suc (suc (suc (suc (suc (suc (suc zero)))))))) m n d e h j 
 one_cause line (suc (suc (suc (suc (suc (suc (suc (suc (suc zero))))))))) m n d e h j = ap (λ x. refusal.Illegal x) (illegal_is line m n h j)
 one_cause line (suc (suc (suc (suc (suc (suc (suc (suc (suc (suc k)))))))))) m n d e h j = refl
 
-same_place : (line : List ℕ) (d e : Refusal) → Refuses line d → Refuses line e → order d ≡ order e
-same_place line d e h k =
+same_position : (line : List ℕ) (d e : Refusal) → Refuses line d → Refuses line e → order d ≡ order e
+same_position line d e h k =
     elim (cases_lt (order d) (order e)) [
       | inl less ↦ absurd (none_before line e k d less h.due)
       | inr le ↦ elim (cases_lt (order e) (order d)) [ inl less ↦ absurd (none_before line d h e less k.due) | inr ge ↦ omega arith ]
@@ -82,10 +82,10 @@ same_place line d e h k =
 
 pub one_refusal : OneRefusal
 one_refusal line d e h k =
-    let place = same_place line d e h k in
+    let position = same_position line d e h k in
     let a = back line d h.due in
     let b = back line e k.due in
     let due_d : IsDue (refusal_at (order d) a.0 a.1) line = subst (λ x. IsDue x line) (sym a.2) h.due in
     let due_e : IsDue (refusal_at (order e) b.0 b.1) line = subst (λ x. IsDue x line) (sym b.2) k.due in
-    let due_e_too : IsDue (refusal_at (order d) b.0 b.1) line = subst (λ i. IsDue (refusal_at i b.0 b.1) line) (sym place) due_e in
-    sym a.2 ∙ one_cause line (order d) a.0 b.0 a.1 b.1 due_d due_e_too ∙ ap (λ i. refusal_at i b.0 b.1) place ∙ b.2
+    let due_e_too : IsDue (refusal_at (order d) b.0 b.1) line = subst (λ i. IsDue (refusal_at i b.0 b.1) line) (sym position) due_e in
+    sym a.2 ∙ one_cause line (order d) a.0 b.0 a.1 b.1 due_d due_e_too ∙ ap (λ i. refusal_at i b.0 b.1) position ∙ b.2

@@ -1,6 +1,7 @@
 -- What follows where a line is refused.
-use Rattle.std.proofs.Common.{◌≡◌, ℕ, List, [], ◌∷◌, length, map, slice_index_or, refl, sym, ap, subst, ◌∙◌, arith}
+use Rattle.std.proofs.Common.{◌≡◌, ℕ, List, [], ◌∷◌, Result, Ok, Err, length, map, slice_index_or, refl, sym, ap, subst, ◌∙◌, arith}
 use Rattle.std.specs.List.{All}
+use Rattle.std.specs.Prelude.{IfOk, IfErr}
 use Rattle.std.proofs.lemmas.List.{length-map}
 use Rattle.std.proofs.lemmas.List.Elements.{All-map, All-weaker}
 use Rattle.pb_board.specs.declared.refusal.FenError.TheVariants as fen
@@ -19,15 +20,14 @@ use Rattle.pb_moves.specs.Spelling.{spelling}
 use Rattle.pb_games.specs.declared.refusal.Refusal.{Refusal}
 use Rattle.pb_games.specs.declared.refusal.Refusal.TheVariants as refusal
 use Rattle.pb_games.specs.Ids.{IsId}
-use Rattle.pb_games.specs.Header.{fields_of}
-use Rattle.pb_games.specs.Refusing.{IsOfLine}
-use Rattle.pb_games.specs.Refusing.{SpellsStart}
+use Rattle.pb_games.specs.Cuts.{fields_of}
+use Rattle.pb_games.specs.Refusing.{IsOfLine, Refuses, SpellsStart}
 use Rattle.pb_games.specs.Results.{outcome_text}
 use Rattle.pb_games.specs.Submissions.{Submission, IsLawful, moves_text}
-use Rattle.pb_games.specs.Words.{words_of}
+use Rattle.pb_games.specs.Tokens.{tokens_of}
 use Rattle.pb_games.specs.Laws.{RefusedByItself, RefusedIsUnlawful}
 use Rattle.pb_games.proofs.Dues.{IsDue}
-use Rattle.pb_games.proofs.OneLine.{words_of_text, spellings_injective}
+use Rattle.pb_games.proofs.OneLine.{one_lawful, tokens_of_text, spellings_injective}
 use Rattle.pb_games.proofs.Texts.{fields_back, lawful_game, short_line}
 use Rattle.pb_games.proofs.Played.{legal_fronts}
 
@@ -57,8 +57,8 @@ module _ (line : List ℕ) (s : Submission) (h : IsLawful line s) where
   field_is : (i : ℕ) → field (fields_of line) i ≡ slice_index_or (s.0 ∷ outcome_text s.1.outcome ∷ fen_text s.1.start ∷ moves_text s.1.moves ∷ []) i []
   field_is i = ap (λ (w : List (List ℕ)). slice_index_or w i []) (fields_back line s h)
 
-  words_are : words_of (field (fields_of line) 3) ≡ map spelling s.1.moves
-  words_are = ap words_of (field_is 3) ∙ words_of_text s.1.moves
+  tokens_are : tokens_of (field (fields_of line) 3) ≡ map spelling s.1.moves
+  tokens_are = ap tokens_of (field_is 3) ∙ tokens_of_text s.1.moves
 
   start_is : (f : Record) → SpellsStart (fields_of line) f → f ≡ s.1.start
   start_is f k = one_record f s.1.start (fen_text s.1.start) k.0 h.start (sym (field_is 2) ∙ k.1) refl
@@ -72,10 +72,10 @@ module _ (line : List ℕ) (s : Submission) (h : IsLawful line s) where
       record_never_due s.1.start (fen_text s.1.start) e h.start refl (subst (λ t. IsFirstDue fen_errors e (fields 32 t)) (field_is 2) due)
   none_due refusal.Start due = due.2 (subst (λ (f : Record). IsPlayable f.setup) (sym (start_is due.0 due.1)) h.playable)
   none_due (refusal.Spelling n) due =
-      all_unbroken IsSpelled (map spelling s.1.moves) n (spelt_from_moves s.1.moves (lawful_game line s h).moves) (subst (λ ws. BreaksAt (All IsSpelled) ws n) words_are due)
-  none_due refusal.Plies due = omega (arith, due, ap length words_are, length-map s.1.moves spelling, h.few)
+      all_unbroken IsSpelled (map spelling s.1.moves) n (spelt_from_moves s.1.moves (lawful_game line s h).moves) (subst (λ ws. BreaksAt (All IsSpelled) ws n) tokens_are due)
+  none_due refusal.Plies due = omega (arith, due, ap length tokens_are, length-map s.1.moves spelling, h.few)
   none_due (refusal.Illegal n) due =
-      let moves = spellings_injective due.1 s.1.moves due.3.0 (lawful_game line s h).moves (due.3.1 ∙ words_are) in
+      let moves = spellings_injective due.1 s.1.moves due.3.0 (lawful_game line s h).moves (due.3.1 ∙ tokens_are) in
       let start : due.0.setup ≡ s.1.start.setup = ap (λ (f : Record). f.setup) (start_is due.0 due.2) in
       unbroken (AreLegal s.1.start.setup) (legal_fronts s.1.start.setup) s.1.moves n h.legal
       (subst (λ ms. BreaksAt (AreLegal s.1.start.setup) ms n) moves (subst (λ t. BreaksAt (AreLegal t) due.1 n) start due.4))
@@ -83,3 +83,8 @@ module _ (line : List ℕ) (s : Submission) (h : IsLawful line s) where
 
 pub unlawful : RefusedIsUnlawful
 unlawful line e s h lawful = none_due line s lawful e h.due
+
+-- where an answer is right, it is that of the game that the line submits
+pub only_one : (line : List ℕ) (r : Result Submission Refusal) → IfOk r (λ s. IsLawful line s) → IfErr r (λ e. Refuses line e) → (s : Submission) → IsLawful line s → r ≡ Ok s
+only_one line (Ok t) found refused s lawful = ap (λ x. Ok x) (one_lawful line t s found lawful)
+only_one line (Err e) found refused s lawful = absurd (unlawful line e s refused lawful)

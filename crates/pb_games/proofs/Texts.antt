@@ -1,4 +1,4 @@
--- The text of a submission: its bytes, its length, and the parts that a cut at every TAB gives
+-- The text of a submission: its bytes, its length, and the fields that a cut at every TAB gives
 -- back.
 use Rattle.std.proofs.Common.{◌≡◌, ◌≢◌, ◌⊎◌, ℕ, ◌<◌, ◌≤◌, eqb, List, [], ◌∷◌, ◌++◌, length, length-append, get_or, ap, ◌∙◌, inl, inr, arith, lit<}
 use Rattle.std.specs.List.{All, join_with_byte, slice_split}
@@ -7,22 +7,22 @@ use Rattle.std.proofs.lemmas.List.Elements.{All-nil, All-cons, All-append}
 use Rattle.pb_board.proofs.Joins.{Above, AllAbove, split_join}
 use Rattle.std.specs.Str.Lines.{strip_carriage_return}
 use Rattle.pb_board.specs.Text.{fen_text}
-use Rattle.pb_games.specs.Header.{fields_of}
+use Rattle.pb_games.specs.Cuts.{fields_of}
 use Rattle.pb_moves.specs.Moved.{IsMove, Moved}
 use Rattle.pb_moves.specs.Played.{AreLegal}
 use Rattle.pb_moves.specs.Successor.{after}
 use Rattle.pb_board.specs.Position.{Position}
 use Rattle.pb_games.specs.Results.{outcome_text}
 use Rattle.pb_games.specs.Submissions.{IsGame, IsLawful, IsSubmission, Submission, moves_text, submission_text}
-use Rattle.pb_games.specs.Laws.{TextIsShort, TextIsOneLine, PartsHaveNoTab}
+use Rattle.pb_games.specs.Laws.{TextIsShort, TextIsOneLine, FieldsHaveNoTab}
 use Rattle.pb_games.proofs.Bytes.{Above-weaker, id_above, result_above, result_short, fen_above, fen_short, moves_above, moves_short}
 use Rattle.pb_board.proofs.LineEnds.{cases_return, strip_push, strip_same}
 
 no_tab : (xs : List ℕ) → Above 31 xs → Above 9 xs
 no_tab xs h = Above-weaker 9 31 xs (omega arith) h
 
-pub four_parts : PartsHaveNoTab
-four_parts s id game =
+pub four_fields : FieldsHaveNoTab
+four_fields s id game =
     split_join 9 (s.0 ∷ outcome_text s.1.outcome ∷ fen_text s.1.start ∷ moves_text s.1.moves ∷ []) (
       no_tab s.0 (id_above s.0 id),
       (
@@ -34,16 +34,16 @@ four_parts s id game =
 abbrev IsPlain : ℕ → Type 0
 IsPlain b = (b ≢ 10) × (b ≢ 13)
 
-plain_part : (xs : List ℕ) → Above 31 xs → All IsPlain xs
-plain_part [] h = All-nil IsPlain
-plain_part (x ∷ xs) h = All-cons IsPlain x xs (λ e. omega (arith, h.0, e), λ e. omega (arith, h.0, e)) (plain_part xs h.1)
+plain_field : (xs : List ℕ) → Above 31 xs → All IsPlain xs
+plain_field [] h = All-nil IsPlain
+plain_field (x ∷ xs) h = All-cons IsPlain x xs (λ e. omega (arith, h.0, e), λ e. omega (arith, h.0, e)) (plain_field xs h.1)
 
-plain_join : (parts : List (List ℕ)) → AllAbove 31 parts → All IsPlain (join_with_byte 9 parts)
+plain_join : (cells : List (List ℕ)) → AllAbove 31 cells → All IsPlain (join_with_byte 9 cells)
 plain_join [] h = All-nil IsPlain
-plain_join (t ∷ []) h = plain_part t h.0
+plain_join (t ∷ []) h = plain_field t h.0
 plain_join (t ∷ u ∷ ts) h =
     let rest = join_with_byte 9 (u ∷ ts) in
-    All-append IsPlain t (9 ∷ rest) (plain_part t h.0) (All-cons IsPlain 9 rest (λ e. omega (arith, e), λ e. omega (arith, e)) (plain_join (u ∷ ts) h.1))
+    All-append IsPlain t (9 ∷ rest) (plain_field t h.0) (All-cons IsPlain 9 rest (λ e. omega (arith, e), λ e. omega (arith, e)) (plain_join (u ∷ ts) h.1))
 
 pub one_line : TextIsOneLine
 one_line s id game =
@@ -90,11 +90,11 @@ submits line s h is = record {
   legal = h.legal.legal;
 }
 
--- the fields of a line are the parts of what it submits
+-- the fields of a line are the fields of what it submits
 pub fields_back : (line : List ℕ) (s : Submission) (h : IsLawful line s) → fields_of line ≡ s.0 ∷ outcome_text s.1.outcome ∷ fen_text s.1.start ∷ moves_text s.1.moves ∷ []
 fields_back line s h =
     let Cut : List ℕ → List (List ℕ) = λ t. slice_split (λ b. eqb b 9) t in
-    ap Cut h.text ∙ four_parts s h.id (lawful_game line s h)
+    ap Cut h.text ∙ four_fields s h.id (lawful_game line s h)
 
 pub short_line : (line : List ℕ) (s : Submission) → IsLawful line s → length line ≤ 6312
 short_line line s h =

@@ -24,9 +24,9 @@ abbrev pub TextIsOneLine : Type 0
 TextIsOneLine =
     (s : Submission) → IsId s.0 → IsGame s.1 → All (λ b. (b ≢ 10) × (b ≢ 13)) (submission_text s)
 
--- no part of a text has a TAB: cutting at every TAB gives the parts back (Texts.four_parts)
-abbrev pub PartsHaveNoTab : Type 0
-PartsHaveNoTab =
+-- no field of a text has a TAB: cutting at every TAB gives the fields back (Texts.four_fields)
+abbrev pub FieldsHaveNoTab : Type 0
+FieldsHaveNoTab =
     (s : Submission) → IsId s.0 → IsGame s.1
     → fields tab (submission_text s) ≡ s.0 ∷ outcome_text s.1.outcome ∷ fen_text s.1.start
     ∷ moves_text s.1.moves ∷ []

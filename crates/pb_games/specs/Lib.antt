@@ -1,10 +1,10 @@
 pub mod Ids
-pub mod Words
+pub mod Tokens
 pub mod Results
 pub mod Submissions
 pub mod Refusing
-pub mod Header
-pub mod LineFields
+pub mod Cuts
+pub mod Lines
 pub mod Laws
 pub mod Reading
 pub mod Repeat

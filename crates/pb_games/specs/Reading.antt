@@ -1,4 +1,4 @@
--- What reading the words of a field and playing the moves that they spell comes to.
+-- What reading the tokens of a field and playing the moves that they spell comes to.
 use Rattle.std.specs.Prelude.{◌≡◌, ℕ, ◌≤◌, ◌<◌, List, length, All}
 use Rattle.pb_board.specs.Position.{Position}
 use Rattle.pb_board.specs.Refusal.{BreaksAt}
@@ -7,23 +7,23 @@ use Rattle.pb_games.specs.declared.outcome.Outcome.{Outcome}
 use Rattle.pb_games.specs.declared.refusal.Refusal.{Refusal}
 use Rattle.pb_games.specs.declared.refusal.Refusal.TheVariants as refusal
 use Rattle.pb_games.specs.declared.judge.TheConstants.{MAX_PLIES}
-use Rattle.pb_games.specs.Words.{words_of, moves_named}
+use Rattle.pb_games.specs.Tokens.{tokens_of, moves_spelt}
 
--- each word spells a move, they are this many and not too many, and the moves are legal one after
+-- each token spells a move, they are this many and not too many, and the moves are legal one after
 -- another
 pub record AreRead (start : Position) (field : List ℕ) (plies : ℕ) : Type 0 where
-  pub spelt : All IsSpelled (words_of field)
-  pub number : plies ≡ length (words_of field)
+  pub spelt : All IsSpelled (tokens_of field)
+  pub number : plies ≡ length (tokens_of field)
   pub few : plies ≤ MAX_PLIES
-  pub legal : AreLegal start (moves_named field)
+  pub legal : AreLegal start (moves_spelt field)
 
--- each word spells a move, they aren't too many, and the n-th is the first that isn't legal
+-- each token spells a move, they aren't too many, and the n-th is the first that isn't legal
 pub record IsStopped (start : Position) (field : List ℕ) (n : ℕ) : Type 0 where
-  pub spelt : All IsSpelled (words_of field)
-  pub few : length (words_of field) ≤ MAX_PLIES
-  pub first : BreaksAt (AreLegal start) (moves_named field) n
+  pub spelt : All IsSpelled (tokens_of field)
+  pub few : length (tokens_of field) ≤ MAX_PLIES
+  pub first : BreaksAt (AreLegal start) (moves_spelt field) n
 
--- the refusal that the words of the field get from this start
+-- the refusal that the tokens of the field get from this start
 abbrev pub AreRefused : Position → List ℕ → Refusal → Type 0
 AreRefused start field refusal.Long = ⊥
 AreRefused start field refusal.Shape = ⊥
@@ -31,9 +31,9 @@ AreRefused start field refusal.Id = ⊥
 AreRefused start field refusal.Result = ⊥
 AreRefused start field (refusal.Fen e) = ⊥
 AreRefused start field refusal.Start = ⊥
-AreRefused start field (refusal.Spelling n) = BreaksAt (All IsSpelled) (words_of field) n
+AreRefused start field (refusal.Spelling n) = BreaksAt (All IsSpelled) (tokens_of field) n
 AreRefused start field refusal.Plies =
-    All IsSpelled (words_of field) × (MAX_PLIES < length (words_of field))
+    All IsSpelled (tokens_of field) × (MAX_PLIES < length (tokens_of field))
 AreRefused start field (refusal.Illegal n) = IsStopped start field n
 AreRefused start field (refusal.Conflict n) = ⊥
 AreRefused start field refusal.Full = ⊥
@@ -42,4 +42,4 @@ AreRefused start field refusal.Memory = ⊥
 -- some plies of some game are held, which led here, and a further one isn't too many
 abbrev pub CanTake : (Outcome → List Ply → Position → Type 0) → Position → Type 0
 CanTake holds setup =
-    (outcome : Outcome) × (told : List Ply) × holds outcome told setup × (length told < MAX_PLIES)
+    (outcome : Outcome) × (known : List Ply) × holds outcome known setup × (length known < MAX_PLIES)

@@ -15,29 +15,29 @@ use Rattle.pb_games.specs.declared.refusal.Refusal.{Refusal}
 use Rattle.pb_games.specs.declared.refusal.Refusal.TheVariants as refusal
 use Rattle.pb_games.specs.Ids.{IsId}
 use Rattle.pb_games.specs.Results.{outcome_text}
-use Rattle.pb_games.specs.Words.{words_of}
+use Rattle.pb_games.specs.Tokens.{tokens_of}
 
--- the third of a line's parts spells the record, and these words spell the moves
+-- the third of a line's fields spells the record, and these tokens spell the moves
 abbrev pub SpellsStart : List (List ℕ) → Record → Type 0
-SpellsStart parts f = IsRecord f × (field parts 2 ≡ fen_text f)
+SpellsStart cells f = IsRecord f × (field cells 2 ≡ fen_text f)
 
 abbrev pub SpellsMoves : List (List ℕ) → List Moved → Type 0
-SpellsMoves words moves = All IsMove moves × (map spelling moves ≡ words)
+SpellsMoves tokens moves = All IsMove moves × (map spelling moves ≡ tokens)
 
 -- when each refusal is due; the three that are never due here look at more than the line
 abbrev pub IsDue : List ℕ → List (List ℕ) → Refusal → Type 0
-IsDue line parts refusal.Long = 8192 < length line
-IsDue line parts refusal.Shape = length parts ≢ 4
-IsDue line parts refusal.Id = ¬ IsId (field parts 0)
-IsDue line parts refusal.Result = (outcome : Outcome) → field parts 1 ≢ outcome_text outcome
-IsDue line parts (refusal.Fen e) = IsFirstOf fen_errors (IsDueFen (fields space (field parts 2))) e
-IsDue line parts refusal.Start = (f : Record) × SpellsStart parts f × ¬ IsPlayable f.setup
-IsDue line parts (refusal.Spelling n) = BreaksAt (All IsSpelled) (words_of (field parts 3)) n
-IsDue line parts refusal.Plies = 1024 < length (words_of (field parts 3))
-IsDue line parts (refusal.Illegal n) = (f : Record) × (moves : List Moved)
-    × SpellsStart parts f × SpellsMoves (words_of (field parts 3)) moves
+IsDue line cells refusal.Long = 8192 < length line
+IsDue line cells refusal.Shape = length cells ≢ 4
+IsDue line cells refusal.Id = ¬ IsId (field cells 0)
+IsDue line cells refusal.Result = (outcome : Outcome) → field cells 1 ≢ outcome_text outcome
+IsDue line cells (refusal.Fen e) = IsFirstOf fen_errors (IsDueFen (fields space (field cells 2))) e
+IsDue line cells refusal.Start = (f : Record) × SpellsStart cells f × ¬ IsPlayable f.setup
+IsDue line cells (refusal.Spelling n) = BreaksAt (All IsSpelled) (tokens_of (field cells 3)) n
+IsDue line cells refusal.Plies = 1024 < length (tokens_of (field cells 3))
+IsDue line cells (refusal.Illegal n) = (f : Record) × (moves : List Moved)
+    × SpellsStart cells f × SpellsMoves (tokens_of (field cells 3)) moves
     × BreaksAt (AreLegal f.setup) moves n
-IsDue line parts _ = ⊥
+IsDue line cells _ = ⊥
 
 -- in the order in which they are looked for: one has a cause, two have a number
 abbrev pub in_order : FenError → ℕ → ℕ → List Refusal

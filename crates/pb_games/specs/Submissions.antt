@@ -21,7 +21,7 @@ Submission = List ℕ × Game
 abbrev pub moves_text : List Moved → List ℕ
 moves_text moves = join_with_byte 32 (map spelling moves)
 
--- the bounds of a game's parts
+-- the bounds of a game
 pub record IsGame (g : Game) : Type 0 where
   pub start : IsRecord g.start
   pub moves : All IsMove g.moves

@@ -1,23 +1,58 @@
 //! The four fields of a line.
 
-ghost use Rattle.std.specs.Prelude.{◌≡◌, ◌≢◌, ◌≤◌, ◌∷◌, [], length, MatchOption, IfSome};
+ghost use Rattle.std.specs.Prelude.{◌≡◌, ◌≢◌, ◌≤◌, ◌∷◌, [], IfErr, IfOk, IfSome, length};
+ghost use Rattle.std.specs.Prelude.{MatchOption};
 ghost use Rattle.pb_board.specs.Fields.{fields, tab};
-ghost use Rattle.pb_games.specs.Header.{fields_of};
+ghost use Rattle.pb_games.specs.Cuts.{IsCut, fields_of};
+ghost use Rattle.pb_games.specs.Ids.{IsId};
+ghost use Rattle.pb_games.specs.Refusing.{Refuses};
 
+use crate::id::{Id, is_id};
+use crate::refusal::Refusal;
 use memchr::memchr;
 use pb_board::without_return;
 
-/// The fields of a line that is cut at every TAB.
+// A final CR counts.
+const MAX_BYTES: usize = 8192;
+
+/// Holds the four fields of a line.
 #[derive(Clone, Copy)]
-pub(crate) struct LineFields<'a> {
-    pub(crate) id: &'a [u8],
-    pub(crate) outcome: &'a [u8],
-    pub(crate) start: &'a [u8],
-    pub(crate) moves: &'a [u8],
+pub struct LineFields<'a> {
+    pub id: &'a [u8],
+    pub outcome: &'a [u8],
+    pub start: &'a [u8],
+    pub moves: &'a [u8],
 }
 
-/// The four fields of a line without one final CR, if they are four.
-pub(crate) fn cut_fields(line: &[u8]) -> Option<LineFields<'_>>
+impl LineFields<'_> {
+    /// Gives the id.
+    pub fn id(&self) -> Id
+        requires { IsId self.now.id.now }
+        ensures { result ≡ self.now.id.now }
+    {
+        Id::of(self.id)
+    }
+}
+
+/// Cuts a line, without its LF, into four fields of which the first is an id, or refuses it as
+/// `Long`, `Shape` or `Id`.
+pub fn cut_line(line: &[u8]) -> Result<LineFields<'_>, Refusal>
+    ensures cut { IfOk result (λ f. IsCut line.now f) }
+    ensures refused { IfErr result (λ e. Refuses line.now e) }
+{
+    if line.len() > MAX_BYTES {
+        return Err(Refusal::Long);
+    }
+    let Some(fields) = cut_fields(line) else {
+        return Err(Refusal::Shape);
+    };
+    if !is_id(fields.id) {
+        return Err(Refusal::Id);
+    }
+    Ok(fields)
+}
+
+fn cut_fields(line: &[u8]) -> Option<LineFields<'_>>
     ensures cut { MatchOption result (length (fields_of line.now) ≢ 4)
         (λ f. fields_of line.now ≡ f.id.now ∷ f.outcome.now ∷ f.start.now ∷ f.moves.now ∷ []) }
     ensures short { IfSome result (λ f. length f.moves.now ≤ length line.now) }
@@ -36,13 +71,10 @@ pub(crate) fn cut_fields(line: &[u8]) -> Option<LineFields<'_>>
     })
 }
 
-/// Cuts a text at its first TAB, into what stands before it and what stands after it. None exactly
-/// where it has none.
 fn cut_at_tab(text: &[u8]) -> Option<(&[u8], &[u8])>
     ensures { MatchOption result (fields tab text.now ≡ text.now ∷ [])
         (λ cut. fields tab text.now ≡ cut.0.now ∷ fields tab cut.1.now) }
 {
-    // A line can be long, and `memchr` looks at many bytes at a time.
     let at = memchr(b'\t', text)?;
     Some((&text[..at], &text[at + 1..]))
 }

@@ -1,46 +1,39 @@
 //! Ids of submissions.
 
-ghost use Rattle.std.specs.Prelude.{◌≡◌, ◌-◌, ◌≤◌, ◌↔◌, ◌++◌, All, IsTrue, Ok, length, replicate};
-ghost use Rattle.std.specs.Prelude.{SomeIff};
+ghost use Rattle.std.specs.Prelude.{◌≡◌, ◌≤◌, ◌↔◌, All, IsTrue, Ok, SomeIff, length};
 ghost use Rattle.std.specs.Cmp.Rules.{comparing, hashing};
 ghost use Rattle.std.specs.Str.{bytes_eq};
 ghost use Rattle.std.proofs.Common.{rules};
-ghost use Rattle.pb_board.specs.Padded.{padded as padded_text};
 ghost use Rattle.pb_games.specs.Ids.{IsId, IsPrintable, hashed};
 
+use pb_board::Text;
 use std::alloc::AllocError;
 use std::hash::{Hash, Hasher};
 use std::marker::Model;
 
-/// The most bytes of an id.
 const MAX_LEN: usize = 64;
 
-/// The id of a submission: 1 to 64 bytes of 33 to 126. It takes no memory of its own.
+/// Identifies a submission by 1 to 64 bytes of 33 to 126, and takes no memory of its own.
 pub struct Id {
-    bytes: [u8; MAX_LEN],
-    len: u8,
+    text: Text<MAX_LEN>,
 }
 
 impl Model for Id {
-    ghost use Rattle.std.specs.Prelude.{List, ℕ, take, length};
-    ghost use Rattle.pb_board.specs.Padded.{padded, IsPadded, padded-back};
+    ghost use Rattle.std.specs.Prelude.{List, ℕ, refl};
     ghost use Rattle.pb_games.specs.Ids.{IsId};
-    ghost use Rattle.pb_games.specs.declared.id.TheConstants.{MAX_LEN};
 
     ghost Value = { List ℕ };
 
-    ghost view = { λ a. take a.len a.bytes };
+    ghost view = { λ a. a.text };
 
-    ghost invariant = { λ a. IsId (take a.len a.bytes) × IsPadded MAX_LEN a.bytes a.len };
+    ghost invariant = { λ a. IsId a.text };
 
-    ghost inverse = { λ id. record { bytes = padded MAX_LEN id; len = length id } };
+    ghost inverse = { λ t. record { text = t } };
 
-    ghost inverse_ok = { λ a h. padded-back MAX_LEN (λ bytes len.
-        record { bytes = bytes; len = len }) a.bytes a.len h.1 };
+    ghost inverse_ok = { λ a h. refl };
 }
 
 impl Clone for Id {
-    /// The id again, which takes no memory.
     fn clone(&self) -> Result<Id, AllocError>
         ensures { result ≡ Ok self.now }
     {
@@ -51,8 +44,7 @@ impl Clone for Id {
 impl Copy for Id {}
 
 impl Id {
-    /// The id of these bytes. None exactly where they are fewer than 1 or more than 64, or one
-    /// isn't in 33 to 126.
+    /// Makes an id of 1 to 64 bytes of 33 to 126, and of no others.
     pub fn new(bytes: &[u8]) -> Option<Id>
         ensures { SomeIff result (IsId bytes.now) bytes.now }
     {
@@ -63,48 +55,34 @@ impl Id {
         }
     }
 
-    /// The id of bytes that are known to be one.
     pub(crate) fn of(bytes: &[u8]) -> Id
         requires { IsId bytes.now }
         ensures { result ≡ bytes.now }
     {
         Id {
-            bytes: padded(bytes),
-            len: bytes.len() as u8,
+            text: Text::of(bytes),
         }
     }
 
-    /// The bytes of the id.
+    /// Gives the bytes.
     pub fn as_bytes(&self) -> &[u8]
         ensures value { result.now ≡ self.now }
         ensures rules { IsId self.now }
     {
-        &self.bytes[..usize::from(self.len)]
+        self.text.as_bytes()
     }
 }
 
-/// Whether the bytes are an id.
 pub(crate) fn is_id(bytes: &[u8]) -> bool
     ensures { IsTrue result ↔ IsId bytes.now }
 {
     !bytes.is_empty() && bytes.len() <= MAX_LEN && are_printable(bytes)
 }
 
-/// Whether each byte is in 33 to 126.
 fn are_printable(bytes: &[u8]) -> bool
     ensures { IsTrue result ↔ All IsPrintable bytes.now }
 {
     bytes.iter().all(|byte| *byte >= 33 && *byte <= 126)
-}
-
-/// The bytes, and zeros after them.
-fn padded(bytes: &[u8]) -> [u8; MAX_LEN]
-    requires { length bytes.now ≤ MAX_LEN }
-    ensures { result ≡ padded_text MAX_LEN bytes.now }
-{
-    let mut kept = [0; MAX_LEN];
-    kept[..bytes.len()].copy_from_slice(bytes);
-    kept
 }
 
 impl PartialEq for Id {

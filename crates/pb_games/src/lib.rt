@@ -1,11 +1,9 @@
 //! Games as they are submitted, one line each: an id, a result, the record that the game starts
-//! from, and its moves. Each line is judged by itself; what is held and counted is the business of
-//! the crates above.
+//! from, and its moves.
 #![tactic(auto)]
 
 mod fields;
 mod game;
-mod header;
 mod id;
 mod judge;
 pub mod laws;
@@ -16,12 +14,13 @@ mod plies;
 mod refusal;
 mod repeat;
 mod start;
+mod tokens;
 mod visitor;
-mod words;
 
+pub use fields::{LineFields, cut_line};
 pub use game::Game;
 pub use id::Id;
-pub use judge::{MAX_PLIES, check_line, judge_line};
+pub use judge::{MAX_PLIES, check_line, judge_fields, judge_line};
 pub use line::Line;
 pub use move_list::MoveList;
 pub use outcome::Outcome;

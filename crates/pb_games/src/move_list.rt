@@ -5,7 +5,7 @@ ghost use Rattle.std.specs.Prelude.{◌≡◌};
 use pb_moves::Move;
 use std::marker::Model;
 
-/// The moves of a game in the order in which they are played.
+/// Lists the moves of a game in the order in which they are played.
 #[derive(Drop)]
 pub struct MoveList {
     moves: Vec<Move>,
@@ -21,14 +21,14 @@ impl Model for MoveList {
 }
 
 impl MoveList {
-    /// The list of these moves.
+    /// Makes a list of these moves.
     pub fn of(moves: Vec<Move>) -> MoveList
         ensures { result ≡ moves.items }
     {
         MoveList { moves }
     }
 
-    /// The moves.
+    /// Gives the moves.
     pub fn as_slice(&self) -> &[Move]
         ensures { result.now ≡ self.now }
     {

@@ -3,8 +3,8 @@
 ghost use Rattle.std.specs.Prelude.{◌≡◌, ◌≢◌, MatchOption};
 ghost use Rattle.pb_games.specs.Results.{outcome_text};
 
-/// How a game ended.
-#[derive(Clone, Copy, Debug, PartialEq, Eq, Hash)]
+/// Tells how a game ended.
+#[derive(Clone, Copy, Debug)]
 pub enum Outcome {
     /// White won, `1-0`.
     White,
@@ -15,7 +15,7 @@ pub enum Outcome {
 }
 
 impl Outcome {
-    /// The text of the result (PGN Standard 1994, section 8.1.1.7).
+    /// Gives the text of the result (PGN Standard 1994, section 8.1.1.7).
     pub fn text(self) -> &'static [u8]
         ensures { result.now ≡ outcome_text self }
     {
@@ -27,7 +27,6 @@ impl Outcome {
     }
 }
 
-/// The outcome that a result's text names (PGN Standard 1994, section 8.1.1.7), if it names one.
 pub(crate) fn read_outcome(text: &[u8]) -> Option<Outcome>
     ensures { MatchOption result
         ((outcome : Outcome) → text.now ≢ outcome_text outcome)

@@ -3,40 +3,38 @@
 ghost use Rattle.std.specs.Prelude.{◌≡◌, All};
 ghost use Rattle.std.specs.Iterator.{YieldsFirst, item_count};
 ghost use Rattle.pb_moves.specs.Played.{IsSpelled};
-ghost use Rattle.pb_games.specs.Words.{words_of, moves_named};
+ghost use Rattle.pb_games.specs.Tokens.{tokens_of, moves_spelt};
 
-use crate::words::Words;
+use crate::tokens::Tokens;
 use pb_moves::Move;
 use std::marker::Model;
 
-/// The moves of a line, one after another. They are read from the line's words again, and take no
-/// memory.
+/// Iterates over the moves of a line, which are read from it again, and takes no memory.
 #[derive(Drop)]
 pub struct Plies<'a> {
-    words: Words<'a>,
+    tokens: Tokens<'a>,
 }
 
 impl<'a> Model for Plies<'a> {
     ghost use Rattle.std.specs.Prelude.{List, map, All};
     ghost use Rattle.pb_moves.specs.Moved.{Moved};
     ghost use Rattle.pb_moves.specs.Played.{IsSpelled};
-    ghost use Rattle.pb_games.specs.Words.{move_named};
+    ghost use Rattle.pb_games.specs.Tokens.{move_spelt};
 
     ghost Value = { List Moved };
 
-    ghost view = { λ a. map move_named a.words };
+    ghost view = { λ a. map move_spelt a.tokens };
 
-    ghost invariant = { λ a. All IsSpelled a.words };
+    ghost invariant = { λ a. All IsSpelled a.tokens };
 }
 
 impl<'a> Plies<'a> {
-    /// The moves that the words of this field spell.
     pub(crate) fn of(field: &'a [u8]) -> Plies<'a>
-        requires { All IsSpelled (words_of field.now) }
-        ensures { result ≡ moves_named field.now }
+        requires { All IsSpelled (tokens_of field.now) }
+        ensures { result ≡ moves_spelt field.now }
     {
         Plies {
-            words: Words::of(field),
+            tokens: Tokens::of(field),
         }
     }
 }
@@ -51,6 +49,6 @@ impl Iterator for Plies<'_> {
     ghost remaining = { item_count (λ s. s) };
 
     fn next(&mut self) -> Option<Move> {
-        self.words.next_move()?
+        self.tokens.next_move()?
     }
 }

@@ -3,9 +3,9 @@
 use pb_board::FenError;
 use thiserror::Error;
 
-/// Why a submission is refused, in the order in which the causes are looked for. The first nine
-/// look at the line alone.
-#[derive(Clone, Copy, Debug, PartialEq, Eq, Hash, Error)]
+/// Tells why a submission is refused, in the order in which the causes are looked for. The first
+/// nine look at the line alone.
+#[derive(Clone, Copy, Debug, PartialEq, Eq, Error)]
 pub enum Refusal {
     /// The line has more than 8,192 bytes, a final CR counted.
     #[error("more than 8192 bytes")]
@@ -25,7 +25,7 @@ pub enum Refusal {
     /// The side that isn't to move at the start is in check.
     #[error("the side that isn't to move at the start is in check")]
     Start,
-    /// The first word of the fourth field, counted from 1, that spells no move.
+    /// The first token of the fourth field, counted from 1, that spells no move.
     #[error("word {0} of the moves spells no move")]
     Spelling(u32),
     /// There are more than 1,024 moves.

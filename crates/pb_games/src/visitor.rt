@@ -23,7 +23,7 @@ pub trait MoveVisitor {
     /// What it holds after these plies of a game with this outcome, which have led to this setup.
     ghost holds: { Self → Outcome → List Ply → Position → Type 0 };
 
-    /// The part that `begin` and `play` leave alone.
+    /// What `begin` and `play` leave alone.
     ghost fixed: { Self → List ℕ };
 
     /// Forgets what was played before: a game with this outcome begins here.
@@ -36,12 +36,11 @@ pub trait MoveVisitor {
         requires { CanTake (holds self.old) setup.old }
         ensures legal { IsTrue result ↔ Legal setup.old m }
         ensures played { IsTrue result → (setup.new ≡ after setup.old m) }
-        ensures told { IsTrue result → (o : Outcome) (ps : List Ply) → holds self.old o ps setup.old
-            → holds self.new o (ps ++ (setup.old, m) ∷ []) setup.new }
+        ensures holds { IsTrue result → (o : Outcome) (ps : List Ply)
+            → holds self.old o ps setup.old → holds self.new o (ps ++ (setup.old, m) ∷ []) setup.new }
         ensures fixed { fixed self.new ≡ fixed self.old };
 }
 
-/// A visitor that keeps nothing.
 #[derive(Drop)]
 pub(crate) struct NoVisitor;
 

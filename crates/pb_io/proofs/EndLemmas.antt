@@ -4,7 +4,7 @@ use Rattle.std.proofs.lemmas.List.{append-nil}
 use Rattle.std.specs.Io.KnownBytes.{Consumes, IsAtEnd}
 use Rattle.pb_io.specs.Source.{SourceState}
 use Rattle.pb_io.specs.Lines.{lines}
-use Rattle.pb_io.specs.LineTask.{AtEnd, AtEndedLine, AtFault, AtLine, AtNoEnd, IfTold, chunk_len}
+use Rattle.pb_io.specs.LineTask.{AtEnd, AtEndedLine, AtFault, AtLine, AtNoEnd, IfKnown, chunk_len}
 use Rattle.pb_io.proofs.LineLemmas.{length-ended_lines, length-lines}
 
 -- What follows of so few lines as may have come follows of those that came.
@@ -42,11 +42,11 @@ module _ (fills : ℕ) (old new : SourceState) (P Q : List (List ℕ) → Type 0
   AtLine-weaker (inr h) = inr (AtEnd-weaker h)
 
 -- A source that tells its bytes and is at its end gave all of them.
-told : (old new : Option (List ℕ)) (came : List ℕ) (P : List ℕ → Type 0) → Consumes old new came → IsAtEnd new → P came → IfSome old (λ bytes. (new ≡ Some []) × P bytes)
-told None new came P consumes ended h = tt
-told (Some bytes) None came P consumes ended h = absurd consumes
-told (Some bytes) (Some rest) came P consumes ended h =
+known : (old new : Option (List ℕ)) (came : List ℕ) (P : List ℕ → Type 0) → Consumes old new came → IsAtEnd new → P came → IfSome old (λ bytes. (new ≡ Some []) × P bytes)
+known None new came P consumes ended h = tt
+known (Some bytes) None came P consumes ended h = absurd consumes
+known (Some bytes) (Some rest) came P consumes ended h =
     (ap (λ (xs : List ℕ). Some xs) ended, subst P (sym (consumes ∙ ap (λ xs. came ++ xs) ended ∙ append-nil came)) h)
 
-pub told_of : (fills : ℕ) (old new : SourceState) (P : List (List ℕ) → Type 0) → AtEnd fills old new P → IfTold old new P
-told_of fills old new P h = told old.to_come new.to_come h.came (λ bytes. P (lines bytes)) h.reads.some.reads.bytes h.reads.ended h.done
+pub known_of : (fills : ℕ) (old new : SourceState) (P : List (List ℕ) → Type 0) → AtEnd fills old new P → IfKnown old new P
+known_of fills old new P h = known old.to_come new.to_come h.came (λ bytes. P (lines bytes)) h.reads.some.reads.bytes h.reads.ended h.done

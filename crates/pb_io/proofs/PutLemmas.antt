@@ -7,7 +7,7 @@ use Rattle.std.proofs.lemmas.List.{drop_more}
 use Rattle.std.specs.Io.KnownBytes.{Appends, Keeps}
 use Rattle.std.specs.Result.{IsErr}
 use Rattle.pb_io.specs.Sink.{Lasts, Put, SinkState}
-use Rattle.pb_io.specs.Parts.{parts_joined}
+use Rattle.pb_io.specs.Parts.{pieces_joined}
 
 -- what lasts, by two steps
 pub Lasts-trans : (old mid new : Option (List ℕ)) → Lasts old mid → Lasts mid new → Lasts old new
@@ -91,11 +91,11 @@ put_cut old new e answer a b failing put =
 
 -- the bytes from a part on
 pub parts_from : (parts : List (Bor (List ℕ))) (end : List ℕ) (i : ℕ) (d : Bor (List ℕ)) → i < length parts
-    → parts_joined (drop i parts) ++ end ≡ (get_or parts i d).now ++ (parts_joined (drop (i + 1) parts) ++ end)
+    → pieces_joined (drop i parts) ++ end ≡ (get_or parts i d).now ++ (pieces_joined (drop (i + 1) parts) ++ end)
 parts_from parts end i d below =
-    ap (λ ps. parts_joined ps ++ end) (drop_more parts i d below)
-    ∙ append_assoc (get_or parts i d).now (parts_joined (drop (i + 1) parts)) end
+    ap (λ ps. pieces_joined ps ++ end) (drop_more parts i d below)
+    ∙ append_assoc (get_or parts i d).now (pieces_joined (drop (i + 1) parts)) end
 
 -- after the last part
-pub parts_end : (parts : List (Bor (List ℕ))) (end : List ℕ) (i : ℕ) → length parts ≤ i → parts_joined (drop i parts) ++ end ≡ end
-parts_end parts end i past = ap (λ ps. parts_joined ps ++ end) (drop_of_length-le parts past)
+pub parts_end : (parts : List (Bor (List ℕ))) (end : List ℕ) (i : ℕ) → length parts ≤ i → pieces_joined (drop i parts) ++ end ≡ end
+parts_end parts end i past = ap (λ ps. pieces_joined ps ++ end) (drop_of_length-le parts past)

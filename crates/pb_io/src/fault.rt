@@ -11,30 +11,25 @@ use thiserror::Error;
 /// Why a source was not read to its end.
 #[derive(Clone, Copy, Debug, PartialEq, Eq, Error)]
 pub enum ReadFault {
-    /// The source has failed.
     #[error("the input has failed")]
     Read,
-    /// The fills were used up, and none was the end or a fault.
+    /// The fills were used up before the end.
     #[error("the input has no end")]
     Endless,
-    /// No memory for the buffers. Nothing was read.
+    /// No memory, and nothing was read.
     #[error("no memory")]
     Memory,
 }
 
-/// Why a run over sources and sinks could not go on to its end.
+/// Why a run over sources and sinks ended too soon.
 #[derive(Clone, Copy, Debug, PartialEq, Eq, Error)]
 pub enum Fault {
-    /// A source of bytes failed.
     #[error("a source of bytes failed")]
     Read,
-    /// A sink of bytes failed.
     #[error("a sink of bytes failed")]
     Write,
-    /// A source gave bytes as often as it could be asked, and still had not ended.
     #[error("a source of bytes didn't end")]
     Endless,
-    /// A growth of the run's own found no memory.
     #[error("no memory was found")]
     Memory,
 }
@@ -42,7 +37,7 @@ pub enum Fault {
 impl Fault {
     ghost use Rattle.pb_io.specs.Fault.{fault_word};
 
-    /// The word that stands for the fault: `read`, `write`, `endless` or `memory`.
+    /// Gives the word that stands for the fault.
     pub fn word(self) -> &'static str
         ensures { result.now ≡ fault_word self }
     {

@@ -1,13 +1,13 @@
-//! What was handed on, kept for contracts alone.
+//! What was handed on, for contracts alone.
 
 ghost use Rattle.std.specs.Prelude.{ℕ, ◌≡◌, List, [], ◌++◌};
 ghost use Rattle.std.specs.Borrow.{ftrue};
-ghost use Rattle.pb_io.specs.Sink.{told_or_none};
+ghost use Rattle.pb_io.specs.Sink.{known_or_none};
 
 use std::io::Write;
 use std::marker::{Model, PhantomData};
 
-/// The bytes that were handed on so far, of which nothing is kept: a list that only contracts know.
+/// The bytes that were handed on so far: a list that only contracts know.
 ///
 /// No memory holds the list, so the proofs of `new`, `of` and `add` alone say what it becomes, and
 /// they are written by hand. One more such proof could let an empty body set the list to anything.
@@ -17,7 +17,6 @@ use std::marker::{Model, PhantomData};
 #[derive(Drop)]
 pub struct History {
     marker: PhantomData<u8>,
-    /// The bytes, in order.
     pub ghost bytes: { List ℕ },
 }
 
@@ -26,7 +25,7 @@ impl Model for History {
 }
 
 impl History {
-    /// Nothing was handed on yet.
+    /// Begins with nothing handed on.
     #[inline(always)]
     pub fn new() -> History
         ensures { result.bytes ≡ [] }
@@ -36,17 +35,16 @@ impl History {
         }
     }
 
-    /// The writer was handed what it holds, where it tells that.
     #[inline(always)]
     pub(crate) fn of<W: Write>(_writer: &W) -> History
-        ensures { result.bytes ≡ told_or_none (W.contents _writer.now) }
+        ensures { result.bytes ≡ known_or_none (W.contents _writer.now) }
     {
         History {
             marker: PhantomData,
         }
     }
 
-    /// Notes that the bytes were handed on. Nothing is done with them.
+    /// Notes that the bytes were handed on.
     #[inline(always)]
     pub fn add(&mut self, _bytes: &[u8])
         ensures { self.new.bytes ≡ self.old.bytes ++ _bytes.now }

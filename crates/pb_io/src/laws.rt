@@ -1,5 +1,4 @@
-//! Laws of the lines of a stream, of the limits, and of equality (`==`) between failures and
-//! between faults. Each is the contract of a function that does nothing.
+//! Laws, each the contract of a function that does nothing.
 
 ghost use Rattle.std.specs.Prelude.{◌≡◌, ◌≤◌, ℕ, List, ◌++◌, length};
 ghost use Rattle.std.specs.Bool.{Decides};
@@ -9,22 +8,18 @@ ghost use Rattle.pb_io.specs.Reads.{chunk_len};
 ghost use Rattle.pb_io.specs.declared.fault.Fault.{Fault};
 ghost use Rattle.pb_io.specs.declared.fault.ReadFault.{ReadFault};
 ghost use Rattle.pb_io.specs.declared.lines.TheConstants.{LINE_LIMIT};
-ghost use Rattle.pb_io.specs.declared.source.Failed.{Failed};
 ghost use Rattle.pb_io.specs.declared.source.TheConstants.{CHUNK_LEN};
 
 use crate::fault::{Fault, ReadFault};
-use crate::source::Failed;
 
-/// The longest line that is kept, and how much room a source is given at a time, are the numbers
-/// that the definitions have.
+/// The limits are the numbers that the definitions have.
 pub fn limits()
     ensures line { LINE_LIMIT ≡ line_limit }
     ensures chunk { CHUNK_LEN ≡ chunk_len }
 {}
 
-/// Failures are equal (`==`), and faults exactly where they are one.
-pub fn equal_failures()
-    ensures failed { (e f : Failed) → Decides (⟦<Failed as PartialEq>⟧.eq e f) (e ≡ f) }
+/// `==` holds exactly where two faults are one.
+pub fn equal_faults()
     ensures read { (e f : ReadFault) → Decides (⟦<ReadFault as PartialEq>⟧.eq e f) (e ≡ f) }
     ensures fault { (e f : Fault) → Decides (⟦<Fault as PartialEq>⟧.eq e f) (e ≡ f) }
 {}

@@ -1,9 +1,7 @@
-//! Byte sources and sinks, and streams cut into lines. No chess, no format and no file name is
-//! known here.
+//! Byte sources and sinks, and streams cut into lines. No chess and no format is known here.
 #![tactic(auto)]
 
 mod fault;
-mod fuse;
 mod history;
 pub mod laws;
 mod line_buffer;
@@ -14,10 +12,9 @@ mod sink;
 mod source;
 
 pub use fault::{Fault, ReadFault};
-pub use fuse::{FuseSink, FuseSource, NeverSource};
 pub use history::History;
 pub use lines::{LINE_LIMIT, LineTask, take_ended_lines, take_lines};
 pub use null_sink::NullSink;
-pub use parts::put_parts;
+pub use parts::put_pieces;
 pub use sink::{MemSink, Sink, ToWrite};
-pub use source::{CHUNK_LEN, Failed, FromRead, MemSource, Source};
+pub use source::{CHUNK_LEN, Failed, FillCounts, FromRead, MemSource, Source};

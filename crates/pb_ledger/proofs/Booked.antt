@@ -1,19 +1,19 @@
 -- The book of a ledger, put stretch by stretch.
-use Rattle.std.proofs.Common.{◌≡◌, ◌∙◌, ◌⊎◌, ℕ, ◌<◌, Option, None, Some, List, [], ◌∷◌, ◌++◌, ◌+◌, ◌-◌, ◌^◌, min, length, get_or, take, drop, take-append-drop, All, Result, Ok, Err, ap, append_assoc, inl, inr, refl, subst, sym, arith}
+use Rattle.std.proofs.Common.{◌≡◌, ◌∙◌, ◌⊎◌, ℕ, ◌<◌, Option, None, Some, List, [], ◌++◌, ◌+◌, ◌-◌, ◌^◌, min, length, take, All, Result, Ok, Err, ap, append_assoc, inl, inr, refl, subst, sym, arith}
 use Rattle.std.specs.Prelude.{IfSome}
 use Rattle.std.specs.Io.KnownBytes.{Appends}
 use Rattle.std.specs.Result.{IsErr}
 use Rattle.std.proofs.KnownBytes.{Appends-nil, Appends-trans}
 use Rattle.std.proofs.Math.Seq.{take-append_seam}
-use Rattle.std.proofs.lemmas.List.{drop_more, length-append, take_more}
+use Rattle.std.proofs.lemmas.List.{length-append}
 use Rattle.pb_io.specs.Sink.{AwaitsFlush, Flush, Put, SinkState}
 use Rattle.pb_io.proofs.FlushLemmas.{AwaitsFlush-put, AwaitsFlush-trans}
 use Rattle.pb_io.proofs.PutLemmas.{Lasts-refl, Lasts-trans, front_more, put_failed}
 use Rattle.pb_io.proofs.WritesLemmas.{Writes-flushed, Writes-stopped}
 use Rattle.pb_poly.specs.Book.{book_bytes}
-use Rattle.pb_poly.specs.Entry.{IsEntry, entry_bytes}
+use Rattle.pb_poly.specs.Entry.{IsEntry}
 use Rattle.pb_poly.specs.declared.entry.Entry.{Entry}
-use Rattle.pb_poly.proofs.Entries.{book_bytes-append, book_bytes-push}
+use Rattle.pb_poly.proofs.Entries.{book_bytes-append}
 use Rattle.pb_accepted.specs.Counting.{IsBook, counted, stretch}
 use Rattle.pb_accepted.specs.Holding.{IsLedger}
 use Rattle.pb_accepted.specs.Ledger.{LedgerState}
@@ -22,8 +22,8 @@ use Rattle.pb_accepted.proofs.BookStretches.{front_stretch, joined_stretch, no_s
 use Rattle.pb_accepted.proofs.SomeBooks.{some_book_of_ledger}
 use Rattle.pb_ledger.proofs.Changes.{from_to}
 use Rattle.pb_ledger.specs.Booking.{PutsOn, WritesBook}
-use Rattle.pb_ledger.specs.declared.booking.WriteFault.{WriteFault}
-use Rattle.pb_ledger.specs.declared.booking.WriteFault.TheVariants as fault
+use Rattle.pb_export.specs.declared.exporting.ExportFault.{ExportFault}
+use Rattle.pb_export.specs.declared.exporting.ExportFault.TheVariants as fault
 
 -- ---- bytes that are put part by part
 
@@ -116,7 +116,7 @@ module _ (ledger : LedgerState) (old mid : SinkState) (count : ℕ) where
         let a = book_bytes (stretch 0 (Some first) h.book) in
         let cut : a ++ (book_bytes entries ++ book_bytes rest.0) ≡ book_bytes h.book =
         sym (append_assoc a (book_bytes entries) (book_bytes rest.0)) ∙ ap (λ l. l ++ book_bytes rest.0) joined ∙ sym (book_bytes-append (stretch 0 next h.book) rest.0) ∙ ap book_bytes rest.1 in
-        let answer : Result (Unit {0}) WriteFault = Err fault.Write in (
+        let answer : Result (Unit {0}) ExportFault = Err fault.Write in (
           book_bytes h.book,
           min (length h.book) (2 ^ 64 - 1),
           (h.book, h.is, record { bounds = h.bounds; are = refl }, refl),

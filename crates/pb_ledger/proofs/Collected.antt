@@ -23,7 +23,7 @@ use Rattle.pb_accepted.specs.Replies.{replies, reply_line}
 use Rattle.pb_ledger.specs.Streams.{AtLast}
 use Rattle.pb_ledger.specs.Collecting.{Collects, CollectsButOne, CollectsCounted, CollectsStream, Leads}
 use Rattle.pb_ledger.proofs.Changes.{from_to}
-use Rattle.pb_ledger.specs.Collector.{Answered, KeepsLent, CollectsLine, Unkept, with_answer}
+use Rattle.pb_ledger.specs.Collector.{Answered, SameLent, CollectsLine, Unkept, with_answer}
 use Rattle.pb_ledger.specs.Journaling.{CollectsUnkept, Gains, JournalsUntil}
 use Rattle.pb_ledger.specs.declared.collector.Collector.{Collector}
 use Rattle.pb_ledger.specs.declared.journaling.JournalFault.{JournalFault}
@@ -93,8 +93,8 @@ module _ {T K J W : Type 0} (state : K → SinkState) (kept : J → SinkState) w
   abbrev GainsTo : Collector T K J W → Collector T K J W → Type 0
   GainsTo s t = Gains (from_to (kept s.journal.now) (kept t.journal.now)) (from_to s.ledger.now t.ledger.now)
 
-  KeepsLent-trans : (s m t : Collector T K J W) → KeepsLent s m → KeepsLent m t → KeepsLent s t
-  KeepsLent-trans s m t first next =
+  SameLent-trans : (s m t : Collector T K J W) → SameLent s m → SameLent m t → SameLent s t
+  SameLent-trans s m t first next =
       record { ledger = next.ledger ∙ first.ledger; sink = next.sink ∙ first.sink; journal = next.journal ∙ first.journal }
 
   -- ---- lines that were taken
@@ -107,7 +107,7 @@ module _ {T K J W : Type 0} (state : K → SinkState) (kept : J → SinkState) w
         → Grows (length s.ledger.now.accepted) (length t.ledger.now.accepted) s.totals t.totals (length ls) (count_by is_err collects.answers)
     awaits : AwaitsFlush (Sink s) (Sink t)
     gains : GainsTo s t
-    same : KeepsLent s t
+    same : SameLent s t
 
   taken_of : (s t : Collector T K J W) (ls : List (List ℕ)) → TakesAll (CollectsLine state kept) s ls t → Taken s t ls
   taken_of s t [] h = let P : Collector T K J W → Type 0 = λ x. Taken s x [] in subst P (sym h) (record {
@@ -138,7 +138,7 @@ module _ {T K J W : Type 0} (state : K → SinkState) (kept : J → SinkState) w
             };
         awaits = AwaitsFlush-trans (Sink s) (Sink m) (Sink t) (AwaitsFlush-put (Sink s) (Sink m) tt (reply_line line one.answer) one.put) rest.awaits;
         gains = Gains-trans _ _ _ _ _ _ one.gains rest.gains;
-        same = KeepsLent-trans s m t one.same rest.same;
+        same = SameLent-trans s m t one.same rest.same;
       }
 
   -- ---- lines that were taken, and one more whose reply couldn't be put
@@ -164,7 +164,7 @@ module _ {T K J W : Type 0} (state : K → SinkState) (kept : J → SinkState) w
     fails : (Sink t).failed ≡ true
     flushes : (Sink t).flushes ≡ (Sink s).flushes
     gains : GainsTo s t
-    same : KeepsLent s t
+    same : SameLent s t
 
   reply_stops : (s t : Collector T K J W) (ls : List (List ℕ)) → StopsAtLast (CollectsLine state kept) s ls (Lines fault.Write) t → StoppedAt s t ls
   reply_stops s t ls h =
@@ -179,7 +179,7 @@ module _ {T K J W : Type 0} (state : K → SinkState) (kept : J → SinkState) w
         fails = last.put.failed;
         flushes = last.put.flushes ∙ not_flushed (Sink s) (Sink m) taken.awaits;
         gains = Gains-trans _ _ _ _ _ _ taken.gains last.gains;
-        same = KeepsLent-trans s m t taken.same last.same;
+        same = SameLent-trans s m t taken.same last.same;
       }
 
   -- ---- lines of which the last one brought a game that the journal didn't take
@@ -187,7 +187,7 @@ module _ {T K J W : Type 0} (state : K → SinkState) (kept : J → SinkState) w
   record Unjournaled (s t : Collector T K J W) (ls : List (List ℕ)) : Type 0 where
     unkept : AtLast (CollectsUnkept (from_to (Sink s) (Sink t)) (from_to (kept s.journal.now) (kept t.journal.now)) (from_to s.ledger.now t.ledger.now)) ls
     awaits : AwaitsFlush (Sink s) (Sink t)
-    same : KeepsLent s t
+    same : SameLent s t
 
   journal_stops : (s t : Collector T K J W) (ls : List (List ℕ)) → StopsAtLast (CollectsLine state kept) s ls Journal t → Unjournaled s t ls
   journal_stops s t ls h =
@@ -210,7 +210,7 @@ module _ {T K J W : Type 0} (state : K → SinkState) (kept : J → SinkState) w
           };
         };
         awaits = subst (λ (x : MutBor K). AwaitsFlush (Sink s) (state x.now)) (sym last.same_sink) taken.awaits;
-        same = KeepsLent-trans s m t taken.same last.same;
+        same = SameLent-trans s m t taken.same last.same;
       }
 
   -- ---- the whole of a stream
@@ -309,21 +309,21 @@ module _ {T K J W : Type 0} (state : K → SinkState) (kept : J → SinkState) w
 
     -- the ledger, the sink and the journal are the same, however the lines ended
 
-    pub kept_stream : TakesStream (CollectsLine state kept) fills old new s t → KeepsLent s t
+    pub kept_stream : TakesStream (CollectsLine state kept) fills old new s t → SameLent s t
     kept_stream h = (taken_of s t (lines h.came) h.done).same
 
-    kept_read : (read : ReadFault) → ReadUntil (CollectsLine state kept) fills old new s t read → KeepsLent s t
-    kept_read Memory h = subst (λ (x : Collector T K J W). KeepsLent s x) (sym h.1) (record { ledger = refl; sink = refl; journal = refl })
+    kept_read : (read : ReadFault) → ReadUntil (CollectsLine state kept) fills old new s t read → SameLent s t
+    kept_read Memory h = subst (λ (x : Collector T K J W). SameLent s x) (sym h.1) (record { ledger = refl; sink = refl; journal = refl })
     kept_read Read h = (taken_of s t (ended_lines h.came) h.done).same
     kept_read Endless h = (taken_of s t (ended_lines h.came) h.done).same
 
-    kept_line : (e : JournalFault) → AtLine fills old new (λ ls. StopsAtLast (CollectsLine state kept) s ls e t) → KeepsLent s t
-    kept_line (Lines fault.Write) h = at_line _ (KeepsLent s t) (λ ls stops. (reply_stops s t ls stops).same) h
-    kept_line Journal h = at_line _ (KeepsLent s t) (λ ls stops. (journal_stops s t ls stops).same) h
+    kept_line : (e : JournalFault) → AtLine fills old new (λ ls. StopsAtLast (CollectsLine state kept) s ls e t) → SameLent s t
+    kept_line (Lines fault.Write) h = at_line _ (SameLent s t) (λ ls stops. (reply_stops s t ls stops).same) h
+    kept_line Journal h = at_line _ (SameLent s t) (λ ls stops. (journal_stops s t ls stops).same) h
     kept_line (Lines fault.Read) h = absurd (at_line _ ⊥ (λ ls stops. stops.5) h)
     kept_line (Lines fault.Endless) h = absurd (at_line _ ⊥ (λ ls stops. stops.5) h)
     kept_line (Lines fault.Memory) h = absurd (at_line _ ⊥ (λ ls stops. stops.5) h)
 
-    pub kept_until : (e : JournalFault) → TakesUntil Gives (CollectsLine state kept) fills old new s t e → KeepsLent s t
+    pub kept_until : (e : JournalFault) → TakesUntil Gives (CollectsLine state kept) fills old new s t e → SameLent s t
     kept_until e (inl h) = kept_read h.0 h.2
     kept_until e (inr h) = kept_line e h

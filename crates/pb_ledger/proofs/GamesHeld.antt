@@ -15,7 +15,7 @@ use Rattle.pb_io.specs.Lines.{ended_lines, is_torn, last_piece, line_feed, line_
 use Rattle.pb_io.proofs.LineLemmas.{IsQuiet, is_line_feed, ended_lines-ended, ended_lines-quiet}
 use Rattle.pb_games.specs.declared.refusal.Refusal.{Refusal}
 use Rattle.pb_games.specs.declared.refusal.Refusal.TheVariants as refusal
-use Rattle.pb_games.specs.Header.{fields_of}
+use Rattle.pb_games.specs.Cuts.{fields_of}
 use Rattle.pb_games.specs.Refusing.{IsDue, Refuses}
 use Rattle.pb_games.specs.Submissions.{IsLawful, IsSubmission, Submission, submission_text}
 use Rattle.pb_games.proofs.Texts.{fields_back, lawful_submission, short_line}

@@ -17,7 +17,7 @@ use Rattle.pb_games.specs.declared.refusal.Refusal.{Refusal}
 use Rattle.pb_games.specs.declared.refusal.Refusal.TheVariants.{Long, Memory, Shape}
 use Rattle.std.specs.Str.Lines.{strip_carriage_return}
 use Rattle.pb_board.proofs.LineEnds.{strip_same}
-use Rattle.pb_games.specs.Header.{fields_of}
+use Rattle.pb_games.specs.Cuts.{fields_of}
 use Rattle.pb_games.specs.Refusing.{Refuses}
 use Rattle.pb_games.specs.Submissions.{IsSubmission, Submission, submission_text}
 use Rattle.pb_games.proofs.Dues.{first_due, none_at_first}

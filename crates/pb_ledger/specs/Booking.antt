@@ -9,8 +9,8 @@ use Rattle.pb_accepted.specs.Counting.{IsBook, counted}
 use Rattle.pb_accepted.specs.Ledger.{LedgerState}
 use Rattle.pb_ledger.specs.Change.{Change, across}
 use Rattle.pb_ledger.specs.Streams.{Puts}
-use Rattle.pb_ledger.specs.declared.booking.WriteFault.{WriteFault}
-use Rattle.pb_ledger.specs.declared.booking.WriteFault.TheVariants as fault
+use Rattle.pb_export.specs.declared.exporting.ExportFault.{ExportFault}
+use Rattle.pb_export.specs.declared.exporting.ExportFault.TheVariants as fault
 
 -- these are the bytes of the book of the games that are held, and this is how many entries it has,
 -- or 2 ^ 64 - 1 where it has more
@@ -30,12 +30,12 @@ pub record PutsOn (sink : Change SinkState) (bytes : List ℕ) : Type 0 where
 -- What a call does that puts bytes and then flushes once, and may want memory on the way: all of
 -- these bytes were put and then handed on; or the sink has failed, or memory was wanting, and of
 -- these bytes a front was put.
-abbrev pub WritesOrWants : {A : Type 0} → Change SinkState → Result A WriteFault → List ℕ → Type 0
+abbrev pub WritesOrWants : {A : Type 0} → Change SinkState → Result A ExportFault → List ℕ → Type 0
 WritesOrWants sink (Err fault.Memory) bytes = (count : ℕ) × PutsOn sink (take count bytes)
 WritesOrWants sink answer bytes =
     across Writes sink (result_map_both (λ _. tt) (λ e. e) answer) bytes
 
 -- what a call does that writes the book, and answers how many entries it has
-abbrev pub WritesBook : LedgerState → Change SinkState → Result ℕ WriteFault → Type 0
+abbrev pub WritesBook : LedgerState → Change SinkState → Result ℕ ExportFault → Type 0
 WritesBook ledger sink answer = (bytes : List ℕ) × (count : ℕ) × BookText ledger bytes count
     × WritesOrWants sink answer bytes × IfOk answer (λ n. n ≡ count)

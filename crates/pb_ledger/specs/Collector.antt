@@ -27,7 +27,7 @@ with_answer totals (Err e) is_new =
     record totals { lines = next_count totals.lines; refused = next_count totals.refused }
 
 -- the same ledger, sink and journal are lent
-pub record KeepsLent {T K J W : Type 0} (s t : Collector T K J W) : Type 0 where
+pub record SameLent {T K J W : Type 0} (s t : Collector T K J W) : Type 0 where
   pub ledger : t.ledger.ghost_name ≡ s.ledger.ghost_name
   pub sink : t.sink.ghost_name ≡ s.sink.ghost_name
   pub journal : t.journal.ghost_name ≡ s.journal.ghost_name
@@ -44,7 +44,7 @@ pub record Answered {T K J W : Type 0} (state : K → SinkState) (kept : J → S
   pub put : Put (state s.sink.now) (state t.sink.now) result (reply_line line answer)
   pub gains : Gains (between kept s.journal.now t.journal.now)
       (record { old = s.ledger.now; new = t.ledger.now })
-  pub same : KeepsLent s t
+  pub same : SameLent s t
 
 -- The line brought a game, whose line wasn't written to the journal; and no reply was put.
 pub record Unkept {T K J W : Type 0} (kept : J → SinkState) (s : Collector T K J W) (line : List ℕ)
@@ -56,7 +56,7 @@ pub record Unkept {T K J W : Type 0} (kept : J → SinkState) (s : Collector T K
   pub breaks : Writes (kept s.journal.now) (kept t.journal.now) (Err Journal)
       (with_end (submission_text game))
   pub same_sink : t.sink ≡ s.sink
-  pub same : KeepsLent s t
+  pub same : SameLent s t
 
 -- what became of the line: it stops the collector where its reply couldn't be put, or the line of
 -- its game

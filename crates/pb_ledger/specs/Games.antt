@@ -10,7 +10,7 @@ use Rattle.pb_io.specs.Sink.{AwaitsFlush, SinkState}
 use Rattle.pb_io.specs.Source.{SourceState}
 use Rattle.pb_io.specs.declared.fault.Fault.{Fault}
 use Rattle.pb_io.specs.declared.fault.Fault.TheVariants.{Read, Write, Endless, Memory}
-use Rattle.pb_games.specs.Header.{fields_of}
+use Rattle.pb_games.specs.Cuts.{fields_of}
 use Rattle.pb_ledger.specs.Change.{Change, IsSame, across}
 use Rattle.pb_ledger.specs.Streams.{AllCame, AtLast, Fails, HandsOn, Puts}
 

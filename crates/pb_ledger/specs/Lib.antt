@@ -37,7 +37,7 @@ pub use Rattle.pb_games.specs.Laws as LineLaws
 pub use Rattle.pb_games.specs.Refusing
 pub use Rattle.pb_games.specs.Results
 pub use Rattle.pb_games.specs.Submissions
-pub use Rattle.pb_games.specs.Words
+pub use Rattle.pb_games.specs.Tokens
 pub use Rattle.pb_points.specs.ListTally
 pub use Rattle.pb_points.specs.Rows
 pub use Rattle.pb_points.specs.Tally

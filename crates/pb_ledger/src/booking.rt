@@ -5,50 +5,22 @@ ghost use Rattle.pb_io.specs.Sink.{Put};
 ghost use Rattle.pb_poly.specs.Book.{book_bytes};
 ghost use Rattle.pb_ledger.specs.Booking.{PutsOn, WritesBook};
 ghost use Rattle.pb_ledger.specs.Change.{between};
-ghost use Rattle.pb_ledger.specs.declared.booking.WriteFault.TheVariants as fault;
 
 use pb_accepted::Ledger;
+pub use pb_export::ExportFault as WriteFault;
 use pb_io::{Failed, Sink};
 use pb_points::Tally;
 use pb_poly::{ENTRIES_AT_ONCE, Entry, write_entries};
-use std::alloc::{AllocError, Global};
-use thiserror::Error;
+use std::alloc::Global;
 
-/// Why bytes were not written to their end.
-#[derive(Clone, Copy, Debug, Error)]
-pub enum WriteFault {
-    /// The sink has failed.
-    #[error("the sink has failed")]
-    Write,
-    /// There was no memory for what was to be written next.
-    #[error("no memory is left")]
-    Memory,
-}
-
-impl From<AllocError> for WriteFault {
-    ghost from_gives = { λ e x. x ≡ fault.Memory };
-
-    fn from(_: AllocError) -> WriteFault {
-        WriteFault::Memory
-    }
-}
-
-impl From<Failed> for WriteFault {
-    ghost from_gives = { λ e x. x ≡ fault.Write };
-
-    fn from(_: Failed) -> WriteFault {
-        WriteFault::Write
-    }
-}
-
-/// Writes the opening book of the games that are held, and flushes. The answer is how many entries
-/// it has, or 2^64 - 1 where it has more. The entries of one stretch of keys at a time are listed,
-/// and never all of them.
+/// Writes the opening book of the games that are held, and flushes. It answers how many entries the
+/// book has, or 2^64 - 1 where it has more, and lists the entries of one stretch of keys at a time,
+/// never all of them.
 ///
 /// # Errors
 ///
 /// The first of the sink's fault and want of memory that is met. A front of the bytes may have been
-/// put then, and isn't flushed.
+/// put then.
 pub fn save_book<T: Tally, K: Sink>(
     alloc: Global,
     ledger: &Ledger<T>,
@@ -69,7 +41,6 @@ pub fn save_book<T: Tally, K: Sink>(
     Ok(count)
 }
 
-/// Puts the bytes of the entries in order.
 fn put_entries<K: Sink>(sink: &mut K, entries: &[Entry]) -> Result<(), Failed>
     ensures ok { OnOk result (PutsOn (between K.state sink.old sink.new) (book_bytes entries.now)) }
     ensures err { OnErr result (Put (K.state sink.old) (K.state sink.new) result

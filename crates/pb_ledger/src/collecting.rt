@@ -1,7 +1,7 @@
 //! Submissions in, replies out.
 
 ghost use Rattle.std.specs.Prelude.{IfErr, IfOk};
-ghost use Rattle.pb_io.specs.LineTask.{IfTold};
+ghost use Rattle.pb_io.specs.LineTask.{IfKnown};
 ghost use Rattle.pb_ledger.specs.Change.{across, between};
 ghost use Rattle.pb_ledger.specs.Collecting.{CollectsCounted, CollectsStream, CollectsUntil};
 
@@ -14,18 +14,14 @@ use pb_io::{NullSink, Sink, Source};
 use pb_points::Tally;
 use std::alloc::Global;
 
-/// Submits the lines of the source in order, puts the reply to each as it is taken, and flushes at
-/// the end. It answers what became of the lines.
-///
-/// A line ends at an LF, and a piece that no LF ended is a line at the end of input, and not at a
-/// fault. A line of more than 8,192 bytes is refused as `Long` and not kept.
+/// Submits the lines of the source in order, puts the reply to each as it is taken, flushes at the
+/// end, and answers what became of the lines.
 ///
 /// # Errors
 ///
-/// `Memory` comes only before the first fill; a submission that wants memory is refused as `Memory`
-/// in its reply. After the other faults the ledger holds what the lines so far brought: at `Read`
-/// and `Endless` the lines that an LF ended were taken and answered, and at `Write` the ledger
-/// holds also what the line brought whose reply couldn't be put.
+/// `Memory` comes only before the first fill: a submission that wants memory is refused in its
+/// reply. After another fault the ledger holds what the lines so far brought, at `Write` also that
+/// of the line whose reply failed.
 pub fn collect<T: Tally, In: Source, Out: Sink>(
     alloc: Global,
     source: &mut In,
@@ -33,14 +29,11 @@ pub fn collect<T: Tally, In: Source, Out: Sink>(
     ledger: &mut Ledger<T>,
     fills: u32,
 ) -> Result<Totals, CollectFault>
-    // All lines were taken and answered, and the replies were handed on, once.
     ensures ok { IfOk result (CollectsStream fills (between In.state source.old source.new)
         (between Out.state sink.old sink.new) (record { old = ledger.old; new = ledger.new })) }
-    // They are the lines of all bytes that the source tells.
-    ensures told { IfOk result (λ totals. across IfTold (between In.state source.old source.new)
+    ensures told { IfOk result (λ totals. across IfKnown (between In.state source.old source.new)
         (CollectsCounted (between Out.state sink.old sink.new)
         (record { old = ledger.old; new = ledger.new }) totals)) }
-    // The lines taken before a fault, and where the fault lies.
     ensures fault { IfErr result (CollectsUntil fills (between In.state source.old source.new)
         (between Out.state sink.old sink.new) (record { old = ledger.old; new = ledger.new })) }
 {
@@ -62,7 +55,7 @@ pub fn collect_watched<T: Tally, In: Source, Out: Sink, Watch: Watcher>(
 ) -> Result<Totals, CollectFault>
     ensures ok { IfOk result (CollectsStream fills (between In.state source.old source.new)
         (between Out.state sink.old sink.new) (record { old = ledger.old; new = ledger.new })) }
-    ensures told { IfOk result (λ totals. across IfTold (between In.state source.old source.new)
+    ensures told { IfOk result (λ totals. across IfKnown (between In.state source.old source.new)
         (CollectsCounted (between Out.state sink.old sink.new)
         (record { old = ledger.old; new = ledger.new }) totals)) }
     ensures fault { IfErr result (CollectsUntil fills (between In.state source.old source.new)

@@ -10,7 +10,7 @@ ghost use Rattle.pb_io.specs.Writes.{Writes};
 ghost use Rattle.pb_io.specs.declared.fault.Fault.TheVariants.{Write};
 ghost use Rattle.pb_ledger.specs.Change.{between};
 ghost use Rattle.pb_ledger.specs.Collecting.{CollectsStream};
-ghost use Rattle.pb_ledger.specs.Collector.{KeepsLent, with_answer};
+ghost use Rattle.pb_ledger.specs.Collector.{SameLent, with_answer};
 ghost use Rattle.pb_ledger.specs.Journaling.{Gains, JournalsUntil};
 ghost use Rattle.pb_ledger.specs.declared.journaling.JournalFault.TheVariants.{Journal, Lines};
 
@@ -20,12 +20,11 @@ use crate::watcher::Watcher;
 use pb_accepted::{Accepted, Ledger, Reply};
 use pb_board::without_return;
 use pb_games::Refusal;
-use pb_io::{Failed, LineTask, Sink, Source, put_parts, take_lines};
+use pb_io::{Failed, LineTask, Sink, Source, put_pieces, take_lines};
 use pb_points::Tally;
 use std::alloc::Global;
 
-/// Submits lines and counts them, puts the lines of new games on a journal, and only then their
-/// replies.
+/// Puts the lines of new games on a journal, and only then their replies.
 #[derive(Drop)]
 pub(crate) struct Collector<'l, 's, 'j, 'w, T: Tally, K, J, W> {
     pub(crate) ledger: &'l mut Ledger<T>,
@@ -36,7 +35,6 @@ pub(crate) struct Collector<'l, 's, 'j, 'w, T: Tally, K, J, W> {
 }
 
 impl<T: Tally, K: Sink, J: Sink, W: Watcher> Collector<'_, '_, '_, '_, T, K, J, W> {
-    /// Counts a line, puts its reply, at once, and tells the watcher of it.
     fn reply(&mut self, line: &[u8], answer: Result<Accepted, Refusal>) -> Result<(), JournalFault>
         requires { length (named line.now (answer_of answer)) ≤ 64 }
         ensures counted { self.new.totals ≡ with_answer self.old.totals (answer_of answer)
@@ -64,7 +62,6 @@ impl<T: Tally, K: Sink, J: Sink, W: Watcher> LineTask for Collector<'_, '_, '_, 
 
     fn take(&mut self, line: &[u8]) -> Result<(), JournalFault> {
         let answer = self.ledger.submit_full(line);
-        // A game is on the journal before its reply is on its way.
         if brings_game(answer) {
             journal_line(self.journal, line)?;
         }
@@ -77,7 +74,6 @@ impl<T: Tally, K: Sink, J: Sink, W: Watcher> LineTask for Collector<'_, '_, '_, 
 }
 
 impl<T: Tally, K: Sink, J: Sink, W: Watcher> Collector<'_, '_, '_, '_, T, K, J, W> {
-    /// Takes the lines of the source, and hands on their replies.
     pub(crate) fn take_all<S: Source>(
         &mut self,
         alloc: Global,
@@ -94,7 +90,7 @@ impl<T: Tally, K: Sink, J: Sink, W: Watcher> Collector<'_, '_, '_, '_, T, K, J, 
             (between K.state self.old.sink.now self.new.sink.now)
             (between J.state self.old.journal.now self.new.journal.now)
             (record { old = self.old.ledger.now; new = self.new.ledger.now })) }
-        ensures same { KeepsLent self.old self.new }
+        ensures same { SameLent self.old self.new }
     {
         take_lines(alloc, source, self, fills)?;
         self.sink.flush()?;
@@ -102,15 +98,13 @@ impl<T: Tally, K: Sink, J: Sink, W: Watcher> Collector<'_, '_, '_, '_, T, K, J, 
     }
 }
 
-/// Whether a game has come with this answer.
 fn brings_game(answer: Result<Accepted, Refusal>) -> bool
     ensures { result ≡ says_new answer }
 {
     matches!(answer, Ok(accepted) if accepted.is_new)
 }
 
-/// Puts a line that brought a game on the journal, and hands it on. It is the game's one text, but
-/// for a CR at its end.
+/// The line is the game's one text, but for a CR at its end.
 fn journal_line<J: Sink>(journal: &mut J, line: &[u8]) -> Result<(), JournalFault>
     ensures written { Writes (J.state journal.old) (J.state journal.new) result
         (with_end (strip_carriage_return line.now)) }
@@ -122,7 +116,6 @@ fn journal_line<J: Sink>(journal: &mut J, line: &[u8]) -> Result<(), JournalFaul
     }
 }
 
-/// Puts a line without its CR, and an LF, and hands them on.
 fn write_line<J: Sink>(journal: &mut J, line: &[u8]) -> Result<(), Failed>
     ensures { Writes (J.state journal.old) (J.state journal.new) result
         (with_end (strip_carriage_return line.now)) }
@@ -131,10 +124,9 @@ fn write_line<J: Sink>(journal: &mut J, line: &[u8]) -> Result<(), Failed>
     journal.flush()
 }
 
-/// Puts a line without its CR, and an LF.
 pub(crate) fn put_line<K: Sink>(sink: &mut K, line: &[u8]) -> Result<(), Failed>
     ensures { Put (K.state sink.old) (K.state sink.new) result
         (with_end (strip_carriage_return line.now)) }
 {
-    put_parts(sink, &[without_return(line)], b"\n")
+    put_pieces(sink, &[without_return(line)], b"\n")
 }

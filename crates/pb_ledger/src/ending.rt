@@ -1,16 +1,14 @@
 //! How many lines of a source ended.
 
-ghost use Rattle.std.specs.Prelude.{◌≡◌, ◌<◌, ◌^◌};
-ghost use Rattle.pb_ledger.specs.Ending.{feeds};
+ghost use Rattle.std.specs.Prelude.{◌≡◌, ◌<◌, ◌==◌, ◌^◌, count_by};
 
 use pb_io::{Failed, Source};
 
-/// Passes the fills of a source on, and counts the LFs in what comes.
+/// Counts the LFs in the fills that it passes on.
 #[derive(Drop)]
 pub(crate) struct Ending<'s, S: Source> {
     pub(crate) source: &'s mut S,
-    // Modulo 2 ^ 64. By it the proof tells the bytes that came from those that the source had
-    // handed out before.
+    // Modulo 2 ^ 64.
     pub(crate) ends: u64,
     ghost small: { ends < 2 ^ 64 },
 }
@@ -22,7 +20,9 @@ impl<S: Source> Source for Ending<'_, S> {
 
     fn fill(&mut self, into: &mut [u8]) -> Result<usize, Failed> {
         let count = self.source.fill(into)?;
-        self.ends = self.ends.wrapping_add(count_ends(&into[..count]) as u64);
+        self.ends = self
+            .ends
+            .wrapping_add(count_of(&into[..count], b'\n') as u64);
         Ok(count)
     }
 
@@ -31,9 +31,8 @@ impl<S: Source> Source for Ending<'_, S> {
     }
 }
 
-/// How many LFs stand in a text.
-fn count_ends(text: &[u8]) -> usize
-    ensures { result ≡ feeds text.now }
+pub(crate) fn count_of(text: &[u8], sought: u8) -> usize
+    ensures { result ≡ count_by (λ b. b == sought) text.now }
 {
-    text.iter().filter(|byte| **byte == b'\n').count()
+    text.iter().filter(|byte| **byte == sought).count()
 }

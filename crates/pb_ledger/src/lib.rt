@@ -1,9 +1,6 @@
-//! Streams of lines over a ledger. `collect` submits each line and puts its reply, and
-//! `collect_watched` tells a `Watcher` of each answer. Where there is a journal, `collect_journaled`
-//! puts each new game there before its reply, and `replay` reads it back and seals its torn end.
-//! `save` writes the games, and `load` reads them into a new ledger; `load_whole` does unless they
-//! were cut short. `pick_games` puts the lines of games of a file. Re-exports `pb_accepted` and
-//! `pb_export`.
+//! Streams of lines over a ledger: `collect` answers submissions, with a journal of new games or
+//! without, `replay` reads a journal back, `save` and `load` keep a ledger as a file, and
+//! `pick_games` puts the lines of games of a file.
 //!
 //! ```rust
 //! let mut ledger = Ledger::<MapTally>::new(alloc, &table, MAX_CAP)?;

@@ -16,23 +16,20 @@ use pb_points::Tally;
 use std::alloc::Global;
 use thiserror::Error;
 
-/// Why not all lines of a saved ledger were loaded.
-#[derive(Clone, Copy, Debug, PartialEq, Eq, Error)]
+/// Why not all lines of a saved ledger were loaded. The ledger holds the games of the lines before.
+#[derive(Clone, Copy, Debug, Error)]
 pub enum LoadError {
     /// The line with this number, from 1 with the header counted, is the first that a ledger
-    /// refuses, or that brings no new game after a header. The ledger holds the games of the lines
-    /// before it.
+    /// refuses, or that brings no new game after a header.
     #[error("line {0} isn't a game that can be taken")]
     Line(u64),
-    /// The source has failed. The ledger holds the games of the lines that an LF ended before that.
+    /// The source has failed.
     #[error("the saved ledger can't be read")]
     Read,
-    /// The fills were used up, and none was the end or a fault. The ledger holds the games of the
-    /// lines that an LF ended.
+    /// The fills were used up, and none was the end or a fault.
     #[error("the saved ledger doesn't end")]
     Endless,
-    /// No memory for the buffers, and then nothing was read; or for a new game, and then the ledger
-    /// holds those before it.
+    /// No memory for the buffers, before anything was read, or for a new game.
     #[error("no memory is left")]
     Memory,
 }
@@ -49,17 +46,15 @@ impl From<ReadFault> for LoadError {
     }
 }
 
-/// Submits the lines of a file and counts them.
 #[derive(Drop)]
 pub(crate) struct Loader<'l, T: Tally> {
     pub(crate) ledger: &'l mut Ledger<T>,
     pub(crate) lines: u64,
-    // The first line was the header.
+    /// Whether the first line was the header.
     pub(crate) is_saved: bool,
 }
 
 impl<T: Tally> Loader<'_, T> {
-    /// Submits a line. After a header it has to bring a new game.
     fn submit(&mut self, line: &[u8]) -> Result<(), LoadError>
         ensures { Submits self.old line.now result self.new }
     {
@@ -94,7 +89,6 @@ impl<T: Tally> LineTask for Loader<'_, T> {
     }
 }
 
-/// What a refusal of the line with this number is to the loading.
 fn refused_at(number: u64, refusal: Refusal) -> LoadError
     ensures { result ≡ error_at number refusal }
 {
@@ -105,15 +99,12 @@ fn refused_at(number: u64, refusal: Refusal) -> LoadError
 }
 
 /// Takes the games of a saved ledger, or of an old list of submission lines without a header, into
-/// a ledger that holds none. The answer is how many are held then.
-///
-/// Lines are cut as by `collect`. After the header each line has to bring a new game; in an old
-/// list a game may come again, which changes nothing. No bytes at all are an old list of no lines.
+/// a ledger that holds none, and answers how many are held then. After the header each line has to
+/// bring a new game; in an old list a game may come again, which changes nothing.
 ///
 /// # Errors
 ///
-/// `Memory` comes before the first fill, or where a new game finds none. After an error the ledger
-/// holds the games of the lines before.
+/// The first of `LoadError` that the lines meet.
 pub fn load<T: Tally, S: Source>(
     alloc: Global,
     source: &mut S,
@@ -121,14 +112,11 @@ pub fn load<T: Tally, S: Source>(
     fills: u32,
 ) -> Result<u32, LoadError>
     requires { ledger.old.accepted ≡ [] }
-    // The games of all lines were taken, and are so many.
     ensures ok { IfOk result (λ n. across (AtEnd fills) (between S.state source.old source.new)
         (Makes Loads (record { old = ledger.old; new = ledger.new }))
         × (n ≡ length ledger.new.accepted)) }
-    // The games of the lines before the fault were taken, and where the fault lies.
     ensures fault { IfErr result (LoadsUntil fills (between S.state source.old source.new)
         (record { old = ledger.old; new = ledger.new })) }
-    // What was saved is loaded, where it fits.
     ensures saved { LoadsSaved fills (between S.state source.old source.new)
         (record { old = ledger.old; new = ledger.new }) result }
     ensures basis { ledger.new.basis ≡ ledger.old.basis }

@@ -10,16 +10,15 @@ ghost use Rattle.pb_ledger.specs.Saving.{Saved};
 
 use pb_accepted::Ledger;
 use pb_games::{Game, Id};
-use pb_io::{Failed, Sink, put_parts};
+use pb_io::{Failed, Sink, put_pieces};
 use pb_moves::Move;
 use pb_points::Tally;
 
-/// The first line of a saved ledger, without its LF.
+/// The first line of a saved ledger.
 pub(crate) const HEADER: &[u8] = b"pbook-ledger 1";
 
-/// Writes the saved form of a ledger and flushes: the line `pbook-ledger 1`, and then the
-/// submission line of each game that is held, in order of acceptance. It takes no memory of its
-/// own.
+/// Writes the saved form of a ledger and flushes: a header, and then the submission line of each
+/// game that is held, in order of acceptance.
 ///
 /// # Errors
 ///
@@ -28,7 +27,7 @@ pub fn save<T: Tally, K: Sink>(ledger: &Ledger<T>, sink: &mut K) -> Result<(), F
     ensures { (bytes : List ℕ) × Saved ledger.now.accepted bytes
         × Writes (K.state sink.old) (K.state sink.new) result bytes }
 {
-    put_parts(sink, &[HEADER], b"\n")?;
+    put_pieces(sink, &[HEADER], b"\n")?;
     for index in 0..ledger.len() {
         let (id, game) = ledger.get(index + 1).unwrap();
         put_game(sink, id, game)?;
@@ -52,14 +51,12 @@ pub fn put_game<K: Sink>(sink: &mut K, id: &Id, game: &Game) -> Result<(), Faile
     put_moves(sink, game.moves.as_slice())
 }
 
-/// Puts a field and the TAB after it.
 fn put_field<K: Sink>(sink: &mut K, field: &[u8]) -> Result<(), Failed>
     ensures { Put (K.state sink.old) (K.state sink.new) result (field.now ++ 9 ∷ []) }
 {
-    put_parts(sink, &[field], b"\t")
+    put_pieces(sink, &[field], b"\t")
 }
 
-/// Puts the spellings of moves with a space between each two, and an LF.
 fn put_moves<K: Sink>(sink: &mut K, moves: &[Move]) -> Result<(), Failed>
     ensures { Put (K.state sink.old) (K.state sink.new) result (with_end (moves_text moves.now)) }
 {
@@ -73,9 +70,8 @@ fn put_moves<K: Sink>(sink: &mut K, moves: &[Move]) -> Result<(), Failed>
     sink.put(b"\n")
 }
 
-/// Puts a space and the spelling of a move.
 fn put_later<K: Sink>(sink: &mut K, later: &Move) -> Result<(), Failed>
     ensures { Put (K.state sink.old) (K.state sink.new) result (32 ∷ spelling later.now) }
 {
-    put_parts(sink, &[b" "], later.text().as_bytes())
+    put_pieces(sink, &[b" "], later.text().as_bytes())
 }

@@ -7,9 +7,8 @@ ghost use Rattle.pb_ledger.specs.Collector.{with_answer};
 use pb_accepted::Accepted;
 use pb_games::Refusal;
 
-/// How many lines were taken, and what became of them: each brought a new game, repeated one, or
-/// was refused.
-#[derive(Clone, Copy, Debug, Default, PartialEq, Eq)]
+/// Counts the lines that were taken, by what became of them.
+#[derive(Clone, Copy, Debug, Default)]
 pub struct Totals {
     /// All lines.
     pub lines: u64,
@@ -22,7 +21,6 @@ pub struct Totals {
 }
 
 impl Totals {
-    /// These totals with one more line, which was answered so.
     pub(crate) fn with(self, answer: Result<Accepted, Refusal>) -> Totals
         ensures { result ≡ with_answer self (answer_of answer) (says_new answer) }
     {

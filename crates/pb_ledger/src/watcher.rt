@@ -4,10 +4,10 @@ use crate::saving::HEADER;
 use pb_accepted::{Accepted, Refusal};
 use pb_board::without_return;
 
-/// The end of a line that was sealed, without its LF.
+/// The end of a line that was sealed.
 const SEALED: &[u8] = b"\t\t\t\t";
 
-/// What is told how a run goes on. That is for people: no contract says what it is told.
+/// What is told how a run goes on: for people, so no contract says what it is told.
 pub trait Watcher {
     /// Takes the number of a journal's line, from 1, that was skipped.
     fn skipped(&mut self, number: u64);
@@ -28,8 +28,7 @@ impl Watcher for () {
     fn judged(&mut self, _answer: Result<(), Refusal>) {}
 }
 
-/// Tells the number of a line that is skipped, from 1, where it is neither sealed nor the header of
-/// a saved ledger as the first line.
+/// Tells the number of a skipped line that is neither sealed nor the header of a saved ledger.
 pub(crate) fn tell_skipped<W: Watcher>(watcher: &mut W, number: u64, line: &[u8]) {
     let is_header = number == 1 && without_return(line) == HEADER;
     if !is_header && !line.ends_with(SEALED) {

@@ -16,11 +16,10 @@ use std::alloc::Global;
 use thiserror::Error;
 
 /// Why a file wasn't loaded whole.
-#[derive(Clone, Copy, Debug, PartialEq, Eq, Error)]
+#[derive(Clone, Copy, Debug, Error)]
 pub enum NotWhole {
-    /// It is a saved ledger that was cut short: no LF ends its last line, which has this number,
-    /// from 1 with the header counted. The ledger holds the games of the lines before it, and the
-    /// game that it spells, if it can be taken.
+    /// A saved ledger was cut short: no LF ends its last line, which has this number, from 1 with
+    /// the header counted. The ledger holds the games before it, and its own if that can be taken.
     #[error("it was cut short: its last line has no end")]
     Cut(u64),
     /// Not all lines were loaded, and it wasn't cut there.
@@ -28,14 +27,14 @@ pub enum NotWhole {
     Load(LoadError),
 }
 
-/// Takes the games of a saved ledger or of an old list as `load` does, but refuses a saved ledger
-/// that was cut short. Its last line, which no LF ends, isn't the one that was saved, though it may
-/// spell a game. An old list may end so.
+/// Takes the games of a file as `load` does, but refuses a saved ledger that was cut short: its
+/// last line, which no LF ends, isn't the one that was saved, though it may spell a game. An old
+/// list may end so.
 ///
 /// # Errors
 ///
-/// `Load` with the error of `load`. `Cut` exactly where all lines of a saved ledger were read, no
-/// LF ends the last one, and that one is taken or is what `load` refuses.
+/// `Cut` exactly where all lines of a saved ledger were read, no LF ends the last one, and that one
+/// is taken or is what `load` refuses. Else `Load` with the error of `load`.
 pub fn load_whole<T: Tally, S: Source>(
     alloc: Global,
     source: &mut S,
@@ -43,13 +42,10 @@ pub fn load_whole<T: Tally, S: Source>(
     fills: u32,
 ) -> Result<u32, NotWhole>
     requires { ledger.old.accepted ≡ [] }
-    // The games of all lines were taken, and are so many, and no saved ledger was cut.
     ensures ok { IfOk result (λ n. LoadsWhole fills (between S.state source.old source.new)
         (record { old = ledger.old; new = ledger.new }) × (n ≡ length ledger.new.accepted)) }
-    // It ended as `load` does, or the saved ledger was cut.
     ensures fault { IfErr result (LoadsWholeUntil fills (between S.state source.old source.new)
         (record { old = ledger.old; new = ledger.new })) }
-    // What was saved is loaded, where it fits.
     ensures saved { LoadsSaved fills (between S.state source.old source.new)
         (record { old = ledger.old; new = ledger.new })
         (result_map_both (λ n. n) load_error_of result) }
@@ -71,7 +67,6 @@ pub fn load_whole<T: Tally, S: Source>(
     }
 }
 
-/// What an error of loading says of the file, by whether its lines are cut.
 fn not_whole(error: LoadError, is_cut: bool) -> NotWhole
     ensures { result ≡ not_whole_by error is_cut }
 {
@@ -81,7 +76,6 @@ fn not_whole(error: LoadError, is_cut: bool) -> NotWhole
     }
 }
 
-/// Whether the lines are those of a saved ledger, and more than the LFs.
 fn is_cut<T: Tally>(loader: &Loader<'_, T>, ends: u64) -> bool
     ensures { result ≡ (loader.now.is_saved && nat_lt ends loader.now.lines) }
 {

@@ -1,4 +1,4 @@
-//! What a run tells on standard error: each message is a line of its own, in this one place.
+//! What a run tells on standard error: each message is a line of its own.
 
 use crate::part::Part;
 use arrayvec::ArrayString;
@@ -6,17 +6,17 @@ use std::fmt::{self, Display, Write};
 use std::io;
 use thiserror::Error;
 
-/// How many bytes of the system's text for an error are told.
+/// In bytes, of the system's text for an error.
 const TEXT: usize = 128;
 
-/// The system's text for an error, in the midst of a sentence.
+/// Holds the system's text for an error, in the midst of a sentence.
 #[derive(Debug, Drop)]
 pub struct Cause {
     text: ArrayString<TEXT>,
 }
 
 impl Cause {
-    /// Gives the cause that this error tells. It takes no memory, of which there may be none.
+    /// Takes the text of this error, by no memory, of which there may be none.
     pub fn of(error: &io::Error) -> Cause {
         let mut text = ArrayString::new();
         let _ = write!(text, "{error}");
@@ -36,16 +36,14 @@ impl Display for Cause {
     }
 }
 
-/// What a failure has left of a file that was to be replaced.
+/// Says what a failure has left of a file that was to be replaced.
 #[derive(Clone, Copy, Debug, Error)]
 pub enum Left {
     /// Nothing that a user could miss.
     #[error("")]
     All,
-    /// The old file.
     #[error("; the old {} is unchanged", .0.noun())]
     Old(Part),
-    /// No file, as before.
     #[error("; there is no {}", .0.noun())]
     Nothing(Part),
     #[error("; it may be incomplete")]
@@ -54,7 +52,7 @@ pub enum Left {
     New,
 }
 
-/// What another program has done to a file that this run holds.
+/// Says what another program has done to a file that this run holds.
 #[derive(Clone, Copy, Debug, Error)]
 pub enum Change {
     #[error("it was removed or renamed while this run held it")]
@@ -65,7 +63,7 @@ pub enum Change {
     Content,
 }
 
-/// Why no new file can take the place of an old one.
+/// Says why no new file can take the place of an old one.
 #[derive(Debug, Drop, Error)]
 pub enum Unreplaceable {
     #[error("the path doesn't end in a name")]
@@ -83,31 +81,28 @@ pub enum Unreplaceable {
     Folder(Cause),
 }
 
-/// What a file or an input looks like.
+/// Says what a file or an input looks like.
 #[derive(Clone, Copy, Debug, Error)]
 pub enum Looks {
     #[error("looks like PGN")]
     Pgn,
     #[error("is packed by gzip; zcat unpacks it")]
     Gzip,
-    /// Like submissions.
     #[error("looks like games")]
     Games,
     #[error("looks like a table")]
     Table,
     #[error("looks like a book")]
     Book,
-    /// Text of another kind.
     #[error("is text")]
     Text,
 }
 
-/// What is told.
+/// Writes a message in one line.
 #[derive(Debug, Drop, Error)]
 pub enum Message<'m> {
     #[error("{0}: {1}{2}")]
     Failed(&'m str, Cause, Left),
-    /// There is no file to go on from.
     #[error("{}: no such file (an empty one begins a {})", .0, .1.noun())]
     NoFile(&'m str, Part),
     #[error("{0} is in use by another run")]
@@ -116,10 +111,8 @@ pub enum Message<'m> {
     NotOpen(&'static str),
     #[error("out of memory")]
     Memory,
-    /// The fills were used up.
     #[error("an input has no end")]
     Endless,
-    /// The words give no order.
     #[error("{0}")]
     Usage(&'m str),
     #[error("{0} can't be made: {1}")]
@@ -131,13 +124,12 @@ pub enum Message<'m> {
     #[error("{}: a {} has to be an ordinary file", .0, .1.noun())]
     NoOrdinaryFile(&'m str, Part),
     #[error("{0}: its last line has no end; it is left out")]
-    TornEnd(&'m str),
+    CutLine(&'m str),
     #[error("the last line of standard input has no end; it may be a cut game")]
     Unended,
     /// A line of a journal is no game, and nothing has sealed it.
     #[error("{0}: line {1} can't be taken; it is skipped")]
     Skipped(&'m str, u64),
-    /// There are more such lines than are told.
     #[error("{0}: more lines can't be taken")]
     MoreSkipped(&'m str),
     #[error("standard input {}", Looks::Gzip)]

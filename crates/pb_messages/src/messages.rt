@@ -5,28 +5,24 @@ use crate::open::is_open;
 use std::fmt::Display;
 use std::io::{self, IsTerminal};
 
-/// What clears a line of a terminal.
 pub(crate) const CLEAR: &str = "\r\x1b[K";
 
-/// Standard error, as long as it takes what is told. Nothing else depends on that.
+/// Writes to standard error, as long as that takes it.
 #[derive(Clone, Copy)]
 pub struct Messages<'a> {
-    /// The runtime that they are told by.
     pub rt: &'a HostRuntime,
     is_open: bool,
     is_terminal: bool,
     /// Whether only faults, refused files and what was asked for are told, such as the summary.
     pub is_quiet: bool,
-    /// Whether the summary was asked for.
     pub is_summed: bool,
     /// Whether standard output is a terminal too, most likely the same.
     pub is_shared: bool,
 }
 
 impl<'a> Messages<'a> {
-    /// The messages of a run that tells all.
+    /// Begins with a run that tells all.
     pub fn new(rt: &'a HostRuntime) -> Messages<'a> {
-        // Where it isn't open, a file that the run opens may get its number.
         let is_open = is_open(&rt.stderr());
         Messages {
             rt,
@@ -38,7 +34,7 @@ impl<'a> Messages<'a> {
         }
     }
 
-    /// Whether somebody watches, who wants to know how a run goes.
+    /// Answers whether somebody watches, who wants to know how a run goes.
     pub fn are_watched(&self) -> bool {
         self.is_terminal && !self.is_quiet
     }
@@ -66,7 +62,7 @@ impl<'a> Messages<'a> {
     }
 }
 
-/// A file or a stream, by the name that messages call it by.
+/// Holds the name of a file or a stream, and what its failure leaves.
 #[derive(Clone, Copy)]
 pub struct Named<'a> {
     pub messages: Messages<'a>,
@@ -75,7 +71,7 @@ pub struct Named<'a> {
 }
 
 impl<'a> Named<'a> {
-    /// What has this name, and leaves nothing half done where it fails.
+    /// Names what leaves nothing half done where it fails.
     pub fn new(messages: Messages<'a>, name: &'a str) -> Named<'a> {
         Named {
             messages,

@@ -2,11 +2,11 @@
 
 use std::os::fd::AsFd;
 
-/// The system's number for the error of a descriptor that isn't open.
+/// EBADF.
 const NO_SUCH_DESCRIPTOR: i32 = 9;
 
-/// Whether the stream is open. Where it isn't, the next file that is opened would take its number,
-/// and be read or written in its place.
+/// Answers whether the stream is open. Where it isn't, the next file that is opened takes its
+/// number, and is read or written in its place.
 pub fn is_open<F: AsFd>(stream: &F) -> bool {
     match stream.as_fd().try_clone_to_owned() {
         Ok(_) => true,

@@ -2,7 +2,7 @@
 
 use std::fmt::{self, Display};
 
-/// What a file is to a run.
+/// Says what a file is to a run.
 #[derive(Clone, Copy, Debug)]
 pub enum Part {
     Table,
@@ -13,7 +13,7 @@ pub enum Part {
 }
 
 impl Part {
-    /// The word for a file of this part.
+    /// Gives the noun for such a file.
     pub fn noun(self) -> &'static str {
         match self {
             Part::Table => "table",

@@ -16,6 +16,7 @@ pub mod Legality
 pub mod LegalMoves
 pub mod Successors
 pub mod SameAttacks
+pub mod SameCastling
 pub mod Patterns
 pub mod SameMoves
 pub mod Pins

@@ -7,23 +7,23 @@ use Rattle.pb_moves.specs.Attacks.{files_apart, ranks_apart}
 use Rattle.pb_moves.specs.Reach.{IsKnightsMove}
 use Rattle.pb_moves.specs.Attackers.{In, StrikesFrom}
 use Rattle.pb_moves.proofs.Targets.{is_right, bit_tells, bishop_bit, black_pawn_bit, knight_bit, white_pawn_bit}
-use Rattle.pb_moves.specs.declared.piece_targets.TheConstants.{BISHOP, KNIGHT, NEAR}
-use Rattle.pb_moves.specs.declared.pawn_targets.TheConstants.{BLACK_PAWN, WHITE_PAWN}
+use Rattle.pb_moves.specs.declared.target_tables.TheConstants.{BISHOP, KNIGHT, KING}
+use Rattle.pb_moves.specs.declared.target_tables.TheConstants.{BLACK_PAWN, WHITE_PAWN}
 use Rattle.pb_moves.proofs.Sets.{in_and, in_both}
 
 abbrev tests_near : ℕ → ℕ → Bool
 tests_near a b = eqb (max (files_apart a b) (ranks_apart a b)) 1
 
-near_is_right : is_right (λ a. get_or NEAR a 0) tests_near ≡ true
+near_is_right : is_right (λ a. get_or KING a 0) tests_near ≡ true
 near_is_right = refl
 
-pub near_bit : (a b : ℕ) → a < 64 → b < 64 → (bit_at (get_or NEAR a 0) b ≡ 1) ↔ (max (files_apart a b) (ranks_apart a b) ≡ 1)
+pub near_bit : (a b : ℕ) → a < 64 → b < 64 → (bit_at (get_or KING a 0) b ≡ 1) ↔ (max (files_apart a b) (ranks_apart a b) ≡ 1)
 near_bit a b x y =
-    bit_tells (λ q. get_or NEAR q 0) tests_near a b (max (files_apart a b) (ranks_apart a b) ≡ 1) near_is_right x y
+    bit_tells (λ q. get_or KING q 0) tests_near a b (max (files_apart a b) (ranks_apart a b) ≡ 1) near_is_right x y
     (eq-eqb (max (files_apart a b) (ranks_apart a b)) 1) (eqb-true (max (files_apart a b) (ranks_apart a b)) 1)
 
 -- the same, from the square that is attacked
-pub near_back : (square a : ℕ) → square < 64 → a < 64 → (In (get_or NEAR square 0) a ↔ (max (files_apart a square) (ranks_apart a square) ≡ 1))
+pub near_back : (square a : ℕ) → square < 64 → a < 64 → (In (get_or KING square 0) a ↔ (max (files_apart a square) (ranks_apart a square) ≡ 1))
 near_back square a x y =
     let tells = near_bit square a x y in
     (λ h. (let one = tells.0 h in omega arith), λ h. tells.1 (omega arith))

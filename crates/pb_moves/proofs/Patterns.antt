@@ -3,7 +3,7 @@ use Rattle.std.proofs.Common.{ℕ, ◌<◌, ◌↔◌, get_or}
 use Rattle.pb_board.specs.declared.piece.Colour.TheVariants.{White}
 use Rattle.pb_board.specs.declared.piece.Kind.{Kind}
 use Rattle.pb_board.specs.declared.piece.Kind.TheVariants.{Knight, Bishop, Rook, Queen, King}
-use Rattle.pb_moves.specs.declared.piece_targets.TheConstants.{KNIGHT, BISHOP, ROOK, QUEEN, NEAR}
+use Rattle.pb_moves.specs.declared.target_tables.TheConstants.{KNIGHT, BISHOP, ROOK, QUEEN, KING}
 use Rattle.pb_moves.specs.Attackers.{In}
 use Rattle.pb_moves.specs.Attacks.{Pattern, files_apart, ranks_apart}
 use Rattle.pb_moves.proofs.NearTargets.{near_bit}
@@ -26,5 +26,5 @@ rook_points a b x y = let bit = rook_bit White a b x y in (λ h. straight_to _ _
 pub queen_points : (a b : ℕ) → a < 64 → b < 64 → Points Queen (get_or QUEEN a 0) a b
 queen_points a b x y = let bit = queen_bit White a b x y in (λ h. queen_to _ _ (bit.0 h), λ p. bit.1 (queen_from (files_apart a b) (ranks_apart a b) p.0 p.1))
 
-pub king_points : (a b : ℕ) → a < 64 → b < 64 → Points King (get_or NEAR a 0) a b
+pub king_points : (a b : ℕ) → a < 64 → b < 64 → Points King (get_or KING a 0) a b
 king_points a b x y = near_bit a b x y

@@ -6,8 +6,8 @@ use Rattle.std.proofs.lemmas.Bool.{and_parts, eq-eqb, eqb-true, lt-ltb, ltb-true
 use Rattle.pb_board.specs.declared.piece.Colour.{Colour}
 use Rattle.pb_board.specs.declared.piece.Colour.TheVariants.{White, Black}
 use Rattle.pb_board.specs.Board.{rank}
-use Rattle.pb_moves.specs.declared.pawn_targets.TheConstants.{WHITE_PAWN, BLACK_PAWN}
-use Rattle.pb_moves.specs.declared.piece_targets.TheConstants.{KNIGHT, BISHOP, ROOK, QUEEN, NEAR}
+use Rattle.pb_moves.specs.declared.target_tables.TheConstants.{WHITE_PAWN, BLACK_PAWN}
+use Rattle.pb_moves.specs.declared.target_tables.TheConstants.{KNIGHT, BISHOP, ROOK, QUEEN, KING}
 use Rattle.pb_board.specs.declared.piece.Kind.{Kind}
 use Rattle.pb_board.specs.declared.piece.Kind.TheVariants.{Pawn, Knight, Bishop, Rook, Queen, King}
 use Rattle.pb_moves.specs.Candidate.{MayGo}
@@ -83,7 +83,7 @@ black_pawn_is_right = refl
 
 -- the squares next to one, and on its rank two files aside
 abbrev pub king : ℕ → ℕ
-king a = bit_or (get_or NEAR a 0) (bit_and (bit_or (1 * 2 ^ a % 2 ^ 64 * 4 % 2 ^ 64) (1 * 2 ^ a % 2 ^ 64 / 4)) (255 * 2 ^ bit_and a 56 % 2 ^ 64))
+king a = bit_or (get_or KING a 0) (bit_and (bit_or (1 * 2 ^ a % 2 ^ 64 * 4 % 2 ^ 64) (1 * 2 ^ a % 2 ^ 64 / 4)) (255 * 2 ^ bit_and a 56 % 2 ^ 64))
 
 knight_is_right : is_right (λ a. get_or KNIGHT a 0) tests_knight ≡ true
 knight_is_right = refl

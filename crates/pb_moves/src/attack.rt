@@ -7,8 +7,8 @@ ghost use Rattle.pb_moves.specs.Attacks.{Pattern, files_apart, ranks_apart};
 ghost use Rattle.pb_moves.specs.Attackers.{In};
 ghost use Rattle.pb_moves.specs.Reach.{Reaches};
 
-use crate::piece_targets::{BISHOP, KNIGHT, NEAR, QUEEN, ROOK};
 use crate::rays::{between, has};
+use crate::target_tables::{BISHOP, KING, KNIGHT, QUEEN, ROOK};
 use pb_board::{Colour, Kind, Piece, Setup, Square};
 
 /// Whether `to` is this many ranks forward of `from`.
@@ -23,8 +23,7 @@ pub(crate) fn is_forward(colour: Colour, ranks: u8, from: Square, to: Square) ->
     }
 }
 
-/// For each square the squares that a piece of this kind, which is no pawn, attacks on an empty
-/// board.
+/// For each square what a piece of this kind attacks from it on an empty board.
 #[inline(always)]
 fn targets(kind: Kind) -> &'static [u64; 64]
     requires { kind ≢ Pawn }
@@ -36,12 +35,12 @@ fn targets(kind: Kind) -> &'static [u64; 64]
         Kind::Bishop => &BISHOP,
         Kind::Rook => &ROOK,
         Kind::Queen => &QUEEN,
-        Kind::King | Kind::Pawn => &NEAR,
+        Kind::King | Kind::Pawn => &KING,
     }
 }
 
-/// Whether this piece, which is no pawn, attacks `to` from `from`. Which kind it is can't be
-/// foretold, so no branch is made of it: the way is looked at for those that jump too.
+/// Which kind the piece is can't be foretold, so no branch is made of it: the way is looked at for
+/// those that jump too.
 #[inline(always)]
 pub(crate) fn piece_reaches(piece: Piece, setup: &Setup, from: Square, to: Square) -> bool
     requires no_pawn { piece.kind ≢ Pawn }
@@ -52,7 +51,6 @@ pub(crate) fn piece_reaches(piece: Piece, setup: &Setup, from: Square, to: Squar
     has(targets(piece.kind)[from.index() as usize], to) & (taken == 0)
 }
 
-/// Whether this pawn attacks `to` from `from`.
 #[inline(always)]
 pub(crate) fn pawn_reaches(pawn: Piece, from: Square, to: Square) -> bool
     requires { pawn.kind ≡ Pawn }

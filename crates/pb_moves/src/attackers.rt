@@ -1,4 +1,4 @@
-//! What is seen of a board in sets of squares.
+//! Attackers of a square, by bitboards.
 
 ghost use Rattle.std.specs.Prelude.{◌≡◌, ◌≢◌, ℕ, ◌<◌, ◌↔◌, [], ◌∷◌, Some, None, IsTrue, max};
 ghost use Rattle.pb_board.specs.Board.{Board, Holds};
@@ -9,13 +9,12 @@ ghost use Rattle.pb_moves.specs.Attacks.{files_apart, ranks_apart};
 ghost use Rattle.pb_moves.specs.Reach.{IsReached, IsKnightsMove};
 ghost use Rattle.pb_moves.specs.Attackers.{In, AreAttackers, StrikesFrom};
 
-use crate::pawn_targets::{BLACK_PAWN, WHITE_PAWN};
-use crate::piece_targets::{BISHOP, KNIGHT, NEAR};
+use crate::board::squares_of;
 use crate::rays::Slider;
-use pb_board::{Colour, Kind, Piece, Setup, Square};
+use crate::target_tables::{BISHOP, BLACK_PAWN, KING, KNIGHT, WHITE_PAWN};
+use pb_board::{Colour, Kind, Setup, Square};
 
-/// What is taken, and where the attackers of one side stand: bit `i` stands for the square of index
-/// `i`.
+/// The bitboards of all pieces and of the attackers of one side.
 #[derive(Clone, Copy)]
 pub(crate) struct Attackers {
     pub(crate) occupied: u64,
@@ -26,41 +25,22 @@ pub(crate) struct Attackers {
     pub(crate) diagonal: u64,
 }
 
-/// What is seen of the setup's board, with the attackers of this side.
 #[inline(always)]
 pub(crate) fn attackers_of(setup: &Setup, colour: Colour) -> Attackers
     ensures { AreAttackers setup.now.board colour result }
 {
-    let queens = setup.by_piece(Piece {
-        colour,
-        kind: Kind::Queen,
-    });
+    let queens = squares_of(setup, colour, Kind::Queen);
     Attackers {
         occupied: setup.occupied(),
-        pawns: setup.by_piece(Piece {
-            colour,
-            kind: Kind::Pawn,
-        }),
-        knights: setup.by_piece(Piece {
-            colour,
-            kind: Kind::Knight,
-        }),
-        kings: setup.by_piece(Piece {
-            colour,
-            kind: Kind::King,
-        }),
-        orthogonal: setup.by_piece(Piece {
-            colour,
-            kind: Kind::Rook,
-        }) | queens,
-        diagonal: setup.by_piece(Piece {
-            colour,
-            kind: Kind::Bishop,
-        }) | queens,
+        pawns: squares_of(setup, colour, Kind::Pawn),
+        knights: squares_of(setup, colour, Kind::Knight),
+        kings: squares_of(setup, colour, Kind::King),
+        orthogonal: squares_of(setup, colour, Kind::Rook) | queens,
+        diagonal: squares_of(setup, colour, Kind::Bishop) | queens,
     }
 }
 
-/// The squares from which a pawn of this colour attacks the square: those to which a pawn of the
+/// The squares from which a pawn of this colour attacks the square are those to which a pawn of the
 /// other colour may go from it on a diagonal.
 #[inline(always)]
 fn pawns_from(colour: Colour, square: Square) -> u64
@@ -73,7 +53,6 @@ fn pawns_from(colour: Colour, square: Square) -> u64
     }
 }
 
-/// The squares from which a knight attacks the square.
 #[inline(always)]
 pub(crate) fn knights_from(square: Square) -> u64
     ensures moves { (a : ℕ) → a < 64 → (In result a ↔ IsKnightsMove a square) }
@@ -82,16 +61,14 @@ pub(crate) fn knights_from(square: Square) -> u64
     KNIGHT[square.index() as usize]
 }
 
-/// The squares from which a king attacks the square.
 #[inline(always)]
 pub(crate) fn kings_from(square: Square) -> u64
     ensures { (a : ℕ) → a < 64 → (In result a ↔ (max (files_apart a square) (ranks_apart a square)
         ≡ 1)) }
 {
-    NEAR[square.index() as usize]
+    KING[square.index() as usize]
 }
 
-/// Whether some piece of the side attacks the square.
 #[inline(always)]
 pub(crate) fn is_attacked(attackers: &Attackers, square: Square, by: Colour) -> bool
     ensures { (b : Board) → AreAttackers b by attackers.now
@@ -109,8 +86,7 @@ pub(crate) fn is_attacked(attackers: &Attackers, square: Square, by: Colour) -> 
     Slider::Orthogonal.slides(attackers.occupied, attackers.orthogonal, square)
 }
 
-/// What is seen after a piece of the other side has gone from one square to another, in the place
-/// of what stood there.
+/// The attackers after a piece of the other side has gone from one square to another.
 #[inline(always)]
 pub(crate) fn attackers_after(attackers: Attackers, from: Square, to: Square) -> Attackers
     requires { ¬ (from ≡ to) }
@@ -130,7 +106,7 @@ pub(crate) fn attackers_after(attackers: Attackers, from: Square, to: Square) ->
     }
 }
 
-/// What is seen after a piece of the other side has gone from its square.
+/// The attackers after a piece of the other side has gone from the board.
 #[inline(always)]
 pub(crate) fn attackers_without(attackers: Attackers, from: Square) -> Attackers
     ensures { (old new : Board) (by : Colour) (own : Piece) → AreAttackers old by attackers

@@ -1,5 +1,4 @@
-//! Where a piece may go on an empty board or by a capture: for each square a number, whose bit `i`
-//! stands for the square of index `i`.
+//! Where a piece may go on an empty board or by a capture.
 
 ghost use Rattle.std.specs.Prelude.{◌≡◌, ℕ, ◌<◌, ◌↔◌};
 ghost use Rattle.std.specs.Int.{bit_at};
@@ -7,11 +6,10 @@ ghost use Rattle.pb_board.specs.declared.piece.Colour.{Colour};
 ghost use Rattle.pb_board.specs.declared.piece.Kind.TheVariants.{King};
 ghost use Rattle.pb_moves.specs.Candidate.{MayGo};
 
-use crate::pawn_targets::{BLACK_PAWN, WHITE_PAWN};
-use crate::piece_targets::{BISHOP, KNIGHT, NEAR, QUEEN, ROOK};
+use crate::target_tables::{BISHOP, BLACK_PAWN, KING, KNIGHT, QUEEN, ROOK, WHITE_PAWN};
 use pb_board::{Colour, Kind, Piece, Square};
 
-/// The squares to which this piece may go from there. A legal move goes to one of them.
+/// The squares to one of which each legal move of the piece goes.
 #[inline(always)]
 pub(crate) fn candidates(piece: Piece, from: Square) -> u64
     ensures { (to : ℕ) → to < 64 → (bit_at result to ≡ 1) ↔ MayGo piece.colour piece.kind from to }
@@ -30,7 +28,7 @@ pub(crate) fn candidates(piece: Piece, from: Square) -> u64
     }
 }
 
-/// The squares next to this one, and two files aside on its rank, as a king goes that castles.
+/// The squares next to this one, and those two files aside, to which a king castles.
 #[inline(always)]
 fn king_candidates(index: usize) -> u64
     requires { index < 64 }
@@ -38,5 +36,5 @@ fn king_candidates(index: usize) -> u64
         → (bit_at result to ≡ 1) ↔ MayGo colour King index to }
 {
     let rank = 0xffu64 << (index & 56);
-    NEAR[index] | (1u64 << index << 2 | 1u64 << index >> 2) & rank
+    KING[index] | (1u64 << index << 2 | 1u64 << index >> 2) & rank
 }

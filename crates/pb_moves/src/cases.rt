@@ -1,4 +1,4 @@
-//! The cases of a move: what each does to the board, where it applies.
+//! The cases of a move: what each does, where it applies.
 
 ghost use Rattle.std.specs.Prelude.{◌≡◌, ◌≢◌, ◌+◌, ◌/◌, ◌<◌, MatchOption};
 ghost use Rattle.pb_board.specs.declared.piece.Kind.{Kind};
@@ -15,7 +15,7 @@ use crate::move_kind::MoveKind;
 use crate::moves::Move;
 use pb_board::{Colour, Kind, MovedPiece, Piece, Setup, Square};
 
-/// A move of a knight, bishop, rook, queen or king to where it attacks.
+/// A move to where the piece attacks.
 #[inline(always)]
 pub(crate) fn piece_move(setup: &Setup, m: Move, piece: Piece) -> Option<MoveKind>
     requires own { piece.colour ≡ setup.now.turn }
@@ -33,8 +33,7 @@ pub(crate) fn piece_move(setup: &Setup, m: Move, piece: Piece) -> Option<MoveKin
     }
 }
 
-/// The kind on the target square: the promoted one on the last rank, else a pawn. None if the
-/// promotion doesn't fit the rank.
+/// The kind on the target square. None where the promotion doesn't fit the rank.
 #[inline(always)]
 pub(crate) fn becomes(side: Colour, m: Move) -> Option<Kind>
     ensures { MatchOption result ((k : Kind) → ¬ Becomes side m Pawn k) (Becomes side m Pawn) }
@@ -49,7 +48,6 @@ pub(crate) fn becomes(side: Colour, m: Move) -> Option<Kind>
     }
 }
 
-/// A pawn's step forward.
 #[inline]
 pub(crate) fn pawn_step(setup: &Setup, m: Move, pawn: Piece, kind: Kind) -> Option<MoveKind>
     requires own { pawn.colour ≡ setup.now.turn }
@@ -66,7 +64,6 @@ pub(crate) fn pawn_step(setup: &Setup, m: Move, pawn: Piece, kind: Kind) -> Opti
     }
 }
 
-/// A pawn's capture of what it attacks.
 #[inline]
 pub(crate) fn pawn_capture(setup: &Setup, m: Move, pawn: Piece, kind: Kind) -> Option<MoveKind>
     requires own { pawn.colour ≡ setup.now.turn }
@@ -83,7 +80,6 @@ pub(crate) fn pawn_capture(setup: &Setup, m: Move, pawn: Piece, kind: Kind) -> O
     }
 }
 
-/// A pawn's double step.
 #[inline]
 pub(crate) fn pawn_double(setup: &Setup, m: Move, pawn: Piece, kind: Kind) -> Option<MoveKind>
     requires own { pawn.colour ≡ setup.now.turn }
@@ -105,7 +101,6 @@ pub(crate) fn pawn_double(setup: &Setup, m: Move, pawn: Piece, kind: Kind) -> Op
     }
 }
 
-/// The rank on which the pawns of a side begin.
 #[inline(always)]
 fn pawn_rank(side: Colour) -> u8
     ensures { result ≡ pawn_rank side }
@@ -116,7 +111,6 @@ fn pawn_rank(side: Colour) -> u8
     }
 }
 
-/// The square half way between two squares of one file.
 #[inline(always)]
 pub(crate) fn halfway(from: Square, to: Square) -> Square
     requires { file to ≡ file from }
@@ -126,7 +120,7 @@ pub(crate) fn halfway(from: Square, to: Square) -> Square
     square_at(8 * ((from.rank() + to.rank()) / 2) + from.file())
 }
 
-/// A pawn's capture of the pawn that has just gone two ranks: it goes by way of that pawn's square.
+/// The pawn goes by way of the square of the one that it takes.
 #[inline]
 pub(crate) fn en_passant(setup: &Setup, m: Move, pawn: Piece, kind: Kind) -> Option<MoveKind>
     requires own { HoldsOwn setup.now m.from pawn }

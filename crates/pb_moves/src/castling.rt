@@ -20,7 +20,6 @@ use crate::moves::Move;
 use crate::rays::Slider;
 use pb_board::{Castling, Kind, MovedPiece, Piece, Setup};
 
-/// Whether nothing stands between king and rook.
 fn way_is_clear(castling: Castling, setup: &Setup) -> bool
     ensures { let row = castling_row castling in
         IsTrue result ↔ WayIsClear setup.now.board row.king_from row.rook_from }
@@ -29,7 +28,6 @@ fn way_is_clear(castling: Castling, setup: &Setup) -> bool
     Slider::Orthogonal.is_clear(setup.occupied(), squares.rook_from, squares.king_from)
 }
 
-/// Whether the enemy attacks neither the king's square nor the one that it crosses.
 fn way_is_safe(castling: Castling, setup: &Setup) -> bool
     ensures { let row = castling_row castling in let enemy = opponent row.colour in
         IsTrue result ↔ (¬ IsAttacked setup.now.board enemy row.king_from
@@ -40,7 +38,7 @@ fn way_is_safe(castling: Castling, setup: &Setup) -> bool
     !attacked(setup, squares.king_from, enemy) && !attacked(setup, squares.rook_to, enemy)
 }
 
-/// Whether all that this castling needs holds, but for the square that the king reaches.
+/// Whether the setup allows the castling, but for the square that the king reaches.
 fn may_castle(castling: Castling, setup: &Setup) -> bool
     ensures rules { IsSetup setup.now }
     ensures allows { IsTrue result ↔ RowAllows (castling_row castling) setup.now }
@@ -59,7 +57,6 @@ fn may_castle(castling: Castling, setup: &Setup) -> bool
     way_is_clear(castling, setup) && way_is_safe(castling, setup)
 }
 
-/// The castling of this move, if it is one that the setup allows.
 pub(crate) fn castles(setup: &Setup, m: Move, king: Piece) -> Option<MoveKind>
     requires own { HoldsOwn setup.now m.from king }
     requires king { king.kind ≡ King }

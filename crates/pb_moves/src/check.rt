@@ -7,21 +7,21 @@ ghost use Rattle.pb_moves.specs.Attacks.{IsAttacked, InCheck, IsPlayable};
 use crate::attackers::{attackers_of, is_attacked};
 use pb_board::{Colour, Setup, Square};
 
-/// Whether some piece of this side attacks the square, whoever is to move.
+/// Tells whether some piece of this side attacks the square, whoever is to move.
 pub fn attacked(setup: &Setup, square: Square, by: Colour) -> bool
     ensures { IsTrue result ↔ IsAttacked setup.now.board by square }
 {
     is_attacked(&attackers_of(setup, by), square, by)
 }
 
-/// Whether some enemy piece attacks this side's king.
+/// Tells whether this side is in check.
 pub fn in_check(setup: &Setup, side: Colour) -> bool
     ensures { IsTrue result ↔ InCheck setup.now.board side }
 {
     attacked(setup, setup.king(side), side.opponent())
 }
 
-/// Whether the side that isn't to move isn't in check, as after each legal move.
+/// Tells whether the side that isn't to move isn't in check, as after each legal move.
 pub fn playable(setup: &Setup) -> bool
     ensures { IsTrue result ↔ IsPlayable setup.now }
 {

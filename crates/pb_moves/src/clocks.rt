@@ -11,7 +11,6 @@ use crate::moves::Move;
 use crate::playing::play;
 use pb_board::{Colour, Fen, Kind, Piece, Setup};
 
-/// Whether the move sets the half-move clock to 0: a pawn moves, or something is taken.
 fn resets(setup: &Setup, m: Move) -> bool
     ensures { result ≡ resets setup.now m }
 {
@@ -22,7 +21,6 @@ fn resets(setup: &Setup, m: Move) -> bool
     holds(setup, m.from(), pawn) || !is_empty(setup, m.to())
 }
 
-/// The half-move clock after the move.
 fn half_after(fen: &Fen, m: Move) -> u16
     ensures { result ≡ half_after fen.now m }
 {
@@ -33,7 +31,6 @@ fn half_after(fen: &Fen, m: Move) -> u16
     }
 }
 
-/// The full move number after a move of the side to move.
 fn full_after(fen: &Fen) -> u16
     ensures value { result ≡ full_after fen.now.setup.turn fen.now.full }
     ensures some { 0 < result }
@@ -44,11 +41,8 @@ fn full_after(fen: &Fen) -> u16
     }
 }
 
-/// The record after the move. None exactly where the move isn't legal.
-///
-/// The half-move clock is 0 after a pawn's move or a capture, and one more otherwise. The full move
-/// number is one more after Black's move (PGN Standard 16.1.3.5 and 16.1.3.6). Either stays at
-/// 65,535 once it is there.
+/// Gives the record after the move, or none exactly where the move isn't legal. The clocks go on by
+/// PGN Standard 16.1.3.5 and 16.1.3.6; either stays at 65,535 once it is there.
 pub fn advance(fen: &Fen, m: Move) -> Option<Fen>
     ensures played { SomeIff result (Legal fen.now.setup m) (record_after fen.now m) }
     ensures record { IfSome result IsRecord }

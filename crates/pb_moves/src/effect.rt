@@ -10,8 +10,7 @@ use crate::moves::Move;
 use crate::state_after::{en_passant_after, rights_after};
 use pb_board::{Piece, Rights, Setup, Square};
 
-/// What a move does to a setup. The setup after it and the key of that are made of it, and the move
-/// isn't looked up again.
+/// What a move does to a setup: the setup after it and the key of that are made of it.
 #[derive(Clone, Copy)]
 pub struct Effect {
     /// The piece that moves, as it was.
@@ -24,7 +23,7 @@ pub struct Effect {
     pub ep: Option<Square>,
 }
 
-/// What the move does. None exactly where it isn't legal, check apart.
+/// Gives what the move does, or none exactly where it isn't legal, check apart.
 #[inline(always)]
 pub fn effect_of(setup: &Setup, m: Move) -> Option<Effect>
     ensures { MatchOption result (¬ PseudoLegal setup.now m) (IsEffect setup.now m) }
@@ -39,7 +38,7 @@ pub fn effect_of(setup: &Setup, m: Move) -> Option<Effect>
     })
 }
 
-/// What the move does. None exactly where it isn't legal.
+/// Gives what the move does, or none exactly where it isn't legal.
 #[inline(always)]
 pub fn legal_effect(setup: &Setup, m: Move) -> Option<Effect>
     ensures { MatchOption result (¬ Legal setup.now m) (λ e.
@@ -53,8 +52,8 @@ pub fn legal_effect(setup: &Setup, m: Move) -> Option<Effect>
     }
 }
 
-/// Whether the move is legal: a piece of the side to move makes it by the rules for its kind, and
-/// that side isn't in check afterwards.
+/// Tells whether the move is legal: a piece of the side to move makes it by the rules for its kind,
+/// and that side isn't in check afterwards.
 pub fn is_legal(setup: &Setup, m: Move) -> bool
     ensures { IsTrue result ↔ Legal setup.now m }
 {

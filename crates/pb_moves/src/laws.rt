@@ -1,7 +1,6 @@
-//! Laws of moves, for the crates above, and of equality (`==`) between moves. Each of these
-//! functions is proved to keep them.
+//! Laws of moves, each proved as the contract of a function that does nothing.
 
-ghost use Rattle.std.specs.Prelude.{◌≡◌, ◌↔◌, ℕ, List, [], ◌∷◌, codes, map};
+ghost use Rattle.std.specs.Prelude.{◌≡◌, ◌↔◌, [], ◌∷◌, codes, map};
 ghost use Rattle.std.specs.Bool.{Decides};
 ghost use Rattle.pb_board.specs.Initial.{initial};
 ghost use Rattle.pb_board.specs.Position.{IsSetup, Position, Record, record_of};
@@ -15,7 +14,6 @@ ghost use Rattle.pb_moves.specs.Successor.{IsAfter, after};
 ghost use Rattle.pb_moves.specs.Worked.{e2e4, fools_mate, pawn_run, two_knights};
 
 use crate::moves::Move;
-use crate::text::MoveText;
 
 /// The setup after a legal move of a setup meets the rules for setups.
 pub fn after_is_setup()
@@ -28,16 +26,14 @@ pub fn after_is()
         → IsAfter s m t ↔ (t ≡ after s m) }
 {}
 
-/// Moves are equal (`==`) exactly where squares and promotion are the same, and their texts where
-/// the bytes are.
+/// Moves are equal (`==`) exactly where they are one value.
 pub fn equal_moves()
-    ensures moves { (a b : Moved) → IsMove a → IsMove b
+    ensures { (a b : Moved) → IsMove a → IsMove b
         → Decides (⟦<Move as PartialEq>⟧.eq a b) (a ≡ b) }
-    ensures texts { (t u : List ℕ) → Decides (⟦<MoveText as PartialEq>⟧.eq t u) (t ≡ u) }
 {}
 
-/// In the initial array e2e4 is legal, and leads to the record that players know, and the moves of
-/// Fool's mate are legal. Castling, taking en passant and promotion lead to these records.
+/// In the initial array e2e4 and the moves of Fool's mate are legal. A double step, castling, taking
+/// en passant and promotion lead to these records.
 pub fn worked()
     ensures legal { Legal initial e2e4 }
     ensures text { fen_text (record_after (record_of initial 0 1) e2e4)

@@ -23,7 +23,6 @@ use crate::moves::Move;
 use crate::rays::has;
 use pb_board::{Kind, MovedPiece, Piece, Setup, Square};
 
-/// The piece of the side to move that stands there.
 #[inline(always)]
 pub(crate) fn own_piece(setup: &Setup, square: Square) -> Option<Piece>
     ensures rules { IsSetup setup.now }
@@ -37,7 +36,6 @@ pub(crate) fn own_piece(setup: &Setup, square: Square) -> Option<Piece>
     }
 }
 
-/// What the move of this pawn does.
 #[inline(never)]
 fn pawn_change(setup: &Setup, m: Move, pawn: Piece) -> Option<MoveKind>
     requires own { HoldsOwn setup.now m.from pawn }
@@ -57,7 +55,6 @@ fn pawn_change(setup: &Setup, m: Move, pawn: Piece) -> Option<MoveKind>
     en_passant(setup, m, pawn, kind)
 }
 
-/// What the move of this king does.
 #[inline(never)]
 fn king_change(setup: &Setup, m: Move, king: Piece) -> Option<MoveKind>
     requires own { HoldsOwn setup.now m.from king }
@@ -70,7 +67,6 @@ fn king_change(setup: &Setup, m: Move, king: Piece) -> Option<MoveKind>
     castles(setup, m, king)
 }
 
-/// What the move of this piece does by one of the cases, if one applies.
 #[inline(always)]
 pub(crate) fn change_of(setup: &Setup, m: Move, piece: Piece) -> Option<MoveKind>
     requires own { HoldsOwn setup.now m.from piece }
@@ -83,8 +79,7 @@ pub(crate) fn change_of(setup: &Setup, m: Move, piece: Piece) -> Option<MoveKind
     }
 }
 
-/// Whether a pawn may find its way to the square: false only where no pawn's move there can be, and
-/// true for other pieces. It is a cheap test before the rules of a pawn.
+/// A cheap test before the rules of a pawn: false only where it has no move there.
 #[inline(always)]
 pub(crate) fn has_way(setup: &Setup, piece: Piece, from: Square, to: Square) -> bool
     ensures { (m : Moved) (b : Board) → m.from ≡ from → m.to ≡ to → CaseOf setup.now m piece b
@@ -101,7 +96,6 @@ pub(crate) fn has_way(setup: &Setup, piece: Piece, from: Square, to: Square) -> 
     }
 }
 
-/// Where the king of the side to move stands after the move of this piece.
 #[inline(always)]
 pub(crate) fn king_after(setup: &Setup, m: Move, piece: Piece) -> Square
     requires { HoldsOwn setup.now m.from piece }
@@ -115,9 +109,8 @@ pub(crate) fn king_after(setup: &Setup, m: Move, piece: Piece) -> Square
     }
 }
 
-/// Whether the moves of this piece need no test of check, where they put it in the place of what
-/// stood on a square: it isn't the king, and its king wouldn't be attacked if it were gone. `enemy`
-/// is what is seen of the board and the enemy's attackers.
+/// Whether the moves that put this piece alone elsewhere need no test of check: its king wouldn't be
+/// attacked if it were gone.
 #[inline(always)]
 pub(crate) fn is_unpinned(setup: &Setup, enemy: &Attackers, from: Square, piece: Piece) -> bool
     requires own { HoldsOwn setup.now from piece }
@@ -132,7 +125,6 @@ pub(crate) fn is_unpinned(setup: &Setup, enemy: &Attackers, from: Square, piece:
     !is_attacked(&seen, setup.king(side), side.opponent())
 }
 
-/// Whether the mover's king is safe after a move of this kind.
 #[inline(always)]
 pub(crate) fn is_safe(setup: &Setup, m: Move, piece: Piece, kind: &MoveKind) -> bool
     requires own { HoldsOwn setup.now m.from piece }
@@ -149,7 +141,7 @@ pub(crate) fn is_safe(setup: &Setup, m: Move, piece: Piece, kind: &MoveKind) -> 
     }
 }
 
-/// `is_safe` for two pieces that go one after the other, not inlined, since few moves need it.
+/// Few moves need it, so it isn't inlined.
 #[inline(never)]
 fn is_safe_two(setup: &Setup, m: Move, piece: Piece, first: MovedPiece, second: MovedPiece) -> bool
     requires own { HoldsOwn setup.now m.from piece }
@@ -162,8 +154,6 @@ fn is_safe_two(setup: &Setup, m: Move, piece: Piece, first: MovedPiece, second: 
     !is_attacked(&seen, king_after(setup, m, piece), enemy)
 }
 
-/// Whether the move of this piece is legal. `unpinned` is true only where most moves of the piece
-/// need no test of check.
 #[inline(always)]
 pub(crate) fn is_legal_for(setup: &Setup, m: Move, piece: Piece, unpinned: bool) -> bool
     requires own { HoldsOwn setup.now m.from piece }

@@ -1,5 +1,5 @@
 //! The moves of chess: attacks and check, which moves are legal, and the setup and the record after
-//! them. Games and books are the business of the crates above.
+//! them.
 //!
 //! ```rust
 //! let moves = legal_moves(alloc, &fen.setup())?;
@@ -21,13 +21,12 @@ mod legal;
 mod listing;
 mod move_kind;
 mod moves;
-mod pawn_targets;
-mod piece_targets;
 mod playing;
 mod promotion;
 mod rays;
 mod spelling;
 mod state_after;
+mod target_tables;
 mod text;
 
 pub use check::{attacked, in_check, playable};

@@ -18,25 +18,21 @@ use crate::rays::has;
 use pb_board::{Kind, Piece, Setup, Square};
 use std::alloc::{AllocError, Global};
 
-/// Room for the moves of most setups, so that the list seldom grows.
+/// Most setups have fewer moves.
 const USUAL_MOVES: usize = 64;
 
-/// What is known of a setup while its moves are listed.
+/// A setup while its moves are listed, with the bitboards of it that each of them needs.
 #[derive(Drop)]
 struct Lister<'a> {
     setup: &'a Setup,
-    // The squares on which the side to move has a piece.
     own: u64,
-    // What is seen of the enemy's attackers.
     enemy: Attackers,
 }
 
-/// A piece of the side to move on its square.
 #[derive(Drop)]
 struct Mover {
     piece: Piece,
     from: Square,
-    // Whether most of its moves need no test of check.
     unpinned: bool,
 }
 
@@ -57,7 +53,6 @@ pub fn legal_moves(alloc: Global, setup: &Setup) -> Result<Vec<Move>, AllocError
     Ok(moves)
 }
 
-/// Whether a pawn goes to the first or last rank.
 fn may_promote(kind: Kind, to: Square) -> bool
     ensures on_board { to < 64 }
     ensures promotes { IsTrue result ↔ MayPromote kind to }
@@ -66,7 +61,6 @@ fn may_promote(kind: Kind, to: Square) -> bool
 }
 
 impl<'a> Lister<'a> {
-    /// Adds the legal moves from one square.
     fn push_from(&self, from: Square, moves: &mut Vec<Move>) -> Result<(), AllocError>
         requires seen { AreAttackers self.now.setup.now.board (opponent self.now.setup.now.turn)
             self.now.enemy }
@@ -95,7 +89,6 @@ impl<'a> Lister<'a> {
         Ok(())
     }
 
-    /// Adds the legal moves of this piece to one square.
     #[inline(always)]
     fn push_to(&self, mover: &Mover, to: Square, moves: &mut Vec<Move>) -> Result<(), AllocError>
         requires unpinned { IsTrue mover.now.unpinned
@@ -121,7 +114,6 @@ impl<'a> Lister<'a> {
         Ok(())
     }
 
-    /// Adds the move of this piece to this square with this promotion, if it is legal.
     #[inline(always)]
     fn push_legal(
         &self,

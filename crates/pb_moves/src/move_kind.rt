@@ -2,8 +2,7 @@
 
 use pb_board::{MovedPiece, Piece};
 
-/// Which pieces a move puts elsewhere: a few bytes, so that a move is judged before a board
-/// changes.
+/// Which pieces a move puts elsewhere.
 #[derive(Clone, Copy)]
 pub enum MoveKind {
     /// This piece arrives where the move goes, in the place of what stood there.

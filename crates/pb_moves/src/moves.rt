@@ -13,8 +13,7 @@ use std::marker::Model;
 /// bishop, a rook or a queen. Whether the move is legal depends on the setup.
 #[derive(Clone, Copy, Debug, PartialEq, Eq, Hash)]
 pub struct Move {
-    // The square reached, 64 times the square left, and 4,096 times the promotion: games hold moves
-    // by the million.
+    // Games hold moves by the million.
     bits: u16,
 }
 
@@ -37,8 +36,8 @@ impl Move {
     ghost use Rattle.std.specs.Prelude.{◌+◌, ◌*◌};
     ghost use Rattle.pb_moves.specs.Moved.{IsPromotion, IsMove, moved_of, promotion_number};
 
-    /// The move between these squares. None exactly where they are one square, or `promo` is a pawn
-    /// or a king.
+    /// Makes the move between these squares, or none exactly where they are one square, or `promo` is a
+    /// pawn or a king.
     #[inline]
     pub fn new(from: Square, to: Square, promo: Option<Kind>) -> Option<Move>
         ensures on_board { (from < 64) × (to < 64) }
@@ -54,8 +53,6 @@ impl Move {
         }
     }
 
-    /// The move without a promotion between the squares of these numbers. None exactly where they
-    /// are one.
     #[inline(always)]
     pub(crate) fn plain(from: u8, to: u8) -> Option<Move>
         requires leaves { from < 64 }

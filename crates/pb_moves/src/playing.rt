@@ -10,8 +10,7 @@ use crate::effect::legal_effect;
 use crate::moves::Move;
 use pb_board::Setup;
 
-/// Plays the move in place, where it is legal, and tells whether it is. Where it isn't, the setup
-/// stays as it is.
+/// Plays the move in place, where it is legal, and tells whether it is.
 pub fn try_play(setup: &mut Setup, m: Move) -> bool
     ensures legal { IsTrue result ↔ Legal setup.old m }
     ensures played { IsTrue result → (setup.new ≡ after setup.old m) }
@@ -27,11 +26,9 @@ pub fn try_play(setup: &mut Setup, m: Move) -> bool
     }
 }
 
-/// The setup after the move. None exactly where the move isn't legal.
-///
-/// A castling right is lost for good once its king or its rook has moved or its rook was taken. An
-/// en passant square stands after each double step of a pawn, whether or not an enemy pawn can use
-/// it (PGN Standard 16.1.3.4).
+/// Gives the setup after the move, or none exactly where the move isn't legal. An en passant square
+/// stands after each double step of a pawn, whether or not an enemy pawn can use it (PGN Standard
+/// 16.1.3.4).
 pub fn play(setup: &Setup, m: Move) -> Option<Setup>
     ensures played { SomeIff result (Legal setup.now m) (after setup.now m) }
     ensures setup { IfSome result IsSetup }

@@ -1,4 +1,4 @@
-//! The numbers of promotions, as codes of moves have them.
+//! The numbers of promotions, as PolyGlot's codes of moves have them.
 
 ghost use Rattle.std.specs.Prelude.{◌≡◌, ◌≤◌};
 ghost use Rattle.pb_moves.specs.Moved.{promotion_number as promotion_number_by};
@@ -6,7 +6,6 @@ ghost use Rattle.pb_moves.specs.Moved.{promotion_of as promotion_by};
 
 use pb_board::Kind;
 
-/// The number of a promotion: none, knight, bishop, rook, queen from 0. A pawn or a king is none.
 #[inline]
 pub(crate) fn promotion_number(promo: Option<Kind>) -> u16
     ensures value { result ≡ promotion_number_by promo }
@@ -21,7 +20,7 @@ pub(crate) fn promotion_number(promo: Option<Kind>) -> u16
     }
 }
 
-/// The promotion of this number. None where it is 0 or above 4.
+/// Gives the promotion of this number, or none where it is 0 or above 4.
 #[inline]
 pub fn promotion_of(number: u16) -> Option<Kind>
     ensures { result ≡ promotion_by number }

@@ -1,14 +1,13 @@
-//! Clear ways on the board, told by sets of squares.
+//! Lines on the board, as bitboards.
 
 ghost use Rattle.std.specs.Prelude.{◌≡◌, ℕ, ◌<◌, ◌⊎◌, ◌↔◌, IsTrue};
 ghost use Rattle.pb_moves.specs.Attackers.{Between, In};
 ghost use Rattle.pb_moves.specs.Reach.{IsDiagonal, IsOrthogonal, LiesBetween};
 
 use crate::board::square_at;
-use crate::piece_targets::{BISHOP, ROOK};
+use crate::target_tables::{BISHOP, ROOK};
 use pb_board::Square;
 
-/// Whether the square is among those of a set.
 #[inline(always)]
 pub(crate) fn has(set: u64, square: Square) -> bool
     ensures inside { IsTrue result ↔ In set square }
@@ -17,7 +16,6 @@ pub(crate) fn has(set: u64, square: Square) -> bool
     set >> square.index() & 1 == 1
 }
 
-/// The squares whose indices lie between these two.
 #[inline(always)]
 fn run(low: u8, high: u8) -> u64
     requires apart { low < high }
@@ -27,7 +25,6 @@ fn run(low: u8, high: u8) -> u64
     (1u64 << high) - (1u64 << (low + 1))
 }
 
-/// The squares whose indices lie between those of two squares.
 #[inline(always)]
 fn interval(a: Square, b: Square) -> u64
     requires { ¬ (a ≡ b) }
@@ -37,8 +34,7 @@ fn interval(a: Square, b: Square) -> u64
     run(a.min(b), a.max(b))
 }
 
-/// The squares that lie between two squares of one line, and none where no line joins the two. No
-/// branch is made of where they stand.
+/// No branch is made of where the squares stand.
 #[inline(always)]
 pub(crate) fn between(a: Square, b: Square) -> u64
     requires { ¬ (a ≡ b) }
@@ -48,19 +44,16 @@ pub(crate) fn between(a: Square, b: Square) -> u64
     (Slider::Orthogonal.line(a, b) | Slider::Diagonal.line(a, b)) & interval(a, b)
 }
 
-/// The two kinds of lines along which pieces slide.
+/// The lines along which pieces slide.
 #[derive(Clone, Copy)]
 pub(crate) enum Slider {
-    /// Files and ranks.
     Orthogonal,
-    /// Diagonals.
     Diagonal,
 }
 
 impl Slider {
     ghost use Rattle.pb_moves.specs.Attackers.{Along, Open, Slides};
 
-    /// The squares of the lines through a square, without the square itself.
     #[inline(always)]
     pub(crate) fn rays(self, square: Square) -> u64
         ensures lines { (q : ℕ) → q < 64 → (In result q ↔ Along self square q) }
@@ -73,8 +66,6 @@ impl Slider {
         }
     }
 
-    /// The squares that lie on lines of this kind with both squares, and none where no such line
-    /// joins the two.
     #[inline(always)]
     fn line(self, a: Square, b: Square) -> u64
         ensures { (q : ℕ) → q < 64
@@ -85,7 +76,6 @@ impl Slider {
         if has(rays, b) { line } else { 0 }
     }
 
-    /// Whether nothing of the set stands between two squares of one of these lines.
     #[inline(always)]
     pub(crate) fn is_clear(self, occupied: u64, a: Square, b: Square) -> bool
         requires { Along self a b }
@@ -95,7 +85,6 @@ impl Slider {
         line & interval(a, b) & occupied == 0
     }
 
-    /// Whether one of the sliders looks at the square along one of these lines.
     #[inline(always)]
     pub(crate) fn slides(self, occupied: u64, sliders: u64, square: Square) -> bool
         ensures { IsTrue result ↔ Slides self occupied sliders square }

@@ -12,10 +12,9 @@ ghost use Rattle.pb_moves.specs.Spelling.{spelling};
 use crate::moves::Move;
 use pb_board::{Kind, Square};
 
-/// The bytes `a1a1` as a number, the first in the lowest place.
+/// The bytes `a1a1`, little-endian.
 const A1_A1: u32 = 0x3161_3161;
 
-/// The kind that a promotion's letter names.
 fn read_promotion(byte: u8) -> Option<Kind>
     ensures { MatchOption result
         ((kind : Kind) → IsPromotion kind → piece_letter (piece_of Black kind) ≢ byte)
@@ -30,17 +29,16 @@ fn read_promotion(byte: u8) -> Option<Kind>
     }
 }
 
-/// Whether each byte of a number of four bytes is below 8, as those of files and ranks are.
 #[inline(always)]
 fn are_below_8(bytes: u32) -> bool
     ensures { IsTrue result ↔ (bytes % 256 < 8) × (bytes / 256 % 256 < 8)
         × (bytes / 65536 % 256 < 8) × (bytes / 16777216 < 8) }
 {
-    // The mask has all bits of each byte but its three lowest.
+    // All bits of each byte but its three lowest.
     bytes & 0xF8F8_F8F8 == 0
 }
 
-/// Reads four bytes as a move, which then has no promotion. None exactly where they spell no move.
+/// Reads four bytes as a move without a promotion. Gives none exactly where they spell no move.
 #[inline(always)]
 pub fn read_plain(bytes: [u8; 4]) -> Option<Move>
     ensures { MatchOption result
@@ -58,8 +56,8 @@ pub fn read_plain(bytes: [u8; 4]) -> Option<Move>
     Move::plain((squares % 64) as u8, (squares / 65536 % 64) as u8)
 }
 
-/// Reads a move in UCI notation: two squares and, for a promotion, a small n, b, r or q, and
-/// nothing else. None exactly where the bytes spell no move.
+/// Reads a move in UCI notation: two squares and, for a promotion, a small n, b, r or q. Gives none
+/// exactly where the bytes spell no move.
 pub fn read_move(text: &[u8]) -> Option<Move>
     ensures { MatchOption result
         ((m : Moved) → IsMove m → text.now ≢ spelling m)

@@ -9,30 +9,27 @@ use crate::board::square_at;
 use crate::moves::Move;
 use pb_board::{Castling, Kind, Piece, Rights, Square};
 
-/// Whether a castling that the rights have is kept.
 #[inline(always)]
-fn keeps(castling: Castling, rights: Rights, m: Move) -> bool
+fn is_left(castling: Castling, rights: Rights, m: Move) -> bool
     ensures { let row = castling_row castling in
         result ≡ (row.right rights && not (touches m row.king_from row.rook_from)) }
 {
     castling.is_allowed(rights) && !castling.is_lost_by(m.from(), m.to())
 }
 
-/// The castling rights that the move keeps, each by its squares. It is out of line, since few moves
-/// need it.
+/// Few moves need it, so it isn't inlined.
 #[inline(never)]
-fn kept_rights(rights: Rights, m: Move) -> Rights
+fn rights_left(rights: Rights, m: Move) -> Rights
     ensures { result ≡ rights_by rights m }
 {
     Rights {
-        white_short: keeps(Castling::WhiteShort, rights, m),
-        white_long: keeps(Castling::WhiteLong, rights, m),
-        black_short: keeps(Castling::BlackShort, rights, m),
-        black_long: keeps(Castling::BlackLong, rights, m),
+        white_short: is_left(Castling::WhiteShort, rights, m),
+        white_long: is_left(Castling::WhiteLong, rights, m),
+        black_short: is_left(Castling::BlackShort, rights, m),
+        black_long: is_left(Castling::BlackLong, rights, m),
     }
 }
 
-/// The castling rights after the move.
 #[inline(always)]
 pub(crate) fn rights_after(rights: Rights, m: Move) -> Rights
     ensures { result ≡ rights_by rights m }
@@ -41,10 +38,9 @@ pub(crate) fn rights_after(rights: Rights, m: Move) -> Rights
     if !Castling::is_home(m.from()) && !Castling::is_home(m.to()) {
         return rights;
     }
-    kept_rights(rights, m)
+    rights_left(rights, m)
 }
 
-/// The en passant square after the move of this piece: the one that a pawn's double step crosses.
 #[inline(always)]
 pub(crate) fn en_passant_after(m: Move, piece: Piece) -> Option<Square>
     ensures { result ≡ en_passant_by m piece }

@@ -38,11 +38,11 @@ adding_starts rows some = record {
 }
 
 -- a row of the same key and code goes into the sum
-pub gain_joined : (part : Row → ℕ) (k c : ℕ) (s r : Row) → r.key ≡ s.key → r.code ≡ s.code → part (with_more r.points r.times s) ≡ part s + part r
-    → gain part k c (with_more r.points r.times s) ≡ gain part k c s + gain part k c r
-gain_joined part k c s r key code is =
+pub gain_joined : (field : Row → ℕ) (k c : ℕ) (s r : Row) → r.key ≡ s.key → r.code ≡ s.code → field (with_more r.points r.times s) ≡ field s + field r
+    → gain field k c (with_more r.points r.times s) ≡ gain field k c s + gain field k c r
+gain_joined field k c s r key code is =
     let test : is_row k c r ≡ is_row k c s = λ i. is_pair (key i) (code i) k c in
-    omega (arith, gain_more part k c (part r) s (with_more r.points r.times s) refl is, ap (λ b. cond b (part r) 0) test)
+    omega (arith, gain_more field k c (field r) s (with_more r.points r.times s) refl is, ap (λ b. cond b (field r) 0) test)
 
 pub one_joined : (k c : ℕ) (s r : Row) → r.key ≡ s.key → r.code ≡ s.code → one k c r ≡ one k c s
 one_joined k c s r key code = λ i. cond (is_pair (key i) (code i) k c) 1 0
@@ -100,13 +100,13 @@ adding_pushes rows all sum i ordered a lt other =
           ap (nat_lt 0) more ∙ a.some k c;
     }
 
--- the sum of a part at its own key and code
-own_gain : (part : Row → ℕ) (s : Row) → gain part s.key s.code s ≡ part s
-own_gain part s = of_pair part s.key s.code s refl refl
+-- the sum of a field at its own key and code
+own_gain : (field : Row → ℕ) (s : Row) → gain field s.key s.code s ≡ field s
+own_gain field s = of_pair field s.key s.code s refl refl
 
--- ---- rows added up at the place where they stand
+-- ---- rows added up where they stand
 
--- the rows were the `old` ones: of these, n are added up before the place `last` and at it, and the
+-- the rows were the `old` ones: of these, n are added up before the index `last` and at it, and the
 -- others stand where they stood
 pub record InPlace (old new : List Row) (last n : ℕ) : Type 0 where
   pub done : ℕ
@@ -216,9 +216,9 @@ added_same rows all sum i a end k c =
     ∙ ap (λ b. if b then Some (record { points = points_of rows k c; times = times_of rows k c }) else None) (ap (nat_lt 0) count ∙ a.some k c)
 
 pub in_place_ends : (old new : List Row) (last n : ℕ) → length new ≡ length old → (0 < length old → InPlace old new last n) → length new ≤ n → IsAddedUp old (take (last + 1) new)
-in_place_ends old new last n long place end = elim (cases_lt 0 (length old)) [
+in_place_ends old new last n long index end = elim (cases_lt 0 (length old)) [
   | inl some ↦
-      let p = place some in
+      let p = index some in
       let all = take last new in
       let sum = row_at new last in
       rw (take_more new last (new_row 0 0) (omega (arith, p.before, p.within)))
@@ -246,7 +246,7 @@ pub sum_none : (f : Row → ℕ) (rows : List Row) → ((j : ℕ) → j < length
 sum_none f [] others = refl
 sum_none f (r ∷ rows) others = omega (arith, sum_by-cons f r rows, others 0 (omega arith), sum_none f rows (λ j lt. others (suc j) (omega arith)))
 
--- a sum to which one place gives
+-- a sum to which one index gives
 sum_at : (f : Row → ℕ) (rows : List Row) (i : ℕ) → i < length rows → ((j : ℕ) → j < length rows → (j ≡ i → ⊥) → f (row_at rows j) ≡ 0) → sum_by f rows ≡ f (row_at rows i)
 sum_at f [] i lt others = absurd (omega arith)
 sum_at f (r ∷ rows) zero lt others =
@@ -291,11 +291,11 @@ listed rows i rise lt =
     let times = only (λ r. r.times) in
     ap (λ n. of_sums n (points_of rows r.key r.code) (times_of rows r.key r.code)) count ∙ (λ i. Some (record { points = points i; times = times i }))
   where
-    only : (part : Row → ℕ) → total part rows (row_at rows i).key (row_at rows i).code ≡ part (row_at rows i)
-    only part =
+    only : (field : Row → ℕ) → total field rows (row_at rows i).key (row_at rows i).code ≡ field (row_at rows i)
+    only field =
         let r = row_at rows i in
-        sum_at (gain part r.key r.code) rows i lt (λ j within other. of_other part r.key r.code (row_at rows j) (other_row rows i j rise lt within other))
-        ∙ of_pair part r.key r.code r refl refl
+        sum_at (gain field r.key r.code) rows i lt (λ j within other. of_other field r.key r.code (row_at rows j) (other_row rows i j rise lt within other))
+        ∙ of_pair field r.key r.code r refl refl
 
 -- a row that is counted is found
 pub found : (rows : List Row) (k c : ℕ) → 0 < count_of rows k c → (i : ℕ) × (i < length rows) × (is_row k c (row_at rows i) ≡ true)
@@ -321,10 +321,10 @@ added_each rows sums added r = (to, from)
     from : bag_content rows r.key r.code ≡ Some (held_of r) → Contains sums r
     from e =
         let here : bag_content sums r.key r.code ≡ Some (held_of r) = added.same r.key r.code ∙ e in
-        let place = found sums r.key r.code (some_counted sums r.key r.code (held_of r) here) in
-        let s = row_at sums place.0 in
-        let p = is_pair_same s.key s.code r.key r.code place.2 in
-        let same : Some (held_of s) ≡ Some (held_of r) = sym (listed sums place.0 added.rise place.1) ∙ (λ i. bag_content sums (p.0 i) (p.1 i)) ∙ here in
+        let index = found sums r.key r.code (some_counted sums r.key r.code (held_of r) here) in
+        let s = row_at sums index.0 in
+        let p = is_pair_same s.key s.code r.key r.code index.2 in
+        let same : Some (held_of s) ≡ Some (held_of r) = sym (listed sums index.0 added.rise index.1) ∙ (λ i. bag_content sums (p.0 i) (p.1 i)) ∙ here in
         let points : s.points ≡ r.points = ap points_held same in
         let times : s.times ≡ r.times = ap times_held same in
-        (place.0, place.1, get_or_default sums place.0 r (new_row 0 0) place.1 ∙ (λ i. record { key = p.0 i; code = p.1 i; points = points i; times = times i }))
+        (index.0, index.1, get_or_default sums index.0 r (new_row 0 0) index.1 ∙ (λ i. record { key = p.0 i; code = p.1 i; points = points i; times = times i }))

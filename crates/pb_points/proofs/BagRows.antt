@@ -24,17 +24,17 @@ points_held o = (unwrap_or o nothing).points
 abbrev pub times_held : Option Held → ℕ
 times_held o = (unwrap_or o nothing).times
 
--- without a row there is nothing of any part
-pub no_total : (part : Row → ℕ) (rows : List Row) (k c : ℕ) → count_of rows k c ≡ 0 → total part rows k c ≡ 0
-no_total part [] k c e = refl
-no_total part (r ∷ rows) k c e = by (no_total part rows k c) (is_row k c r) refl
+-- without a row there is nothing of any field
+pub no_total : (field : Row → ℕ) (rows : List Row) (k c : ℕ) → count_of rows k c ≡ 0 → total field rows k c ≡ 0
+no_total field [] k c e = refl
+no_total field (r ∷ rows) k c e = by (no_total field rows k c) (is_row k c r) refl
   where
-    by : (count_of rows k c ≡ 0 → total part rows k c ≡ 0) → (b : Bool) → is_row k c r ≡ b → total part (r ∷ rows) k c ≡ 0
+    by : (count_of rows k c ≡ 0 → total field rows k c ≡ 0) → (b : Bool) → is_row k c r ≡ b → total field (r ∷ rows) k c ≡ 0
     by rest true is = let here : one k c r ≡ 1 = ap (λ b. cond b 1 0) is in absurd (omega (arith, sum_by-cons (one k c) r rows, here, e))
     by rest false is =
         let here : one k c r ≡ 0 = ap (λ b. cond b 1 0) is in
         let none : count_of rows k c ≡ 0 = omega (arith, sum_by-cons (one k c) r rows, here, e) in
-        omega (arith, sum_by-cons (gain part k c) r rows, ap (λ b. cond b (part r) 0) is, rest none)
+        omega (arith, sum_by-cons (gain field k c) r rows, ap (λ b. cond b (field r) 0) is, rest none)
 
 -- what the rows of a key and a code hold, with or without a row
 pub held_sums : (rows : List Row) (k c : ℕ) → held (bag_content rows) k c ≡ record { points = points_of rows k c; times = times_of rows k c }
@@ -75,16 +75,16 @@ same_sorted {rows} {listed} {sorted} {now} from perm to = subst (λ l. HoldsSame
 abbrev pub new_row : ℕ → ℕ → Row
 new_row key code = record { key = key; code = code; points = 0; times = 0 }
 
--- a row that has nothing of a part gives nothing to its sum
-gain_nothing : (part : Row → ℕ) (k c : ℕ) (r : Row) → part r ≡ 0 → gain part k c r ≡ 0
-gain_nothing part k c r none = by (is_row k c r)
+-- a row that has nothing of a field gives nothing to its sum
+gain_nothing : (field : Row → ℕ) (k c : ℕ) (r : Row) → field r ≡ 0 → gain field k c r ≡ 0
+gain_nothing field k c r none = by (is_row k c r)
   where
-    by : (b : Bool) → cond b (part r) 0 ≡ 0
+    by : (b : Bool) → cond b (field r) 0 ≡ 0
     by true = none
     by false = refl
 
-pub total_pushed : (part : Row → ℕ) (rows : List Row) (r : Row) (k c : ℕ) → part r ≡ 0 → total part (rows ++ r ∷ []) k c ≡ total part rows k c
-total_pushed part rows r k c none = omega (arith, sum_by_push (gain part k c) rows r, gain_nothing part k c r none)
+pub total_pushed : (field : Row → ℕ) (rows : List Row) (r : Row) (k c : ℕ) → field r ≡ 0 → total field (rows ++ r ∷ []) k c ≡ total field rows k c
+total_pushed field rows r k c none = omega (arith, sum_by_push (gain field k c) rows r, gain_nothing field k c r none)
 
 pub makes_pushed : (rows : List Row) (key code : ℕ) → MakesRow (bag_content rows) (bag_content (rows ++ new_row key code ∷ [])) key code
 makes_pushed rows key code k c =
@@ -127,20 +127,20 @@ row_at rows i = get_or rows i (new_row 0 0)
 abbrev pub with_more : ℕ → ℕ → Row → Row
 with_more n m r = record r { points = r.points + n; times = r.times + m }
 
--- two rows of one key and one code: what the one has more of a part, its sum has more
-pub gain_more : (part : Row → ℕ) (k c n : ℕ) (r s : Row) → is_row k c s ≡ is_row k c r → part s ≡ part r + n → gain part k c s ≡ gain part k c r + cond (is_row k c r) n 0
-gain_more part k c n r s test is = ap (λ b. cond b (part s) 0) test ∙ by (is_row k c r)
+-- two rows of one key and one code: what the one has more of a field, its sum has more
+pub gain_more : (field : Row → ℕ) (k c n : ℕ) (r s : Row) → is_row k c s ≡ is_row k c r → field s ≡ field r + n → gain field k c s ≡ gain field k c r + cond (is_row k c r) n 0
+gain_more field k c n r s test is = ap (λ b. cond b (field s) 0) test ∙ by (is_row k c r)
   where
-    by : (b : Bool) → cond b (part s) 0 ≡ cond b (part r) 0 + cond b n 0
+    by : (b : Bool) → cond b (field s) 0 ≡ cond b (field r) 0 + cond b n 0
     by true = is
     by false = refl
 
 pub count_set : (rows : List Row) (i n m k c : ℕ) → i < length rows → count_of (set rows i (with_more n m (row_at rows i))) k c ≡ count_of rows k c
 count_set rows i n m k c lt = omega (arith, sum_by-set (one k c) rows i (with_more n m (row_at rows i)) (new_row 0 0) lt)
 
-pub total_set : (part : Row → ℕ) (rows : List Row) (i n : ℕ) (s : Row) (k c : ℕ) → i < length rows → is_row k c s ≡ is_row k c (row_at rows i) → part s ≡ part (row_at rows i) + n
-    → total part (set rows i s) k c ≡ total part rows k c + cond (is_row k c (row_at rows i)) n 0
-total_set part rows i n s k c lt test is = omega (arith, sum_by-set (gain part k c) rows i s (new_row 0 0) lt, gain_more part k c n (row_at rows i) s test is)
+pub total_set : (field : Row → ℕ) (rows : List Row) (i n : ℕ) (s : Row) (k c : ℕ) → i < length rows → is_row k c s ≡ is_row k c (row_at rows i) → field s ≡ field (row_at rows i) + n
+    → total field (set rows i s) k c ≡ total field rows k c + cond (is_row k c (row_at rows i)) n 0
+total_set field rows i n s k c lt test is = omega (arith, sum_by-set (gain field k c) rows i s (new_row 0 0) lt, gain_more field k c n (row_at rows i) s test is)
 
 pub points_set : (rows : List Row) (i n m k c : ℕ) → i < length rows → points_of (set rows i (with_more n m (row_at rows i))) k c ≡ points_of rows k c + cond (is_row k c (row_at rows i)) n 0
 points_set rows i n m k c lt = total_set (λ r. r.points) rows i n (with_more n m (row_at rows i)) k c lt refl refl
@@ -191,12 +191,12 @@ fit_same old new same fit = record {
   times = λ k c. omega (arith, ap times_held (same k c), held_times old k c, held_times new k c, fit.times k c);
 }
 
-pub of_pair : (part : Row → ℕ) (k c : ℕ) (r : Row) → r.key ≡ k → r.code ≡ c → gain part k c r ≡ part r
-of_pair part k c r key code = ap (λ b. cond b (part r) 0) ((λ i. is_pair (key i) (code i) k c) ∙ is_pair_itself k c)
+pub of_pair : (field : Row → ℕ) (k c : ℕ) (r : Row) → r.key ≡ k → r.code ≡ c → gain field k c r ≡ field r
+of_pair field k c r key code = ap (λ b. cond b (field r) 0) ((λ i. is_pair (key i) (code i) k c) ∙ is_pair_itself k c)
 
-pub of_other : (part : Row → ℕ) (k c : ℕ) (r : Row) → (r.key ≡ k → r.code ≡ c → ⊥) → gain part k c r ≡ 0
-of_other part k c r other = by (is_row k c r) refl
+pub of_other : (field : Row → ℕ) (k c : ℕ) (r : Row) → (r.key ≡ k → r.code ≡ c → ⊥) → gain field k c r ≡ 0
+of_other field k c r other = by (is_row k c r) refl
   where
-    by : (b : Bool) → is_row k c r ≡ b → gain part k c r ≡ 0
+    by : (b : Bool) → is_row k c r ≡ b → gain field k c r ≡ 0
     by true e = let p = is_pair_same r.key r.code k c e in absurd (other p.0 p.1)
-    by false e = ap (λ b. cond b (part r) 0) e
+    by false e = ap (λ b. cond b (field r) 0) e

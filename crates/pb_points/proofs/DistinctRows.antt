@@ -102,14 +102,14 @@ list_sums (r ∷ rows) k c apart = by (is_row k c r) refl (list_sums rows k c (�
     by : (b : Bool) → is_row k c r ≡ b → held (list_content rows) k c ≡ record { points = points_of rows k c; times = times_of rows k c }
         → held (list_content (r ∷ rows)) k c ≡ record { points = points_of (r ∷ rows) k c; times = times_of (r ∷ rows) k c }
     by true here rest =
-        let only : (part : Row → ℕ) → part r ≡ total part (r ∷ rows) k c =
-        λ part. omega (arith, sum_by-cons (gain part k c) r rows, ap (λ b. cond b (part r) 0) here, no_total part rows k c (alone here)) in
+        let only : (field : Row → ℕ) → field r ≡ total field (r ∷ rows) k c =
+        λ field. omega (arith, sum_by-cons (gain field k c) r rows, ap (λ b. cond b (field r) 0) here, no_total field rows k c (alone here)) in
         let points = only (λ r. r.points) in
         let times = only (λ r. r.times) in
         first true here ∙ (λ i. record { points = points i; times = times i })
     by false here rest =
-        let others : (part : Row → ℕ) → total part rows k c ≡ total part (r ∷ rows) k c =
-        λ part. omega (arith, sum_by-cons (gain part k c) r rows, ap (λ b. cond b (part r) 0) here) in
+        let others : (field : Row → ℕ) → total field rows k c ≡ total field (r ∷ rows) k c =
+        λ field. omega (arith, sum_by-cons (gain field k c) r rows, ap (λ b. cond b (field r) 0) here) in
         let points = others (λ r. r.points) in
         let times = others (λ r. r.times) in
         first false here ∙ rest ∙ (λ i. record { points = points i; times = times i })

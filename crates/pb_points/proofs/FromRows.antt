@@ -35,11 +35,11 @@ module _ (first : ℕ) (f : Row → ℕ) where
           let is = ap (λ b. sum_by f (cond b (r ∷ from first rows) (from first rows))) e in
           omega (arith, is, rest)
 
-total_from : (part : Row → ℕ) (rows : List Row) (first k c : ℕ) (b : Bool) → nat_le first k ≡ b → total part (from first rows) k c ≡ (if b then total part rows k c else 0)
-total_from part rows first k c true e =
-    from_kept first (gain part k c) rows (λ r low. of_other part k c r (λ key code. cc (ap (nat_le first) key, e, low)))
-total_from part rows first k c false e =
-    from_none first (gain part k c) rows (λ r high. of_other part k c r (λ key code. cc (ap (nat_le first) key, e, high)))
+total_from : (field : Row → ℕ) (rows : List Row) (first k c : ℕ) (b : Bool) → nat_le first k ≡ b → total field (from first rows) k c ≡ (if b then total field rows k c else 0)
+total_from field rows first k c true e =
+    from_kept first (gain field k c) rows (λ r low. of_other field k c r (λ key code. cc (ap (nat_le first) key, e, low)))
+total_from field rows first k c false e =
+    from_none first (gain field k c) rows (λ r high. of_other field k c r (λ key code. cc (ap (nat_le first) key, e, high)))
 
 -- they hold what is held of these keys
 pub bag_from : (rows : List Row) (first k c : ℕ) → bag_content (from first rows) k c ≡ stretch_of first None (bag_content rows) k c
@@ -58,12 +58,12 @@ bag_from rows first k c = by (nat_le first k) refl
         (λ i. of_sums (count i) (points i) (times i)) ∙ sym (ap (λ b. if b then bag_content rows k c else None) e)
 
 -- no more than all rows
-less_from : (part : Row → ℕ) (rows : List Row) (first k c : ℕ) → total part (from first rows) k c ≤ total part rows k c
-less_from part rows first k c = by (nat_le first k) refl
+less_from : (field : Row → ℕ) (rows : List Row) (first k c : ℕ) → total field (from first rows) k c ≤ total field rows k c
+less_from field rows first k c = by (nat_le first k) refl
   where
-    by : (b : Bool) → nat_le first k ≡ b → total part (from first rows) k c ≤ total part rows k c
-    by true e = omega (arith, total_from part rows first k c true e)
-    by false e = omega (arith, total_from part rows first k c false e)
+    by : (b : Bool) → nat_le first k ≡ b → total field (from first rows) k c ≤ total field rows k c
+    by true e = omega (arith, total_from field rows first k c true e)
+    by false e = omega (arith, total_from field rows first k c false e)
 
 pub fit_from : (rows : List Row) (first : ℕ) → SumsFit rows → SumsFit (from first rows)
 fit_from rows first fit = record {

@@ -107,16 +107,29 @@ adds_both rows others old mid new below h k = (h.0 ++ k.0, k.1 ∙ ap (λ l. l +
 pub adds_more : (rows : List Row) (old mid new : List Entry) → AddsBook rows old mid → AddsSome mid new → AddsSome old new
 adds_more rows old mid new h more = (h.0 ++ more.0, more.1 ∙ ap (λ l. l ++ more.0) h.1 ∙ append_assoc old h.0 more.0)
 
--- the book of the rows before the rest, whose keys are below those of the rest, was added
-pub record IsBookSoFar (rows : List Row) (old new : List Entry) (rest : List Row) : Type 0 where
+-- what is added of rows: their book, or that of what they hold together
+abbrev pub Adder : Type 1
+Adder = List Row → List Entry → List Entry → Type 0
+
+-- what is to be added of the rows before the rest, whose keys are below those of the rest, was added
+pub record IsSoFar (R : Row → Row → Type 0) (Adds : Adder) (rows : List Row) (old new : List Entry) (rest : List Row) : Type 0 where
   pub done : List Row
   pub split : rows ≡ done ++ rest
   pub below : KeysBelow done rest
-  pub rise : AllPairs IsBelow rest
-  pub adds : AddsBook done old new
+  pub ordered : AllPairs R rest
+  pub adds : Adds done old new
 
-pub so_far_all : (rows rest : List Row) (old new : List Entry) → length rest ≡ 0 → IsBookSoFar rows old new rest → AddsBook rows old new
-so_far_all rows [] old new none h = subst (λ D. AddsBook D old new) (sym (h.split ∙ append-nil h.done)) h.adds
+pub so_far_starts : {R : Row → Row → Type 0} {Adds : Adder} (rows rest : List Row) (old : List Entry) → rest ≡ rows → AllPairs R rows → Adds [] old old → IsSoFar R Adds rows old old rest
+so_far_starts {R} rows rest old is ordered adds = record {
+  done = [];
+  split = sym is;
+  below = λ r s a b. absurd (omega (arith, a.1));
+  ordered = subst (AllPairs R) (sym is) ordered;
+  adds = adds;
+}
+
+pub so_far_all : {R : Row → Row → Type 0} {Adds : Adder} (rows rest : List Row) (old new : List Entry) → length rest ≡ 0 → IsSoFar R Adds rows old new rest → Adds rows old new
+so_far_all {R} {Adds} rows [] old new none h = subst (λ D. Adds D old new) (sym (h.split ∙ append-nil h.done)) h.adds
 so_far_all rows (r ∷ rest) old new none h = absurd (omega arith)
 
 abbrev pub keys_equal : Row → Row → Bool
@@ -201,25 +214,22 @@ module _ (R : Row → Row → Type 0) (rises : (r s : Row) → R r s → r.key �
         | inr least ↦ let same : 0 ≡ k.0 = omega arith in let is : first ≡ s = ap (λ i. get_or later i s) same ∙ k.2 in subst (λ (x : Row). first.key ≤ x.key) is (omega arith)
       ]
 
-pub cut_group : (rest group later : List Row) → IsCut rest group later → AllPairs IsBelow rest → IsGroup group
-cut_group rest group later cut rise = record {
-  some = cut.some;
-  rise = cut_rise IsBelow keys_rise rest group later cut rise;
-  one = cut_one IsBelow keys_rise rest group later cut rise;
-}
+  pub cut_group : IsGroup R group
+  cut_group = record { some = cut.some; ordered = cut_rise; one = cut_one }
 
--- the book of one key more
-pub so_far_more : (rows rest group later : List Row) (old mid new : List Entry) → IsBookSoFar rows old mid rest → IsCut rest group later → AddsBook group mid new → IsBookSoFar rows old new later
-so_far_more rows rest group later old mid new h cut adds = record {
-  done = h.done ++ group;
-  split = h.split ∙ ap (λ l. h.done ++ l) cut.split ∙ sym (append_assoc h.done group later);
-  below = λ r s a b. elim (Contains-append_cases h.done group r a) [
-    | inl before ↦ h.below r s before (subst (λ l. Contains l s) (sym cut.split) (Contains-append_right group later s b))
-    | inr now ↦ cut_below IsBelow keys_rise rest group later cut h.rise r s now b
-  ];
-  rise = cut_rise_later IsBelow keys_rise rest group later cut h.rise;
-  adds = adds_both h.done group old mid new (λ r s a b. h.below r s a (subst (λ l. Contains l s) (sym cut.split) (Contains-append_left group later s b))) h.adds adds;
-}
+  -- that of one key more
+  pub so_far_more : {Adds : Adder} → ((rows others : List Row) (old mid new : List Entry) → KeysBelow rows others → Adds rows old mid → Adds others mid new → Adds (rows ++ others) old new)
+      → (rows : List Row) (old mid new : List Entry) → IsSoFar R Adds rows old mid rest → Adds group mid new → IsSoFar R Adds rows old new later
+  so_far_more both rows old mid new h adds = record {
+    done = h.done ++ group;
+    split = h.split ∙ ap (λ l. h.done ++ l) cut.split ∙ sym (append_assoc h.done group later);
+    below = λ r s a b. elim (Contains-append_cases h.done group r a) [
+      | inl before ↦ h.below r s before (subst (λ l. Contains l s) (sym cut.split) (Contains-append_right group later s b))
+      | inr now ↦ cut_below r s now b
+    ];
+    ordered = cut_rise_later;
+    adds = both h.done group old mid new (λ r s a b. h.below r s a (subst (λ l. Contains l s) (sym cut.split) (Contains-append_left group later s b))) h.adds adds;
+  }
 
 -- ---- keys that never fall
 

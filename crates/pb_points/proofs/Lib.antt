@@ -11,7 +11,7 @@ pub mod Ordering
 pub mod Pairs
 pub mod PartRows
 pub mod PartStretches
-pub mod PartedRows
+pub mod NarrowedRows
 pub mod Pointed
 pub mod SomeBooks
 pub mod SomeSums

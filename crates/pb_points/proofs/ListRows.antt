@@ -15,10 +15,8 @@ use Rattle.pb_points.specs.declared.row.Row.{Row}
 use Rattle.pb_points.specs.ListTally.{list_content, with_more}
 use Rattle.pb_points.specs.Rows.{is_row, row_at, same_pair}
 use Rattle.pb_points.specs.Tally.{MakesRow, AddsPly, held, held_of, is_pair, more}
+use Rattle.pb_points.proofs.BagRows.{new_row}
 use Rattle.pb_points.proofs.Pairs.{is_pair_same, is_pair_itself, same_equiv}
-
-abbrev pub new_row : ℕ → ℕ → Row
-new_row key code = record { key = key; code = code; points = 0; times = 0 }
 
 abbrev row_0 : Row
 row_0 = new_row 0 0
@@ -36,19 +34,19 @@ module _ (p : Row → Bool) where
   find_none [] e = refl
   find_none (r ∷ rows) e = grind (arith, nat_tests, find_none rows)
 
--- what the place that `position` gives says
-pub record IsPlace (rows : List Row) (k c i : ℕ) : Type 0 where
+-- what the index that `position` gives says
+pub record IsIndex (rows : List Row) (k c i : ℕ) : Type 0 where
   pub within : i < length rows
   pub here : is_row k c (row_at rows i) ≡ true
   pub before : (j : ℕ) → j < i → is_row k c (row_at rows j) ≡ false
   pub found : find (is_row k c) rows ≡ Some (row_at rows i)
 
-pub is_place : (rows : List Row) (k c i : ℕ) → position (is_row k c) rows ≡ Some i → IsPlace rows k c i
-is_place rows k c i e =
+pub is_index : (rows : List Row) (k c i : ℕ) → position (is_row k c) rows ≡ Some i → IsIndex rows k c i
+is_index rows k c i e =
     let p = position-Some (is_row k c) rows i row_0 e in
     record { within = p.0; here = p.1; before = p.2; found = find_first (is_row k c) rows i p.0 p.1 p.2 }
 
--- a place that `position` doesn't give lies past the rows
+-- an index that `position` doesn't give lies past the rows
 pub absent_past : (rows : List Row) (k c : ℕ) → position (is_row k c) rows ≡ None → length rows ≤ position_or_len (is_row k c) rows
 absent_past rows k c none = elim (cases_lt (position_or_len (is_row k c) rows) (length rows)) [
   | inl lt ↦
@@ -103,19 +101,19 @@ IsDistinct-pushed rows key code old none = IsDistinct-push same_equiv rows (new_
 
 -- ---- points added
 
-pub adds_set : (rows : List Row) (key code i n : ℕ) → IsPlace rows key code i → AddsPly (list_content rows) (list_content (set rows i (with_more n (row_at rows i)))) key code n
+pub adds_set : (rows : List Row) (key code i n : ℕ) → IsIndex rows key code i → AddsPly (list_content rows) (list_content (set rows i (with_more n (row_at rows i)))) key code n
 adds_set rows key code i n h k c = by (is_pair key code k c) refl
   where
     r : Row
     r = row_at rows i
 
-    place : i ≡ position_or_len (is_row key code) rows
-    place = sym (position_or_len_is (is_row key code) rows i row_0 (omega (arith, h.within)) h.before (λ _. h.here))
+    index : i ≡ position_or_len (is_row key code) rows
+    index = sym (position_or_len_is (is_row key code) rows i row_0 (omega (arith, h.within)) h.before (λ _. h.here))
 
     by : (b : Bool) → is_pair key code k c ≡ b → list_content (set rows i (with_more n r)) k c ≡ (if b then Some (more n (held (list_content rows) k c)) else list_content rows k c)
     by true e =
         sym (at_same (list_content (set rows i (with_more n r))) key code k c e)
-        ∙ ap (option_map held_of) (find-set (is_row key code) rows i (with_more n r) place h.within h.here)
+        ∙ ap (option_map held_of) (find-set (is_row key code) rows i (with_more n r) index h.within h.here)
         ∙ ap (λ o. Some (more n (unwrap_or (option_map held_of o) (held_of (new_row key code))))) (sym h.found)
         ∙ ap (λ m. Some (more n m)) (at_same (held (list_content rows)) key code k c e)
     by false e =
@@ -167,12 +165,12 @@ rows_each rows sorted distinct perm r = (
   (λ e. Contains-permutation rows sorted r perm (content_row rows r e)),
 )
 
--- ---- what an `Option` of a place says
+-- ---- what an `Option` of an index says
 
 pub none_of : {X : Type 0} (o : Option X) → is_some o ≡ false → o ≡ None
 none_of None e = refl
 none_of (Some x) e = cc
 
-pub place_there : (rows : List Row) (k c : ℕ) (o : Option ℕ) → o ≡ position (is_row k c) rows → is_some o ≡ true → (i : ℕ) × IsPlace rows k c i
-place_there rows k c None e some = cc
-place_there rows k c (Some i) e some = (i, is_place rows k c i (sym e))
+pub index_there : (rows : List Row) (k c : ℕ) (o : Option ℕ) → o ≡ position (is_row k c) rows → is_some o ≡ true → (i : ℕ) × IsIndex rows k c i
+index_there rows k c None e some = cc
+index_there rows k c (Some i) e some = (i, is_index rows k c i (sym e))

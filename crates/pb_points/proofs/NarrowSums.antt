@@ -12,7 +12,7 @@ use Rattle.pb_points.specs.Bag.{HoldsSame, SumsFit, bag_content, count_of, gain,
 use Rattle.pb_points.specs.Blocks.{AddsThere}
 use Rattle.pb_points.specs.Rows.{is_row, same_pair}
 use Rattle.pb_points.specs.Tally.{Held, AddsPly, HasRoomFor, MakesRow, held, is_pair, more}
-use Rattle.pb_points.specs.NarrowTally.{AddsWide, IsParted, Keeps, Spills}
+use Rattle.pb_points.specs.NarrowTally.{AddsWide, AreNarrowed, AreSound, Spills}
 use Rattle.pb_points.proofs.BagRows.{adds_set, count_set, counted, fit_pushed, fit_same, held_added, held_points, held_sums, held_times, makes_pushed, new_row, of_sums, one, row_at, with_more}
 use Rattle.pb_points.proofs.BlockRows.{set_last}
 use Rattle.pb_points.proofs.ListRows.{IsDistinct-more, same_keys}
@@ -23,24 +23,24 @@ use Rattle.pb_points.proofs.DistinctRows.{wide_few}
 -- ---- a ply more
 
 pub adds_there : (old new : List Row) (k c n : ℕ) → AddsThere old new k c n → AddsPly (bag_content old) (bag_content new) k c n
-adds_there old new k c n h = subst (λ l. AddsPly (bag_content old) (bag_content l) k c n) (sym h.added) (adds_set old k c h.place n h.there.0 h.there.1)
+adds_there old new k c n h = subst (λ l. AddsPly (bag_content old) (bag_content l) k c n) (sym h.added) (adds_set old k c h.index n h.there.0 h.there.1)
 
 pub all_narrow : (rows new wide : List Row) (k c n : ℕ) → AddsThere rows new k c n → AddsThere (rows ++ wide) (new ++ wide) k c n
 all_narrow rows new wide k c n h =
-    let here = get_or_append_left rows wide (new_row 0 0) h.place h.there.0 in
+    let here = get_or_append_left rows wide (new_row 0 0) h.index h.there.0 in
     record {
-      place = h.place;
+      index = h.index;
       there = (omega (arith, h.there.0, length-append rows wide), ap (λ r. is_row k c r) here ∙ h.there.1);
-      added = ap (λ l. l ++ wide) h.added ∙ sym (set-append_left rows wide h.place (with_more n 1 (row_at rows h.place)) h.there.0) ∙ ap (λ r. set (rows ++ wide) h.place (with_more n 1 r)) (sym here);
+      added = ap (λ l. l ++ wide) h.added ∙ sym (set-append_left rows wide h.index (with_more n 1 (row_at rows h.index)) h.there.0) ∙ ap (λ r. set (rows ++ wide) h.index (with_more n 1 r)) (sym here);
     }
 
 all_wide : (rows wide new : List Row) (k c n : ℕ) → AddsThere wide new k c n → AddsThere (rows ++ wide) (rows ++ new) k c n
 all_wide rows wide new k c n h =
-    let here = get_or-append-add rows wide h.place (new_row 0 0) in
+    let here = get_or-append-add rows wide h.index (new_row 0 0) in
     record {
-      place = length rows + h.place;
+      index = length rows + h.index;
       there = (omega (arith, h.there.0, length-append rows wide), ap (λ r. is_row k c r) here ∙ h.there.1);
-      added = ap (λ l. rows ++ l) h.added ∙ set_last rows wide h.place (with_more n 1 (row_at wide h.place)) ∙ ap (λ r. set (rows ++ wide) (length rows + h.place) (with_more n 1 r)) (sym here);
+      added = ap (λ l. rows ++ l) h.added ∙ set_last rows wide h.index (with_more n 1 (row_at wide h.index)) ∙ ap (λ r. set (rows ++ wide) (length rows + h.index) (with_more n 1 r)) (sym here);
     }
 
 abbrev ply_row : ℕ → ℕ → ℕ → Row
@@ -94,14 +94,14 @@ pub spills_more : (rows new wide : List Row) → ((k c : ℕ) → count_of rows 
 spills_more rows new wide grows s = record { distinct = s.distinct; there = λ j lt. let here = s.there j lt in let more = grows (row_at wide j).key (row_at wide j).code in omega arith }
 
 pub spills_narrow : (rows new wide : List Row) (k c n : ℕ) → AddsThere rows new k c n → Spills rows wide → Spills new wide
-spills_narrow rows new wide k c n h s = spills_more rows new wide (λ a b. let same = ap (λ l. count_of l a b) h.added ∙ count_set rows h.place n 1 a b h.there.0 in omega (arith, same)) s
+spills_narrow rows new wide k c n h s = spills_more rows new wide (λ a b. let same = ap (λ l. count_of l a b) h.added ∙ count_set rows h.index n 1 a b h.there.0 in omega (arith, same)) s
 
 spills_wide : (rows wide new : List Row) (k c n : ℕ) → AddsThere wide new k c n → Spills rows wide → Spills rows new
 spills_wide rows wide new k c n h s = subst (Spills rows) (sym h.added) (record {
-  distinct = IsDistinct-more wide h.place n h.there.0 s.distinct;
+  distinct = IsDistinct-more wide h.index n h.there.0 s.distinct;
   there = λ j lt.
-      let keys = same_keys wide h.place n j (new_row 0 0) h.there.0 in
-      subst (λ m. 0 < m) (λ i. count_of rows (sym keys.0 i) (sym keys.1 i)) (s.there j (omega (arith, lt, length-set wide h.place (with_more n 1 (row_at wide h.place)))));
+      let keys = same_keys wide h.index n j (new_row 0 0) h.there.0 in
+      subst (λ m. 0 < m) (λ i. count_of rows (sym keys.0 i) (sym keys.1 i)) (s.there j (omega (arith, lt, length-set wide h.index (with_more n 1 (row_at wide h.index)))));
 })
 
 pub spills_pushed : (rows wide : List Row) (row : Row) → count_of wide row.key row.code ≡ 0 → 0 < count_of rows row.key row.code → Spills rows wide → Spills rows (wide ++ row ∷ [])
@@ -164,8 +164,8 @@ room_for rows wide k c none some s =
 
 -- ---- a narrow row more
 
-pub keeps_none : Keeps [] []
-keeps_none = record { fit = record { points = λ k c. omega arith; times = λ k c. omega arith }; plied = record { paid = λ k c none. refl }; spills = spills_none }
+pub sound_none : AreSound [] []
+sound_none = record { fit = record { points = λ k c. omega arith; times = λ k c. omega arith }; plied = record { paid = λ k c none. refl }; spills = spills_none }
 
 moved : (rows wide : List Row) (r : Row) → HoldsSame ((rows ++ wide) ++ r ∷ []) ((rows ++ r ∷ []) ++ wide)
 moved rows wide r k c =
@@ -180,16 +180,16 @@ moved rows wide r k c =
 pub makes_beside : (rows wide : List Row) (key code : ℕ) → MakesRow (bag_content (rows ++ wide)) (bag_content ((rows ++ new_row key code ∷ []) ++ wide)) key code
 makes_beside rows wide key code k c = moved rows wide (new_row key code) k c ∙ makes_pushed (rows ++ wide) key code k c
 
-pub keeps_beside : (rows wide : List Row) (key code : ℕ) → Keeps rows wide → Keeps (rows ++ new_row key code ∷ []) wide
-keeps_beside rows wide key code k = record {
+pub sound_beside : (rows wide : List Row) (key code : ℕ) → AreSound rows wide → AreSound (rows ++ new_row key code ∷ []) wide
+sound_beside rows wide key code k = record {
   fit = fit_same ((rows ++ wide) ++ new_row key code ∷ []) _ (moved rows wide (new_row key code)) (fit_pushed (rows ++ wide) key code k.fit);
   plied = plied_same ((rows ++ wide) ++ new_row key code ∷ []) _ (moved rows wide (new_row key code)) (plied_pushed (rows ++ wide) key code k.plied);
   spills = spills_more rows (rows ++ new_row key code ∷ []) wide (λ a b. omega (arith, sum_by_push (one a b) rows (new_row key code))) k.spills;
 }
 
-pub keeps_added : (rows wide new_rows new_wide : List Row) (key code n : ℕ) → AddsPly (bag_content (rows ++ wide)) (bag_content (new_rows ++ new_wide)) key code n
-    → HasRoomFor (held (bag_content (rows ++ wide)) key code) n → Spills new_rows new_wide → Keeps rows wide → Keeps new_rows new_wide
-keeps_added rows wide new_rows new_wide key code n adds fits spills k = record {
+pub sound_added : (rows wide new_rows new_wide : List Row) (key code n : ℕ) → AddsPly (bag_content (rows ++ wide)) (bag_content (new_rows ++ new_wide)) key code n
+    → HasRoomFor (held (bag_content (rows ++ wide)) key code) n → Spills new_rows new_wide → AreSound rows wide → AreSound new_rows new_wide
+sound_added rows wide new_rows new_wide key code n adds fits spills k = record {
   fit = fit_added (rows ++ wide) (new_rows ++ new_wide) key code n adds k.fit fits;
   plied = plied_added (rows ++ wide) (new_rows ++ new_wide) key code n adds k.plied;
   spills = spills;
@@ -213,17 +213,17 @@ wide_room rows wide key code n room = record {
 }
 
 pub there_length : (old new : List Row) (k c n : ℕ) → AddsThere old new k c n → length new ≡ length old
-there_length old new k c n h = ap length h.added ∙ length-set old h.place (with_more n 1 (row_at old h.place))
+there_length old new k c n h = ap length h.added ∙ length-set old h.index (with_more n 1 (row_at old h.index))
 
--- the rows added up and parted keep all that
-same_parted : (rows wide sums new_rows new_wide : List Row) → HoldsSame (rows ++ wide) sums → IsParted sums new_rows new_wide → HoldsSame (rows ++ wide) (new_rows ++ new_wide)
-same_parted rows wide sums new_rows new_wide added parted k c = parted.same k c ∙ added k c
+-- the rows added up and narrowed keep all that
+same_narrowed : (rows wide sums new_rows new_wide : List Row) → HoldsSame (rows ++ wide) sums → AreNarrowed sums new_rows new_wide → HoldsSame (rows ++ wide) (new_rows ++ new_wide)
+same_narrowed rows wide sums new_rows new_wide added narrowed k c = narrowed.same k c ∙ added k c
 
-pub keeps_parted : (rows wide sums new_rows new_wide : List Row) → Keeps rows wide → HoldsSame (rows ++ wide) sums → IsParted sums new_rows new_wide → Keeps new_rows new_wide
-keeps_parted rows wide sums new_rows new_wide k added parted =
-    let same = same_parted rows wide sums new_rows new_wide added parted in
+pub sound_narrowed : (rows wide sums new_rows new_wide : List Row) → AreSound rows wide → HoldsSame (rows ++ wide) sums → AreNarrowed sums new_rows new_wide → AreSound new_rows new_wide
+sound_narrowed rows wide sums new_rows new_wide k added narrowed =
+    let same = same_narrowed rows wide sums new_rows new_wide added narrowed in
     record {
       fit = fit_same (rows ++ wide) (new_rows ++ new_wide) same k.fit;
       plied = plied_same (rows ++ wide) (new_rows ++ new_wide) same k.plied;
-      spills = parted.spills;
+      spills = narrowed.spills;
     }

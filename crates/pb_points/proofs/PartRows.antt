@@ -122,11 +122,11 @@ module _ {T : Type 0} (content : T → Content) where
   pub listing_goes_on : (parts : List T) (rows more : List Row) (i : ℕ) (part : T) → HoldsOwn content parts → slice_get parts i ≡ Some part → Listing parts rows i
       → AllPairs IsBelow more → ((r : Row) → Contains more r ↔ (content part r.key r.code ≡ Some (held_of r))) → Listing parts (rows ++ more) (i + 1)
   listing_goes_on parts rows more i part own is l rise each = record {
-    rise = all_pairs_append IsBelow rows more l.rise rise (λ r s a b. inl (lower_part r.key s.key (lower r s ((l.each r).0 a).0 (place s b))));
+    rise = all_pairs_append IsBelow rows more l.rise rise (λ r s a b. inl (lower_part r.key s.key (lower r s ((l.each r).0 a).0 (index s b))));
     each = λ r. (
       λ h. elim (Contains-append_cases rows more r h) [
         | inl old ↦ (next ((l.each r).0 old).0, ((l.each r).0 old).1)
-        | inr new ↦ (last (place r new), here r (place r new) ∙ (each r).0 new)
+        | inr new ↦ (last (index r new), here r (index r new) ∙ (each r).0 new)
       ],
       λ h. elim (cases_lt (part_of r.key) i) [
         | inl low ↦ Contains-append_left rows more r ((l.each r).1 (low, h.1))
@@ -137,8 +137,8 @@ module _ {T : Type 0} (content : T → Content) where
     );
   }
     where
-      place : (r : Row) → Contains more r → part_of r.key ≡ i
-      place r new = own i r.key r.code part is (is_some (Some (held_of r)) (content part r.key r.code) (sym ((each r).0 new)) refl)
+      index : (r : Row) → Contains more r → part_of r.key ≡ i
+      index r new = own i r.key r.code part is (is_some (Some (held_of r)) (content part r.key r.code) (sym ((each r).0 new)) refl)
 
       here : (r : Row) → part_of r.key ≡ i → parts_content content parts r.key r.code ≡ content part r.key r.code
       here r at = ap (option_and_then (λ part. content part r.key r.code)) (ap (slice_get parts) at ∙ is)

@@ -1,20 +1,20 @@
 -- The book of what rows hold together, one key after another.
-use Rattle.std.proofs.Common.{◌≡◌, ℕ, ◌+◌, ◌<◌, ◌≤◌, Bool, true, false, if◌then◌else◌, Some, None, List, [], ◌∷◌, ◌++◌, length, get_or, AllPairs, Contains, refl, sym, ap, subst, ◌∙◌, inl, inr, arith, append-nil, append_assoc, true≢false}
+use Rattle.std.proofs.Common.{◌≡◌, ℕ, ◌+◌, ◌<◌, ◌≤◌, Bool, true, false, if◌then◌else◌, Some, None, List, [], ◌∷◌, ◌++◌, length, get_or, AllPairs, Contains, refl, sym, ap, ◌∙◌, inl, inr, arith, true≢false}
 use Rattle.std.specs.Option.{is_some}
 use Rattle.std.specs.Prelude.{nat_lt}
 use Rattle.std.proofs.lemmas.Bool.Decides.{nat_tests}
-use Rattle.std.proofs.lemmas.List.Elements.{Contains-append_cases, Contains-append_left, Contains-append_right, Contains-get_or}
+use Rattle.std.proofs.lemmas.List.Elements.{Contains-get_or}
 use Rattle.std.proofs.lemmas.List.Sums.{sum_by-append, sum_by-cons}
 use Rattle.pb_poly.specs.declared.entry.Entry.{Entry}
 use Rattle.pb_points.specs.declared.row.Row.{Row}
 use Rattle.pb_points.specs.Bag.{IsAddedUp, SumsFit, bag_content, count_of, gain, points_of, times_of}
-use Rattle.pb_points.specs.Group.{AddsBook, AddsBookOfSums, IsBagGroup, IsGroup}
+use Rattle.pb_points.specs.Group.{AddsBookOfSums, IsGroup}
 use Rattle.pb_points.specs.Rows.{IsBelow, IsUpTo}
 use Rattle.pb_points.specs.Tally.{Held, held_of}
 use Rattle.pb_points.specs.TallyBook.{AddsSome}
 use Rattle.pb_points.proofs.AddedRows.{added_each, found, some_counted}
 use Rattle.pb_points.proofs.BagRows.{held_points, held_times, new_row, of_sums, one, one_of, points_held, row_at, times_held}
-use Rattle.pb_points.proofs.Groups.{AllPairs-append, IsCut, KeysBelow, adds_both, adds_more, adds_nothing, cut_below, cut_one, cut_rise, cut_rise_later, keys_rise}
+use Rattle.pb_points.proofs.Groups.{AllPairs-append, KeysBelow, adds_both, adds_more, adds_nothing, keys_rise}
 use Rattle.pb_points.proofs.Pairs.{is_pair_itself, is_pair_same}
 use Rattle.pb_points.proofs.Weighing.{keys_agree}
 
@@ -35,9 +35,9 @@ some_same rows sums added k c =
 -- a sum has the key of some row
 sum_key : (rows sums : List Row) → IsAddedUp rows sums → (s : Row) → Contains sums s → (r : Row) × Contains rows r × (r.key ≡ s.key)
 sum_key rows sums added s there =
-    let place = found rows s.key s.code (some_counted rows s.key s.code (held_of s) ((added_each rows sums added s).0 there)) in
-    let r = row_at rows place.0 in
-    (r, Contains-get_or rows place.0 (new_row 0 0) place.1, (is_pair_same r.key r.code s.key s.code place.2).0)
+    let index = found rows s.key s.code (some_counted rows s.key s.code (held_of s) ((added_each rows sums added s).0 there)) in
+    let r = row_at rows index.0 in
+    (r, Contains-get_or rows index.0 (new_row 0 0) index.1, (is_pair_same r.key r.code s.key s.code index.2).0)
 
 either_some : (a b m n : ℕ) → nat_lt 0 a ≡ nat_lt 0 m → nat_lt 0 b ≡ nat_lt 0 n → nat_lt 0 (a + b) ≡ nat_lt 0 (m + n)
 either_some a b m n e f = grind (arith, nat_tests)
@@ -66,12 +66,13 @@ module _ (rows sums others more : List Row) (below : KeysBelow rows others) (g :
           (λ i. of_sums (count_of (sums ++ more) k c) (points i) (times i))
           ∙ ap (λ b. if b then Some (record { points = points_of (rows ++ others) k c; times = times_of (rows ++ others) k c }) else None) some
 
-  pub sums_both : (old mid new : List Entry) → AddsBook sums old mid → AddsBook more mid new → AddsBookOfSums (rows ++ others) old new
-  sums_both old mid new a b = (sums ++ more, added_both, adds_both sums more old mid new sums_below a b)
+pub sums_both : (rows others : List Row) (old mid new : List Entry) → KeysBelow rows others → AddsBookOfSums rows old mid → AddsBookOfSums others mid new → AddsBookOfSums (rows ++ others) old new
+sums_both rows others old mid new below a b =
+    (a.0 ++ b.0, added_both rows a.0 others b.0 below a.1 b.1, adds_both a.0 b.0 old mid new (sums_below rows a.0 others b.0 below a.1 b.1) a.2 b.2)
 
--- the sums of one part are within bounds where those of all are
-pub fit_part : (rows done group later : List Row) → rows ≡ done ++ (group ++ later) → SumsFit rows → SumsFit group
-fit_part rows done group later is fit = record {
+-- the sums of a piece are within bounds where those of all are
+pub fit_piece : (rows done group later : List Row) → rows ≡ done ++ (group ++ later) → SumsFit rows → SumsFit group
+fit_piece rows done group later is fit = record {
   points = λ k c. omega (arith, fit.points k c, ap (λ l. points_of l k c) is, sum_by-append (gain (λ r. r.points) k c) done (group ++ later), sum_by-append (gain (λ r. r.points) k c) group later);
   times = λ k c. omega (arith, fit.times k c, ap (λ l. times_of l k c) is, sum_by-append (gain (λ r. r.times) k c) done (group ++ later), sum_by-append (gain (λ r. r.times) k c) group later);
 }
@@ -82,8 +83,8 @@ first_counted : (rows : List Row) → 0 < length rows → 0 < count_of rows (row
 first_counted [] some = absurd (omega arith)
 first_counted (r ∷ rows) some = omega (arith, sum_by-cons (one r.key r.code) r rows, one_of r.key r.code r (is_pair_itself r.key r.code))
 
-pub sums_group : (rows sums : List Row) → IsBagGroup rows → IsAddedUp rows sums → IsGroup sums
-sums_group rows sums group added = record { some = some sums refl; rise = added.rise; one = one_key }
+pub sums_group : (rows sums : List Row) → IsGroup IsUpTo rows → IsAddedUp rows sums → IsGroup IsBelow sums
+sums_group rows sums group added = record { some = some sums refl; ordered = added.rise; one = one_key }
   where
     first : Row
     first = row_at rows 0
@@ -103,51 +104,12 @@ sums_group rows sums group added = record { some = some sums refl; rise = added.
 
 -- ---- one key after another
 
--- the book of what the rows before the rest hold together, whose keys are below those of the rest,
--- was added
-pub record AreSumsSoFar (rows : List Row) (old new : List Entry) (rest : List Row) : Type 0 where
-  pub done : List Row
-  pub split : rows ≡ done ++ rest
-  pub below : KeysBelow done rest
-  pub ordered : AllPairs IsUpTo rest
-  pub adds : AddsBookOfSums done old new
-
-order_rises : (r s : Row) → IsUpTo r s → r.key ≤ s.key
+pub order_rises : (r s : Row) → IsUpTo r s → r.key ≤ s.key
 order_rises r s (inl under) = keys_rise r s under
 order_rises r s (inr same) = omega arith
 
-pub bag_group : (rest group later : List Row) → IsCut rest group later → AllPairs IsUpTo rest → IsBagGroup group
-bag_group rest group later cut ordered = record {
-  some = cut.some;
-  ordered = cut_rise IsUpTo order_rises rest group later cut ordered;
-  one = cut_one IsUpTo order_rises rest group later cut ordered;
-}
-
-pub sums_start : (rows rest : List Row) (old : List Entry) → rows ≡ rest → AllPairs IsUpTo rows → AreSumsSoFar rows old old rest
-sums_start rows rest old same ordered = record {
-  done = [];
-  split = same;
-  below = λ r s a b. absurd (omega (arith, a.1));
-  ordered = subst (AllPairs IsUpTo) same ordered;
-  adds = ([], record { rise = λ i j d lt within. absurd (omega arith); same = λ k c. refl }, adds_nothing old);
-}
-
-pub sums_more : (rows rest group later : List Row) (old mid new : List Entry) → AreSumsSoFar rows old mid rest → IsCut rest group later → AddsBookOfSums group mid new → AreSumsSoFar rows old new later
-sums_more rows rest group later old mid new h cut adds = record {
-  done = h.done ++ group;
-  split = h.split ∙ ap (λ l. h.done ++ l) cut.split ∙ sym (append_assoc h.done group later);
-  below = λ r s a b. elim (Contains-append_cases h.done group r a) [
-    | inl before ↦ h.below r s before (subst (λ l. Contains l s) (sym cut.split) (Contains-append_right group later s b))
-    | inr now ↦ cut_below IsUpTo order_rises rest group later cut h.ordered r s now b
-  ];
-  ordered = cut_rise_later IsUpTo order_rises rest group later cut h.ordered;
-  adds = sums_both h.done h.adds.0 group adds.0 (λ r s a b. h.below r s a (subst (λ l. Contains l s) (sym cut.split) (Contains-append_left group later s b)))
-      h.adds.1 adds.1 old mid new h.adds.2 adds.2;
-}
-
-pub sums_all : (rows rest : List Row) (old new : List Entry) → length rest ≡ 0 → AreSumsSoFar rows old new rest → AddsBookOfSums rows old new
-sums_all rows [] old new none h = subst (λ D. AddsBookOfSums D old new) (sym (h.split ∙ append-nil h.done)) h.adds
-sums_all rows (r ∷ rest) old new none h = absurd (omega arith)
+pub sums_nothing : (old : List Entry) → AddsBookOfSums [] old old
+sums_nothing old = ([], record { rise = λ i j d lt within. absurd (omega arith); same = λ k c. refl }, adds_nothing old)
 
 pub sums_some : (rows : List Row) (old mid new : List Entry) → AddsBookOfSums rows old mid → AddsSome mid new → AddsSome old new
 sums_some rows old mid new h more = adds_more h.0 old mid new h.2 more

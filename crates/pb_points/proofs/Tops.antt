@@ -1,21 +1,21 @@
--- Rows at their places, and the greatest points under a key.
+-- Rows at their indices, and the greatest points under a key.
 use Rattle.std.proofs.Common.{◌≡◌, ℕ, ◌<◌, ◌↔◌, List, length, All, Contains, subst, ◌∙◌, arith}
 use Rattle.std.proofs.lemmas.List.{get_or_default}
 use Rattle.std.proofs.lemmas.List.Elements.{Contains-get_or}
 use Rattle.pb_points.specs.declared.row.Row.{Row}
 use Rattle.pb_points.specs.Rows.{IsTop, row_at}
 
-abbrev row_0 : Row
+abbrev pub row_0 : Row
 row_0 = record { key = 0; code = 0; points = 0; times = 0 }
 
--- a row of the list has a place
-pub place_of_row : (rows : List Row) (r : Row) → Contains rows r → (i : ℕ) × (i < length rows) × (row_at rows i ≡ r)
-place_of_row rows r h = (h.0, h.1, get_or_default rows h.0 row_0 r h.1 ∙ h.2)
+-- a row of the list has an index
+pub index_of_row : (rows : List Row) (r : Row) → Contains rows r → (i : ℕ) × (i < length rows) × (row_at rows i ≡ r)
+index_of_row rows r h = (h.0, h.1, get_or_default rows h.0 row_0 r h.1 ∙ h.2)
 
 pub Contains-row_at : (rows : List Row) (i : ℕ) → i < length rows → Contains rows (row_at rows i)
 Contains-row_at rows i lt = Contains-get_or rows i row_0 lt
 
--- what holds of each row holds of those at places
+-- what holds of each row holds of those at indices
 pub All-Contains : (P : Row → Type 0) (rows : List Row) → All P rows → (r : Row) → Contains rows r → P r
 All-Contains P rows all r h = subst P h.2 (all h.0 r h.1)
 

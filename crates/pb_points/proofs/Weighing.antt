@@ -9,9 +9,9 @@ use Rattle.std.proofs.lemmas.List.Sorted.{IsPermutation-sym, Contains-permutatio
 use Rattle.pb_poly.specs.declared.entry.Entry.{Entry}
 use Rattle.pb_points.specs.declared.row.Row.{Row}
 use Rattle.pb_points.specs.Group.{AddsBook, IsEntryGroup, IsGroup, Orders, entry_with}
-use Rattle.pb_points.specs.Rows.{Gives, IsBookOfRows, IsTop, row_at}
+use Rattle.pb_points.specs.Rows.{Gives, IsBelow, IsBookOfRows, IsTop, row_at}
 use Rattle.pb_points.specs.Weight.{scaled}
-use Rattle.pb_points.proofs.Tops.{All-Contains, IsTop-unique, place_of_row}
+use Rattle.pb_points.proofs.Tops.{All-Contains, IsTop-unique, index_of_row, row_0}
 
 -- the entries are those that the first n rows give
 pub record AreWeighed (rows : List Row) (n : ℕ) (entries : List Entry) : Type 0 where
@@ -31,20 +31,20 @@ Gives-unique rows r e f g h =
 -- rows of one key have that of each
 pub keys_agree : (rows : List Row) → AllPairs (λ r s. r.key ≡ s.key) rows → (r s : Row) → Contains rows r → Contains rows s → r.key ≡ s.key
 keys_agree rows one r s h k =
-    let p = place_of_row rows r h in
-    let q = place_of_row rows s k in
-    ap (λ (x : Row). x.key) (sym p.2) ∙ by_place p.0 q.0 p.1 q.1 ∙ ap (λ (x : Row). x.key) q.2
+    let p = index_of_row rows r h in
+    let q = index_of_row rows s k in
+    ap (λ (x : Row). x.key) (sym p.2) ∙ by_index p.0 q.0 p.1 q.1 ∙ ap (λ (x : Row). x.key) q.2
   where
-    by_place : (i j : ℕ) → i < length rows → j < length rows → (row_at rows i).key ≡ (row_at rows j).key
-    by_place i j lt within = elim (cases_lt i j) [
-      | inl up ↦ one i j (record { key = 0; code = 0; points = 0; times = 0 }) up within
+    by_index : (i j : ℕ) → i < length rows → j < length rows → (row_at rows i).key ≡ (row_at rows j).key
+    by_index i j lt within = elim (cases_lt i j) [
+      | inl up ↦ one i j row_0 up within
       | inr le ↦ elim (cases_lt j i) [
-        | inl down ↦ sym (one j i (record { key = 0; code = 0; points = 0; times = 0 }) down lt)
+        | inl down ↦ sym (one j i row_0 down lt)
         | inr ge ↦ let e : i ≡ j = omega arith in ap (λ m. (row_at rows m).key) e
       ]
     ]
 
-module _ (rows : List Row) (group : IsGroup rows) where
+module _ (rows : List Row) (group : IsGroup IsBelow rows) where
   -- the greatest points of all rows are those of their key
   pub group_top : (M : ℕ) → All (λ r. r.points ≤ M) rows → Any (λ r. r.points ≡ M) rows → (r : Row) → Contains rows r → IsTop rows r.key M
   group_top M above met r h = record {
@@ -54,18 +54,18 @@ module _ (rows : List Row) (group : IsGroup rows) where
 
   module _ (i : ℕ) (lt : i < length rows) (entries : List Entry) (h : AreWeighed rows i entries) where
     more : take (i + 1) rows ≡ take i rows ++ row_at rows i ∷ []
-    more = take_more rows i (record { key = 0; code = 0; points = 0; times = 0 }) lt
+    more = take_more rows i row_0 lt
 
     -- an entry before comes from a row of the same key and a lower code
     earlier : (e f : Entry) → Contains entries f → Gives rows (row_at rows i) e → (f.key ≡ e.key) × (f.code < e.code)
     earlier e f there g =
         let w = (h.members f).0 there in
-        let p = place_of_row (take i rows) w.0 w.1 in
+        let p = index_of_row (take i rows) w.0 w.1 in
         let within : p.0 < i = omega (arith, p.1, length-take-le i rows (omega arith)) in
-        let is : row_at rows p.0 ≡ w.0 = sym (get_or-take i rows p.0 (record { key = 0; code = 0; points = 0; times = 0 }) within) ∙ p.2 in
-        let key : w.0.key ≡ (row_at rows i).key = ap (λ (x : Row). x.key) (sym is) ∙ group.one p.0 i (record { key = 0; code = 0; points = 0; times = 0 }) within lt in
+        let is : row_at rows p.0 ≡ w.0 = sym (get_or-take i rows p.0 row_0 within) ∙ p.2 in
+        let key : w.0.key ≡ (row_at rows i).key = ap (λ (x : Row). x.key) (sym is) ∙ group.one p.0 i row_0 within lt in
         let code : w.0.code < (row_at rows i).code = subst (λ (x : Row). x.code < (row_at rows i).code) is
-        (elim (group.rise p.0 i (record { key = 0; code = 0; points = 0; times = 0 }) within lt) [ inl up ↦ absurd (omega (arith, group.one p.0 i (record { key = 0; code = 0; points = 0; times = 0 }) within lt)) | inr low ↦ low.1 ]) in
+        (elim (group.ordered p.0 i row_0 within lt) [ inl up ↦ absurd (omega (arith, group.one p.0 i row_0 within lt)) | inr low ↦ low.1 ]) in
         (w.2.key ∙ key ∙ sym g.key, omega (arith, code, w.2.code, g.code))
 
     weighed_push : (e : Entry) → Gives rows (row_at rows i) e → AreWeighed rows (i + 1) (entries ++ e ∷ [])
@@ -132,7 +132,7 @@ pub record AddsWeighed (rows : List Row) (n : ℕ) (old new : List Entry) : Type
   pub split : new ≡ old ++ added
   pub weighed : AreWeighed rows n added
 
-module _ (rows : List Row) (group : IsGroup rows) (i : ℕ) (lt : i < length rows) (M : ℕ) (top : IsTop rows (row_at rows i).key M) (old new : List Entry) (h : AddsWeighed rows i old new) where
+module _ (rows : List Row) (group : IsGroup IsBelow rows) (i : ℕ) (lt : i < length rows) (M : ℕ) (top : IsTop rows (row_at rows i).key M) (old new : List Entry) (h : AddsWeighed rows i old new) where
   -- the next row's entry was added
   pub adds_push : (e : Entry) → (1 ≤ e.weight) × (e ≡ entry_with (row_at rows i) (scaled (row_at rows i).points M)) → AddsWeighed rows (i + 1) old (new ++ e ∷ [])
   adds_push e is = record {

@@ -9,13 +9,13 @@ use Rattle.pb_points.specs.Tally.{Held}
 abbrev pub count_of : List Row → ℕ → ℕ → ℕ
 count_of rows k c = count_by (is_row k c) rows
 
--- a part of a row, where it is of this key and this code
+-- a field of a row, where it is of this key and this code
 abbrev pub gain : (Row → ℕ) → ℕ → ℕ → Row → ℕ
-gain part k c r = if is_row k c r then part r else 0
+gain field k c r = if is_row k c r then field r else 0
 
--- the sum of a part of all rows of a key and a code
+-- the sum of a field over all rows of a key and a code
 abbrev pub total : (Row → ℕ) → List Row → ℕ → ℕ → ℕ
-total part rows k c = sum_by (gain part k c) rows
+total field rows k c = sum_by (gain field k c) rows
 
 abbrev pub points_of : List Row → ℕ → ℕ → ℕ
 points_of = total (λ r. r.points)
@@ -41,10 +41,10 @@ pub record ArePlied (rows : List Row) : Type 0 where
 abbrev pub HoldsSame : List Row → List Row → Type 0
 HoldsSame old new = (k c : ℕ) → bag_content new k c ≡ bag_content old k c
 
--- at the place is a row of this key and this code
+-- at the index is a row of this key and this code
 abbrev pub IsRowAt : List Row → ℕ → ℕ → ℕ → Type 0
-IsRowAt rows place k c = (place < length rows) × IsTrue
-    (is_row k c (slice_index_or rows place (record { key = 0; code = 0; points = 0; times = 0 })))
+IsRowAt rows index k c = (index < length rows) × IsTrue
+    (is_row k c (slice_index_or rows index (record { key = 0; code = 0; points = 0; times = 0 })))
 
 -- one row for each key and code of the rows, in order, with what they hold together
 pub record IsAddedUp (rows sums : List Row) : Type 0 where

@@ -16,13 +16,13 @@ rows_in blocks = flat_map (λ block. block.items) blocks
 abbrev pub rows_of : Blocks → List Row
 rows_of blocks = rows_in blocks.full.items ++ blocks.last.items
 
--- in this block, at the place, is a row of this key and this code
+-- in this block, at the index, is a row of this key and this code
 abbrev pub IsRowIn : List (Vec Row Global) → ℕ → ℕ → ℕ → ℕ → Type 0
-IsRowIn blocks i place k c =
-    (block : Vec Row Global) × (slice_get blocks i ≡ Some block) × IsRowAt block.items place k c
+IsRowIn blocks i index k c =
+    (block : Vec Row Global) × (slice_get blocks i ≡ Some block) × IsRowAt block.items index k c
 
 -- one ply more, of n points, is in a row of this key and this code, and no other row has changed
 pub record AddsThere (old new : List Row) (k c n : ℕ) : Type 0 where
-  pub place : ℕ
-  pub there : IsRowAt old place k c
-  pub added : new ≡ slice_set old place (with_more n (row_at old place))
+  pub index : ℕ
+  pub there : IsRowAt old index k c
+  pub added : new ≡ slice_set old index (with_more n (row_at old index))

@@ -3,19 +3,13 @@ use Rattle.std.specs.Prelude.{◌≡◌, ℕ, ◌<◌, List, ◌++◌, length, A
 use Rattle.pb_poly.specs.declared.entry.Entry.{Entry}
 use Rattle.pb_points.specs.declared.row.Row.{Row}
 use Rattle.pb_points.specs.Bag.{IsAddedUp}
-use Rattle.pb_points.specs.Rows.{IsBelow, IsBookOfRows, IsUpTo}
+use Rattle.pb_points.specs.Rows.{IsBookOfRows}
 use Rattle.pb_points.specs.Weight.{Before}
 
--- rows of one key in order
-pub record IsGroup (rows : List Row) : Type 0 where
+-- rows of one key in this order
+pub record IsGroup (R : Row → Row → Type 0) (rows : List Row) : Type 0 where
   pub some : 0 < length rows
-  pub rise : AllPairs IsBelow rows
-  pub one : AllPairs (λ r s. r.key ≡ s.key) rows
-
--- rows of one key in order, of which a code may have several
-pub record IsBagGroup (rows : List Row) : Type 0 where
-  pub some : 0 < length rows
-  pub ordered : AllPairs IsUpTo rows
+  pub ordered : AllPairs R rows
   pub one : AllPairs (λ r s. r.key ≡ s.key) rows
 
 -- entries of one key, their codes rising

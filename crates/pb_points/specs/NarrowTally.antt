@@ -26,13 +26,13 @@ pub record Spills (narrow wide : List Row) : Type 0 where
       → 0 < count_of narrow (row_at wide j).key (row_at wide j).code
 
 -- what is always true of the narrow rows and the wide ones
-pub record Keeps (narrow wide : List Row) : Type 0 where
+pub record AreSound (narrow wide : List Row) : Type 0 where
   pub fit : SumsFit (narrow ++ wide)
   pub plied : ArePlied (narrow ++ wide)
   pub spills : Spills narrow wide
 
 -- the narrow rows and the wide ones hold what these rows hold, and are a narrow one for each
-pub record IsParted (sums narrow wide : List Row) : Type 0 where
+pub record AreNarrowed (sums narrow wide : List Row) : Type 0 where
   pub same : HoldsSame sums (narrow ++ wide)
   pub many : length narrow ≡ length sums
   pub spills : Spills narrow wide

@@ -23,7 +23,7 @@ IsBelow r s = (r.key < s.key) ⊎ ((r.key ≡ s.key) × (r.code < s.code))
 abbrev pub IsUpTo : Row → Row → Type 0
 IsUpTo r s = IsBelow r s ⊎ ((r.key ≡ s.key) × (r.code ≡ s.code))
 
--- the row at a place
+-- the row at an index
 abbrev pub row_at : List Row → ℕ → Row
 row_at rows i = slice_index_or rows i (record { key = 0; code = 0; points = 0; times = 0 })
 

@@ -1,5 +1,4 @@
-//! Narrow rows in blocks: a list that grows by one block more, so that no row moves and little room
-//! is left unused.
+//! Narrow rows in blocks: growing by a block moves no row and leaves little room unused.
 
 ghost use Rattle.std.specs.Prelude.{◌≡◌, ◌≤◌, ◌^◌, ◌+◌, ◌++◌, ◌∷◌, [], if◌then◌else◌, is_ok, false};
 ghost use Rattle.std.specs.Prelude.{true, vec_capacity, vec_len, IfOk, MatchOption, OnOk};
@@ -10,18 +9,15 @@ use crate::narrow::NarrowRow;
 use std::alloc::{AllocError, Global};
 use std::mem;
 
-/// How many rows a block has room for.
 const BLOCK: usize = 64;
 
-/// Narrow rows in blocks: those that are full, and the last one, to which rows are added. The last
-/// one stands beside the list of the others, so that adding a row reads no block before it.
+/// The full blocks, and beside their list the last one, so that adding a row reads no block before.
 #[derive(Drop)]
 pub(crate) struct Blocks {
     pub(crate) full: Vec<Vec<NarrowRow>>,
     pub(crate) last: Vec<NarrowRow>,
 }
 
-/// Makes blocks without rows. It takes no memory.
 pub(crate) fn no_blocks(alloc: Global) -> Blocks
     ensures rows { rows_of result ≡ [] }
     ensures none { vec_len result.last ≡ 0 }
@@ -33,7 +29,6 @@ pub(crate) fn no_blocks(alloc: Global) -> Blocks
     }
 }
 
-/// Makes a block without rows.
 pub(crate) fn new_block(alloc: Global) -> Result<Vec<NarrowRow>, AllocError>
     ensures none { IfOk result (λ b. b.items ≡ []) }
     ensures room { IfOk result (λ b. vec_capacity b ≡ 64) }
@@ -41,7 +36,7 @@ pub(crate) fn new_block(alloc: Global) -> Result<Vec<NarrowRow>, AllocError>
     Vec::with_capacity(alloc, BLOCK)
 }
 
-/// Puts a block behind the last one, or in the place of a last one without rows.
+/// Adds a block, in place of the last one if that has no rows.
 pub(crate) fn put_block(blocks: &mut Blocks, block: Vec<NarrowRow>) -> Result<(), AllocError>
     ensures rows { rows_of blocks.new
         ≡ (if is_ok result then rows_of blocks.old ++ block.items else rows_of blocks.old) }
@@ -57,7 +52,6 @@ pub(crate) fn put_block(blocks: &mut Blocks, block: Vec<NarrowRow>) -> Result<()
     Ok(())
 }
 
-/// Puts a row at the end, in a new block where the last one is full.
 pub(crate) fn push_row(alloc: Global, blocks: &mut Blocks, row: NarrowRow) -> Result<(), AllocError>
     ensures { rows_of blocks.new
         ≡ (if is_ok result then rows_of blocks.old ++ row ∷ [] else rows_of blocks.old) }
@@ -80,7 +74,6 @@ fn room_of(blocks: &Blocks) -> usize {
         .saturating_add(blocks.last.len())
 }
 
-/// Lists the rows of all blocks.
 pub(crate) fn listed(alloc: Global, blocks: &Blocks) -> Result<Vec<NarrowRow>, AllocError>
     ensures { IfOk result (λ v. v.items ≡ rows_of blocks.now) }
 {
@@ -92,35 +85,32 @@ pub(crate) fn listed(alloc: Global, blocks: &Blocks) -> Result<Vec<NarrowRow>, A
     Ok(rows)
 }
 
-/// Finds the block of the last row of a key and a code, and the place in it. What was ensured last
-/// is soon found, since it goes from the end.
-fn place_in(blocks: &[Vec<NarrowRow>], key: u64, code: u16) -> Option<(usize, usize)>
+/// Finds the block of a row and its index there, from the end, as what was ensured last is near it.
+fn index_in(blocks: &[Vec<NarrowRow>], key: u64, code: u16) -> Option<(usize, usize)>
     ensures { MatchOption result (count_of (rows_in blocks.now) key code ≡ 0)
         (λ p. IsRowIn blocks.now p.0 p.1 key code) }
 {
     for block in (0..blocks.len()).rev() {
-        if let Some(place) = place_of(&blocks[block], key, code) {
-            return Some((block, place));
+        if let Some(index) = index_of(&blocks[block], key, code) {
+            return Some((block, index));
         }
     }
     None
 }
 
-/// Finds the place of the last row of a key and a code.
-fn place_of(rows: &[NarrowRow], key: u64, code: u16) -> Option<usize>
+fn index_of(rows: &[NarrowRow], key: u64, code: u16) -> Option<usize>
     ensures { MatchOption result (count_of rows.now key code ≡ 0)
-        (λ place. IsRowAt rows.now place key code) }
+        (λ index. IsRowAt rows.now index key code) }
 {
-    for place in (0..rows.len()).rev() {
-        if rows[place].is_of(key, code) {
-            return Some(place);
+    for index in (0..rows.len()).rev() {
+        if rows[index].is_of(key, code) {
+            return Some(index);
         }
     }
     None
 }
 
-/// Adds a ply with its points to the last row of a key and a code, and tells whether it did: there
-/// may be no such row, or no room in it. It takes no memory.
+/// Adds a ply to the last row of a key and a code, unless there is none or it has no room.
 pub(crate) fn add_ply(blocks: &mut Blocks, key: u64, code: u16, points: u64) -> bool
     ensures added { result ≡ true
         → AddsThere (rows_of blocks.old) (rows_of blocks.new) key code points }
@@ -128,16 +118,15 @@ pub(crate) fn add_ply(blocks: &mut Blocks, key: u64, code: u16, points: u64) -> 
     ensures len { vec_len blocks.new.last ≡ vec_len blocks.old.last }
     ensures room { vec_capacity blocks.new.last ≡ vec_capacity blocks.old.last }
 {
-    if let Some(place) = place_of(&blocks.last, key, code) {
-        return blocks.last[place].add(points);
+    if let Some(index) = index_of(&blocks.last, key, code) {
+        return blocks.last[index].add(points);
     }
-    if let Some((block, place)) = place_in(&blocks.full, key, code) {
-        return blocks.full[block][place].add(points);
+    if let Some((block, index)) = index_in(&blocks.full, key, code) {
+        return blocks.full[block][index].add(points);
     }
     false
 }
 
-/// Adds up the points and the plies of all rows of a key and a code in a block.
 fn held_in(rows: &[NarrowRow], key: u64, code: u16) -> (u64, u64)
     requires points_fit { points rows.now key code ≤ 2 ^ 63 }
     requires times_fit { times rows.now key code ≤ 2 ^ 63 }
@@ -155,7 +144,6 @@ fn held_in(rows: &[NarrowRow], key: u64, code: u16) -> (u64, u64)
     (points, times)
 }
 
-/// Adds up the points and the plies of all rows of a key and a code, block by block.
 pub(crate) fn held_in_blocks(blocks: &Blocks, key: u64, code: u16) -> (u64, u64)
     requires points_fit { points (rows_of blocks.now) key code ≤ 2 ^ 63 }
     requires times_fit { times (rows_of blocks.now) key code ≤ 2 ^ 63 }

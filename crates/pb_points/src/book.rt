@@ -12,13 +12,8 @@ use pb_poly::Entry;
 use std::alloc::AllocError;
 use std::cmp::Reverse;
 
-/// Adds the book of the rows whose keys are `first` or above it, of the moves that were played at
-/// least so many times. The rows are one for each key and code, and rise by key and then code.
-///
-/// # Errors
-///
-/// The entries needed memory that wasn't there. Some may have been added then.
-pub(crate) fn push_stretch(
+/// Adds the book of the rows from the key `first` on, of what occurs at least so often.
+pub(crate) fn push_book(
     entries: &mut Vec<Entry>,
     mut rows: Vec<Row>,
     least: u64,
@@ -29,31 +24,15 @@ pub(crate) fn push_stretch(
         entries.new.items) }
     ensures err { OnErr result (AddsSome entries.old.items entries.new.items) }
 {
-    rows.retain(|row| row.key >= first);
-    rows.retain(|row| row.times >= least);
-    push_book(entries, &rows)
-}
-
-/// Adds the book of rows, one for each key and code, that rise by key and then code. The points of
-/// each key are scaled by the greatest of that key, and moves of weight 0 are left out.
-///
-/// # Errors
-///
-/// The entries needed memory that wasn't there. Some may have been added then.
-fn push_book(entries: &mut Vec<Entry>, rows: &[Row]) -> Result<(), AllocError>
-    requires { AllPairs IsBelow rows.now }
-    ensures ok { OnOk result (AddsBook rows.now entries.old.items entries.new.items) }
-    ensures err { OnErr result (AddsSome entries.old.items entries.new.items) }
-{
+    rows.retain(|row| row.key >= first && row.times >= least);
     for group in rows.chunk_by(|row, next| row.key == next.key) {
         push_group(entries, group)?;
     }
     Ok(())
 }
 
-/// Adds the book of the rows of one key.
 pub(crate) fn push_group(entries: &mut Vec<Entry>, group: &[Row]) -> Result<(), AllocError>
-    requires { IsGroup group.now }
+    requires { IsGroup IsBelow group.now }
     ensures ok { OnOk result (AddsBook group.now entries.old.items entries.new.items) }
     ensures err { OnErr result (AddsSome entries.old.items entries.new.items) }
 {
@@ -68,7 +47,6 @@ pub(crate) fn push_group(entries: &mut Vec<Entry>, group: &[Row]) -> Result<(), 
     Ok(())
 }
 
-/// The greatest points of some rows.
 fn greatest_of(rows: &[Row]) -> u64
     requires { 0 < length rows.now }
     ensures above { All (λ r. r.points ≤ result) rows.now }
@@ -77,8 +55,7 @@ fn greatest_of(rows: &[Row]) -> u64
     rows.iter().map(|row| row.points).max().unwrap()
 }
 
-/// The entry of a row, where `greatest` is the greatest points of its key, or none where its weight
-/// is 0.
+/// Makes the entry of a row, or none where its weight is 0.
 pub(crate) fn entry_of(row: &Row, greatest: u64) -> Option<Entry>
     requires { row.now.points ≤ greatest }
     ensures { MatchOption result
@@ -94,7 +71,6 @@ pub(crate) fn entry_of(row: &Row, greatest: u64) -> Option<Entry>
     })
 }
 
-/// Puts entries of one key in a book's order.
 fn sort_group(entries: &mut [Entry])
     requires { IsEntryGroup entries.old }
     ensures { Orders entries.old entries.new }
@@ -102,9 +78,8 @@ fn sort_group(entries: &mut [Entry])
     entries.sort_unstable_by_key(|entry| (Reverse(entry.weight), entry.code));
 }
 
-/// The weight of a move in a book, where `count` is its points and `greatest` the greatest points
-/// under its key. Counts that fit 16 bits stay as they are; greater ones are scaled so that the
-/// greatest becomes 65535, and rounded down.
+/// Scales points to a weight: where `greatest`, the greatest points of the key, fits 16 bits, they
+/// stay as they are, else it becomes 65535 and the others are rounded down.
 pub fn scale(count: u64, greatest: u64) -> u16
     requires { count ≤ greatest }
     ensures { result ≡ scaled count greatest }

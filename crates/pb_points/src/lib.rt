@@ -1,6 +1,5 @@
-//! Points of moves under keys, kept as games arrive, and the weights and entries that are made of
-//! them. The program takes `MapTally`; `ListTally` is the plainest. Keys and codes are numbers
-//! here, without a setup or a game.
+//! Points and plies by key and code, added as games arrive, and the weights and entries that are
+//! made of them. Keys and codes are numbers here, without a setup or a game.
 #![tactic(auto)]
 
 mod blocks;

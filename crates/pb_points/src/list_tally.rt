@@ -11,8 +11,7 @@ use crate::tally::Tally;
 use std::alloc::{AllocError, Global};
 use std::marker::Model;
 
-/// Points and plies in a plain list of rows, in the order in which they were first made: each call
-/// goes along the list.
+/// The plainest tally: a list of rows in the order in which they were made, searched by each call.
 #[derive(Drop)]
 pub struct ListTally {
     rows: Vec<Row>,
@@ -31,48 +30,35 @@ impl Model for ListTally {
     ghost invariant = { λ t. IsDistinct same_pair t.rows.items };
 }
 
-/// Finds the place of the row of a key and a code.
-pub(crate) fn place_of(rows: &[Row], key: u64, code: u16) -> Option<usize>
+pub(crate) fn position_of(rows: &[Row], key: u64, code: u16) -> Option<usize>
     ensures { result ≡ position (is_row key code) rows.now }
 {
     rows.iter()
         .position(|row| row.key == key && row.code == code)
 }
 
-/// Adds a ply with its points to the row at a place.
-pub(crate) fn add_at(rows: &mut Vec<Row>, place: usize, points: u64)
-    requires within { place < length rows.old.items }
-    requires fits { HasRoomFor (held_of (row_at rows.old.items place)) points }
+pub(crate) fn add_at(rows: &mut Vec<Row>, index: usize, points: u64)
+    requires within { index < length rows.old.items }
+    requires fits { HasRoomFor (held_of (row_at rows.old.items index)) points }
     ensures row { rows.new.items
-        ≡ slice_set rows.old.items place (with_more points (row_at rows.old.items place)) }
+        ≡ slice_set rows.old.items index (with_more points (row_at rows.old.items index)) }
     ensures capacity { vec_capacity rows.new ≡ vec_capacity rows.old }
 {
-    let row = &mut rows[place];
+    let row = &mut rows[index];
     row.points += points;
     row.times += 1;
 }
 
-/// Finds the points and the plies of a key and a code.
-pub(crate) fn held_in(rows: &[Row], key: u64, code: u16) -> (u64, u64)
+pub(crate) fn find_held(rows: &[Row], key: u64, code: u16) -> (u64, u64)
     ensures { held (list_content rows.now) key code
         ≡ record { points = result.0; times = result.1 } }
 {
-    match place_of(rows, key, code) {
-        Some(place) => {
-            let row = rows[place];
+    match position_of(rows, key, code) {
+        Some(index) => {
+            let row = rows[index];
             (row.points, row.times)
         }
         None => (0, 0),
-    }
-}
-
-impl ListTally {
-    /// Finds the points and the plies of a key and a code.
-    fn held(&self, key: u64, code: u16) -> (u64, u64)
-        ensures { held (list_content self.now) key code
-            ≡ record { points = result.0; times = result.1 } }
-    {
-        held_in(&self.rows, key, code)
     }
 }
 
@@ -93,7 +79,7 @@ impl Tally for ListTally {
         // A row that is there takes no memory.
         ensures there { IsSome (list_content self.old key code) → IsOk result }
     {
-        if place_of(&self.rows, key, code).is_some() {
+        if position_of(&self.rows, key, code).is_some() {
             return Ok(());
         }
         self.rows.push(Row {
@@ -106,17 +92,17 @@ impl Tally for ListTally {
     }
 
     fn add(&mut self, key: u64, code: u16, points: u64) {
-        if let Some(place) = place_of(&self.rows, key, code) {
-            add_at(&mut self.rows, place, points);
+        if let Some(index) = position_of(&self.rows, key, code) {
+            add_at(&mut self.rows, index, points);
         }
     }
 
     fn points(&self, key: u64, code: u16) -> u64 {
-        self.held(key, code).0
+        find_held(&self.rows, key, code).0
     }
 
     fn times(&self, key: u64, code: u16) -> u64 {
-        self.held(key, code).1
+        find_held(&self.rows, key, code).1
     }
 
     fn rows(&self, alloc: Global) -> Result<Vec<Row>, AllocError> {

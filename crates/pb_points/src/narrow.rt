@@ -1,4 +1,4 @@
-//! Rows of few points and plies, which take half the memory.
+//! Rows of few points and plies.
 
 ghost use Rattle.std.specs.Prelude.{◌≡◌, ◌+◌, ◌++◌, ◌≤◌, ◌^◌, ◌&&◌, ◌⊎◌, MatchOption, OnOk};
 ghost use Rattle.std.specs.Prelude.{if◌then◌else◌, nat_lt};
@@ -9,7 +9,7 @@ use crate::row::Row;
 use std::alloc::AllocError;
 use std::marker::Model;
 
-/// A row of few points and plies, as nearly all rows are: it takes 16 bytes, and not 32.
+/// A row of few points and plies, as nearly all are: 16 bytes, not 32.
 #[derive(Clone, Copy)]
 pub(crate) struct NarrowRow {
     key: u64,
@@ -29,7 +29,6 @@ impl Model for NarrowRow {
 }
 
 impl NarrowRow {
-    /// Makes a row without plies.
     #[inline(always)]
     pub(crate) fn empty(key: u64, code: u16) -> NarrowRow
         ensures { result ≡ record { key = key; code = code; points = 0; times = 0 } }
@@ -42,7 +41,6 @@ impl NarrowRow {
         }
     }
 
-    /// Narrows a row, or gives none where it has too many points or plies.
     pub(crate) fn of(row: &Row) -> Option<NarrowRow>
         ensures { MatchOption result ((2 ^ 16 ≤ row.now.points) ⊎ (2 ^ 32 ≤ row.now.times))
             (λ narrow. narrow ≡ row.now) }
@@ -57,7 +55,6 @@ impl NarrowRow {
         })
     }
 
-    /// Widens the row.
     #[inline(always)]
     pub(crate) fn row(&self) -> Row
         ensures { result ≡ self.now }
@@ -70,7 +67,6 @@ impl NarrowRow {
         }
     }
 
-    /// Tells whether the row is of this key and this code.
     #[inline(always)]
     pub(crate) fn is_of(&self, key: u64, code: u16) -> bool
         ensures { result ≡ is_row key code self.now }
@@ -78,7 +74,6 @@ impl NarrowRow {
         self.key == key && self.code == code
     }
 
-    /// Adds a ply with its points where the row has room for them, and tells whether it had.
     #[inline(always)]
     pub(crate) fn add(&mut self, points: u64) -> bool
         ensures room { result
@@ -94,7 +89,6 @@ impl NarrowRow {
     }
 }
 
-/// Puts the rows at the end of a list of rows, widened.
 pub(crate) fn add_rows(rows: &mut Vec<Row>, narrow: &[NarrowRow]) -> Result<(), AllocError>
     ensures { OnOk result (rows.new.items ≡ rows.old.items ++ narrow.now) }
 {

@@ -5,15 +5,15 @@ ghost use Rattle.std.specs.Prelude.{IfOk, OnOk};
 ghost use Rattle.std.proofs.Props.{props};
 ghost use Rattle.pb_points.specs.Bag.{HoldsSame, IsAddedUp, SumsFit, bag_content};
 ghost use Rattle.pb_points.specs.Blocks.{rows_of};
-ghost use Rattle.pb_points.specs.NarrowTally.{IsParted, Keeps, all_of};
+ghost use Rattle.pb_points.specs.NarrowTally.{AreNarrowed, AreSound, all_of};
 ghost use Rattle.pb_points.specs.Rows.{IsBelow};
 ghost use Rattle.pb_points.specs.Tally.{MakesRow, held};
 
 use crate::blocks::{
     Blocks, add_ply, held_in_blocks, listed, new_block, no_blocks, push_row, put_block,
 };
-use crate::book::push_stretch;
-use crate::list_tally::held_in;
+use crate::book::push_book;
+use crate::list_tally::find_held;
 use crate::narrow::{NarrowRow, add_rows};
 use crate::row::{Row, sort_rows};
 use crate::spread::order_rows;
@@ -24,40 +24,38 @@ use crate::wide::{add_wide, reserve_wide};
 use pb_poly::Entry;
 use std::alloc::{AllocError, Global};
 
-/// The blocks from which on a full list of them is added up before it grows.
+/// From how many blocks on a full list of them is added up before it grows.
 const MANY: usize = 64;
 
-/// Points and plies in rows, of which a key and a code may have several. `ensure` puts a row at the
-/// end and looks for none; `add` looks from the end, so that it soon finds what was ensured last.
-/// The rows stand in blocks, so that growing moves none of them. A full list of blocks is added up
-/// before it grows: so it takes memory for its keys and codes, and not for each `ensure`.
+/// A tally whose `ensure` puts a narrow row at the end and looks for none, and whose `add` looks
+/// from the end. A full list of blocks is added up before it grows, so that memory goes by keys and
+/// codes and not by calls of `ensure`.
 ///
-/// The rows are narrow, and what one has no room for goes to a wide row beside it. Since `add`
-/// takes no memory, there is always room for as many wide rows as the blocks have room for. That
-/// room is hardly ever used, and but for its first page the system gives none of it before it is.
+/// What a narrow row has no room for goes to a wide one. Since `add` takes no memory, there is room
+/// for as many wide rows as narrow ones. It is hardly ever used, and until it is the system gives
+/// no page of it but the first.
 #[derive(Drop)]
 pub struct NarrowTally {
     alloc: Global,
     rows: Blocks,
-    /// How many rows stand before the last block.
+    /// How many rows come before the last block.
     before: usize,
     wide: Vec<Row>,
-    ghost keeps: { Keeps (rows_of rows) wide.items } by { Prim.hlevel props },
+    ghost sound: { AreSound (rows_of rows) wide.items } by { Prim.hlevel props },
     ghost counted: { before + vec_len rows.last ≡ length (rows_of rows) },
     ghost room: { before + vec_capacity rows.last ≤ vec_capacity wide },
 }
 
-/// Narrow rows, and wide ones beside them.
 #[derive(Drop)]
-struct Parts {
+struct Narrowed {
     rows: Blocks,
     wide: Vec<Row>,
 }
 
-/// Narrows each row. One that has too much for a narrow row stays wide, beside an empty narrow one.
-fn parted(alloc: Global, sums: &[Row]) -> Result<Parts, AllocError>
+/// Narrows each row. One that has too much stays wide, beside an empty narrow one.
+fn narrow(alloc: Global, sums: &[Row]) -> Result<Narrowed, AllocError>
     requires { AllPairs IsBelow sums.now }
-    ensures { IfOk result (λ p. IsParted sums.now (rows_of p.rows) p.wide.items) }
+    ensures { IfOk result (λ p. AreNarrowed sums.now (rows_of p.rows) p.wide.items) }
 {
     let mut rows = no_blocks(alloc);
     let mut wide = Vec::new(alloc);
@@ -70,11 +68,11 @@ fn parted(alloc: Global, sums: &[Row]) -> Result<Parts, AllocError>
             }
         }
     }
-    Ok(Parts { rows, wide })
+    Ok(Narrowed { rows, wide })
 }
 
 impl NarrowTally {
-    /// Adds up the narrow rows and the wide ones: lists one for each key and code, in order.
+    /// Lists one row for each key and code, in order.
     fn sums(&self, alloc: Global) -> Result<Vec<Row>, AllocError>
         ensures { IfOk result (λ v. IsAddedUp (all_of self.now.rows self.now.wide) v.items) }
     {
@@ -90,17 +88,15 @@ impl NarrowTally {
         Ok(rows)
     }
 
-    /// Adds up the points and the plies of a key and a code over all rows.
     fn held(&self, key: u64, code: u16) -> (u64, u64)
         ensures { held (bag_content (all_of self.now.rows self.now.wide)) key code
             ≡ record { points = result.0; times = result.1 } }
     {
         let (points, times) = held_in_blocks(&self.rows, key, code);
-        let (more_points, more_times) = held_in(&self.wide, key, code);
+        let (more_points, more_times) = find_held(&self.wide, key, code);
         (points + more_points, times + more_times)
     }
 
-    /// Puts a row without plies at the end, where the last block has room.
     #[inline(always)]
     fn push_empty(&mut self, key: u64, code: u16)
         requires { vec_len self.old.rows.last < vec_capacity self.old.rows.last }
@@ -110,7 +106,7 @@ impl NarrowTally {
         self.rows.last.push_reserved(NarrowRow::empty(key, code));
     }
 
-    /// Begins a block, and makes room for as many wide rows as it has room for.
+    /// Begins a block, with room for as many wide rows.
     fn begin_block(&mut self) -> Result<(), AllocError>
         ensures same { all_of self.new.rows self.new.wide ≡ all_of self.old.rows self.old.wide }
         ensures room { OnOk result (vec_len self.new.rows.last < vec_capacity self.new.rows.last) }
@@ -123,39 +119,36 @@ impl NarrowTally {
         Ok(())
     }
 
-    /// Adds up the rows, so that one is left for each key and code, and makes room for as many
-    /// blocks more as that takes.
+    /// Leaves one row for each key and code, and makes room for as many blocks again.
     fn add_up(&mut self) -> Result<(), AllocError>
         ensures { HoldsSame (all_of self.old.rows self.old.wide)
             (all_of self.new.rows self.new.wide) }
     {
         let sums = self.sums(self.alloc)?;
-        let mut parts = parted(self.alloc, &sums)?;
-        let many = parts.rows.full.len();
-        parts.rows.full.reserve(many)?;
-        let before = sums.len() - parts.rows.last.len();
+        let mut narrowed = narrow(self.alloc, &sums)?;
+        let many = narrowed.rows.full.len();
+        narrowed.rows.full.reserve(many)?;
+        let before = sums.len() - narrowed.rows.last.len();
         reserve_wide(
             self.alloc,
-            &mut parts.wide,
-            before + parts.rows.last.capacity(),
+            &mut narrowed.wide,
+            before + narrowed.rows.last.capacity(),
         )?;
-        self.rows = parts.rows;
+        self.rows = narrowed.rows;
         self.before = before;
-        self.wide = parts.wide;
+        self.wide = narrowed.wide;
         Ok(())
     }
 
-    /// Makes room for a row in a new block. The rows are added up before, where there are many
-    /// blocks and their list has no room for one more.
+    /// Begins a block, and adds up the rows before where a list of many blocks is full.
     fn make_room(&mut self) -> Result<(), AllocError>
         ensures same { HoldsSame (all_of self.old.rows self.old.wide)
             (all_of self.new.rows self.new.wide) }
         ensures room { OnOk result (vec_len self.new.rows.last < vec_capacity self.new.rows.last) }
     {
-        if self.rows.full.len() < MANY || self.rows.full.len() < self.rows.full.capacity() {
-            return self.begin_block();
+        if self.rows.full.len() >= MANY.max(self.rows.full.capacity()) {
+            self.add_up()?;
         }
-        self.add_up()?;
         self.begin_block()
     }
 }
@@ -208,11 +201,10 @@ impl Tally for NarrowTally {
         entries: &mut Vec<Entry>,
     ) -> Result<Option<u64>, AllocError> {
         if least > 1 || !self.wide.is_empty() {
-            push_stretch(entries, self.rows(alloc)?, least, first)?;
+            push_book(entries, self.rows(alloc)?, least, first)?;
             return Ok(None);
         }
-        // A move without points has no entry, and one with points was played: so rows without
-        // points are left out, and no occurrence is counted.
+        // A move without points has no entry, and one with points was played.
         let mut rows = listed(alloc, &self.rows)?;
         rows.retain(|narrow| {
             let row = narrow.row();

@@ -10,11 +10,11 @@ use crate::tally::Tally;
 use pb_poly::Entry;
 use std::alloc::{AllocError, Global};
 
-/// How many parts there are, one for each value of the upper ten bits of a key.
+/// One part for each value of the upper ten bits of a key.
 const PARTS: usize = 1024;
 
-/// Points and plies in parts by the upper bits of the key, each part a tally of its own, so that
-/// what is worked on is small and near. The parts are made when the first row is.
+/// A tally for each value of the upper ten bits of a key, so that what is worked on is small and
+/// near. The parts are made when the first row is.
 #[derive(Drop)]
 pub struct PartTally<T: Tally> {
     alloc: Global,
@@ -23,20 +23,17 @@ pub struct PartTally<T: Tally> {
     ghost own: { HoldsOwn T.content parts.items },
 }
 
-/// The tally that the program uses: lists that grow at their ends, one for each value of the upper
-/// ten bits of a key. A ply costs a push and a look at the end of a short list, and what the order
-/// of the rows needs is done once, when they are listed.
+/// The tally that the program uses: a ply costs a push and a look at the end of a short list, and
+/// rows are put in order when they are listed.
 pub type MapTally = PartTally<NarrowTally>;
 
-/// The part of a key.
 fn part_of(key: u64) -> usize
     ensures { result ≡ part key }
 {
     (key >> 54) as usize
 }
 
-/// Ends a stretch of keys where the part of its first key ends, if it doesn't end before: says with
-/// which key the next one begins.
+/// Says where the next stretch of keys begins, where none goes beyond the part of its first key.
 fn within_part(first: u64, next: Option<u64>) -> Option<u64>
     requires { IfSome next (λ n. first < n) }
     ensures keys { (k : ℕ) → k < 2 ^ 64
@@ -50,7 +47,6 @@ fn within_part(first: u64, next: Option<u64>) -> Option<u64>
     }
 }
 
-/// A tally without rows for each part.
 fn no_rows<T: Tally>(alloc: Global) -> Result<Vec<T>, AllocError>
     ensures whole { IfOk result (λ v. length v.items ≡ 1024) }
     ensures nothing { IfOk result (λ v. HoldNothing T.content v.items) }

@@ -3,7 +3,7 @@
 ghost use Rattle.std.specs.Prelude.{AllPairs, IsPermutation};
 ghost use Rattle.pb_points.specs.Rows.{IsUpTo};
 
-/// The points of one move under one key, and how often it was played.
+/// Holds the points of one move under one key, and how often it was played.
 #[derive(Clone, Copy, Debug, PartialEq, Eq)]
 pub struct Row {
     /// The key of the setup before the move.
@@ -16,7 +16,6 @@ pub struct Row {
     pub times: u64,
 }
 
-/// Puts the rows in order of key and then code.
 pub(crate) fn sort_rows(rows: &mut Vec<Row>)
     ensures sorted { AllPairs IsUpTo rows.new.items }
     ensures permutation { IsPermutation rows.old.items rows.new.items }

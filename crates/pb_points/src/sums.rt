@@ -6,16 +6,15 @@ ghost use Rattle.pb_points.specs.Rows.{IsUpTo};
 
 use crate::row::Row;
 
-/// Adds up rows that are in order, where those of one key and code stand side by side: one is left
-/// of them.
+/// Leaves one row for each key and code.
 pub(crate) fn add_up(rows: &mut Vec<Row>)
     requires ordered { AllPairs IsUpTo rows.old.items }
     requires fit { SumsFit rows.old.items }
     ensures { IsAddedUp rows.old.items rows.new.items }
 {
     let mut last = 0;
-    for place in 1..rows.len() {
-        let row = rows[place];
+    for index in 1..rows.len() {
+        let row = rows[index];
         let sum = &mut rows[last];
         if row.key == sum.key && row.code == sum.code {
             sum.points += row.points;

@@ -1,9 +1,9 @@
-//! The book of rows of which a key and a code may have several, made key by key, so that the sums
-//! of one key alone are listed.
+//! The book of rows of which a key and a code may have several. Only the sums of one key at a time
+//! are listed.
 
 ghost use Rattle.std.specs.Prelude.{◌∷◌, [], AllPairs, OnErr, OnOk};
 ghost use Rattle.pb_points.specs.Bag.{SumsFit};
-ghost use Rattle.pb_points.specs.Group.{AddsBook, AddsBookOfSums, IsBagGroup};
+ghost use Rattle.pb_points.specs.Group.{AddsBook, AddsBookOfSums, IsGroup};
 ghost use Rattle.pb_points.specs.Rows.{IsUpTo};
 ghost use Rattle.pb_points.specs.TallyBook.{AddsSome};
 
@@ -14,13 +14,6 @@ use crate::sums::add_up;
 use pb_poly::Entry;
 use std::alloc::{AllocError, Global};
 
-/// Adds the book of what the rows of each key and code hold together, where the rows are in order
-/// of key and then code.
-///
-/// # Errors
-///
-/// The entries, or the sums of a key, needed memory that wasn't there. Some entries may have been
-/// added then.
 pub(crate) fn push_sums(
     alloc: Global,
     entries: &mut Vec<Entry>,
@@ -38,14 +31,13 @@ pub(crate) fn push_sums(
     Ok(())
 }
 
-/// Adds the book of the rows of one key. Most keys have one row, and need no sums; those of the
-/// others take the place of what the list held.
+/// Adds the book of the rows of one key. Most keys have one row, and need no sums.
 fn push_key(
     entries: &mut Vec<Entry>,
     sums: &mut Vec<Row>,
     group: &[NarrowRow],
 ) -> Result<(), AllocError>
-    requires group { IsBagGroup group.now }
+    requires group { IsGroup IsUpTo group.now }
     requires fit { SumsFit group.now }
     ensures ok { OnOk result (AddsBookOfSums group.now entries.old.items entries.new.items) }
     ensures err { OnErr result (AddsSome entries.old.items entries.new.items) }
@@ -59,7 +51,6 @@ fn push_key(
     push_group(entries, sums)
 }
 
-/// Adds the book of the only row of a key.
 fn push_only(entries: &mut Vec<Entry>, row: &Row) -> Result<(), AllocError>
     ensures ok { OnOk result (AddsBook (row.now ∷ []) entries.old.items entries.new.items) }
     ensures err { OnErr result (AddsSome entries.old.items entries.new.items) }

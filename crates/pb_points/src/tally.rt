@@ -1,15 +1,15 @@
-//! Points by key and code, kept one way or another.
+//! Points and plies by key and code.
 
 ghost use Rattle.std.specs.Prelude.{◌≡◌, ℕ, ◌<◌, ◌↔◌, Option, None, Some, IsSome, IfOk, IfSome};
 ghost use Rattle.std.specs.Prelude.{OnOk, OnErr, AllPairs, Contains};
 
-use crate::book::push_stretch;
+use crate::book::push_book;
 use crate::row::Row;
 use pb_poly::Entry;
 use std::alloc::{AllocError, Global};
 
-/// The points of moves under keys, and the plies that gave them: a finite map from key and code to
-/// both, in which an absent row means none.
+/// Holds points of moves under keys, and the plies that gave them: a finite map from key and code
+/// to both, in which an absent row means none.
 pub trait Tally: Drop {
     ghost use Rattle.pb_points.specs.declared.row.Row.{Row};
     ghost use Rattle.pb_points.specs.Rows.{IsBelow};
@@ -19,7 +19,7 @@ pub trait Tally: Drop {
     /// What is held of each key and code, where there is a row.
     ghost content: { Self → ℕ → ℕ → Option Held };
 
-    /// A tally without rows. It takes no memory.
+    /// Makes a tally without rows. It takes no memory.
     fn new(alloc: Global) -> Self
         ensures { (k c : ℕ) → content result k c ≡ None };
 
@@ -39,15 +39,15 @@ pub trait Tally: Drop {
         requires fits { HasRoomFor (held (content self.old) key code) points }
         ensures { AddsPly (content self.old) (content self.new) key code points };
 
-    /// The points of a key and a code, 0 where there is no row. It takes no memory.
+    /// Reads the points of a key and a code, 0 where there is no row. It takes no memory.
     fn points(&self, key: u64, code: u16) -> u64
         ensures { result ≡ (held (content self.now) key code).points };
 
-    /// How many plies were added to a key and a code, 0 where there is no row. It takes no memory.
+    /// Counts the plies of a key and a code, 0 where there is no row. It takes no memory.
     fn times(&self, key: u64, code: u16) -> u64
         ensures { result ≡ (held (content self.now) key code).times };
 
-    /// Each row once, by key and then code rising.
+    /// Lists each row once, by key and then code rising.
     ///
     /// # Errors
     ///
@@ -57,10 +57,8 @@ pub trait Tally: Drop {
         ensures each { IfOk result (λ v. (r : Row)
             → Contains v.items r ↔ (content self.now r.key r.code ≡ Some (held_of r))) };
 
-    /// Adds the book of the rows of a stretch of keys to the entries, of the moves that were played
-    /// at least so many times. The stretch begins with the key `first`. The answer is the key with
-    /// which the next one begins, or none after the last. This goes by `rows`, and the stretch ends
-    /// with them; a tally that keeps its rows in parts may list fewer at once.
+    /// Adds the book of a stretch of keys from `first` on, of moves that were played at least so many
+    /// times, and answers with which key the next stretch begins, or none after the last.
     ///
     /// # Errors
     ///
@@ -78,17 +76,16 @@ pub trait Tally: Drop {
         ensures onward { IfOk result (λ next. IfSome next (λ n. first < n)) }
         ensures err { OnErr result (AddsSome entries.old.items entries.new.items) }
     {
-        push_stretch(entries, self.rows(alloc)?, least, first)?;
+        push_book(entries, self.rows(alloc)?, least, first)?;
         Ok(None)
     }
 
-    /// Adds the book of the rows to the entries, of the moves that were played at least so many
-    /// times, one stretch of keys after the other.
+    /// Adds the book of moves that were played at least so many times, one stretch of keys after the
+    /// other.
     ///
     /// # Errors
     ///
-    /// The rows or the entries needed memory that wasn't there. The entries that stood in the list
-    /// stand there still, and some may be behind them.
+    /// As those of `add_stretch`.
     fn add_book(
         &self,
         alloc: Global,

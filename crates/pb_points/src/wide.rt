@@ -1,20 +1,18 @@
-//! Rows that have too many points or plies for a narrow one.
+//! Rows that have too many points or plies for narrow ones.
 
 ghost use Rattle.std.specs.Prelude.{◌≡◌, ◌<◌, ◌≤◌, vec_capacity, vec_len, OnOk};
 ghost use Rattle.pb_points.specs.Bag.{bag_content, count_of};
 ghost use Rattle.pb_points.specs.NarrowTally.{AddsWide};
 ghost use Rattle.pb_points.specs.Tally.{HasRoomFor, held};
 
-use crate::list_tally::{add_at, place_of};
+use crate::list_tally::{add_at, position_of};
 use crate::row::Row;
 use std::alloc::{AllocError, Global};
 
-/// For how many rows room is made at least. So much, 128 KB, lies apart from the blocks, and no
-/// page of it is used for their sake.
+/// 128 KB of rows, which the system lays apart from the blocks: these use no page of them.
 const LEAST: usize = 4096;
 
-/// Adds a ply with its points to the row of a key and a code, or makes a row of it where there is
-/// none. It takes no memory.
+/// Adds a ply with its points, in a new row where there is none. It takes no memory.
 pub(crate) fn add_wide(wide: &mut Vec<Row>, key: u64, code: u16, points: u64)
     requires room { count_of wide.old.items key code ≡ 0
         → vec_len wide.old < vec_capacity wide.old }
@@ -22,8 +20,8 @@ pub(crate) fn add_wide(wide: &mut Vec<Row>, key: u64, code: u16, points: u64)
     ensures adds { AddsWide wide.old.items wide.new.items key code points }
     ensures capacity { vec_capacity wide.new ≡ vec_capacity wide.old }
 {
-    match place_of(wide, key, code) {
-        Some(place) => add_at(wide, place, points),
+    match position_of(wide, key, code) {
+        Some(index) => add_at(wide, index, points),
         None => wide.push_reserved(Row {
             key,
             code,
@@ -33,22 +31,20 @@ pub(crate) fn add_wide(wide: &mut Vec<Row>, key: u64, code: u16, points: u64)
     }
 }
 
-/// Makes room for so many rows in all.
 pub(crate) fn reserve_wide(
     alloc: Global,
     wide: &mut Vec<Row>,
     room: usize,
 ) -> Result<(), AllocError>
     ensures items { wide.new.items ≡ wide.old.items }
-    ensures kept { vec_capacity wide.old ≤ vec_capacity wide.new }
+    ensures grows { vec_capacity wide.old ≤ vec_capacity wide.new }
     ensures room { OnOk result (room ≤ vec_capacity wide.new) }
 {
     if room <= wide.capacity() {
         return Ok(());
     }
     if wide.is_empty() {
-        // Made anew, since a list that grows copies all the room it had, used or not, and the
-        // system then gives the pages of it.
+        // Made anew: a list that grows copies all the room it had, and so uses its pages.
         *wide = Vec::with_capacity(alloc, room.saturating_mul(2).max(LEAST))?;
         return Ok(());
     }

@@ -11,8 +11,8 @@ use Rattle.pb_board.specs.Board.{Place, at, is_piece}
 use Rattle.pb_board.proofs.PieceTests.{is_piece-is}
 use Rattle.pb_board.specs.Piece.{colour_number, kind_number, king_of, piece_of}
 use Rattle.pb_board.specs.declared.castling.Castling.{Castling}
-use Rattle.pb_board.specs.Castling.{castling_from_home, castling_of, castling_row}
-use Rattle.pb_moves.specs.Attacks.{Attacks, Pattern, files_apart, ranks_apart}
+use Rattle.pb_board.specs.Castling.{castling_from_home, castling_row}
+use Rattle.pb_moves.specs.Attacks.{Pattern, files_apart, ranks_apart}
 use Rattle.pb_moves.specs.Moved.{Moved, IsPromotion, moved_of, promotion_number, promotion_of}
 use Rattle.pb_moves.specs.Packed.{promotion_back}
 use Rattle.pb_moves.specs.Legal.{Legal, MayGo}
@@ -51,7 +51,7 @@ no_rook_square side from to (Some c) is near =
 -- the king castles by its own move alone, so the code's square gives back the one that the move
 -- reaches
 back_if : (s : Position) (m : Moved) (king goes : Bool) → is_castling s.turn m ≡ goes → (king ≡ true → files_apart m.from m.to ≤ 2)
-    → (let named = cond (king && goes) (rook_home m) m.to in cond king (king_or s.turn named (castling_from_home m.from named)) named) ≡ m.to
+    → (let target = cond (king && goes) (rook_home m) m.to in cond king (king_or s.turn target (castling_from_home m.from target)) target) ≡ m.to
 back_if s m false goes is near = refl
 back_if s m true false is near = no_rook_square s.turn m.from m.to (castling_from_home m.from m.to) refl (near refl)
 back_if s m true true is near =
@@ -120,15 +120,15 @@ code_is_one s m n number setup x y =
     same_moves m n (p.0 ∙ sym q.0) (p.1 ∙ sym q.1) (p.2 ∙ sym q.2)
 
 -- a move that is made of the parts of a code is the one that has it
-pub made_of_parts : (s : Position) (number from to : ℕ) (promo : Option Kind) (made : Option Moved) → from ≡ (number / 64) % 64 → to ≡ reached s from (number % 64) → promo ≡ promotion_of (number / 4096)
+pub made_of_fields : (s : Position) (number from to : ℕ) (promo : Option Kind) (made : Option Moved) → from ≡ (number / 64) % 64 → to ≡ reached s from (number % 64) → promo ≡ promotion_of (number / 4096)
     → SomeIff made ((from ≢ to) × ForSome promo IsPromotion) (moved_of from to promo) → (m : Moved) → HasCode s m number → made ≡ Some m
-made_of_parts s number from to promo None from_is to_is promo_is made m has =
+made_of_fields s number from to promo None from_is to_is promo_is made m has =
     let p = parts s m number has in
     let same_from : m.from ≡ from = p.0 ∙ sym from_is in
     let same_to : m.to ≡ to = p.1 ∙ ap (λ q. reached s q (number % 64)) (sym from_is) ∙ sym to_is in
     let same_promo : promo ≡ m.promo = promo_is ∙ sym p.2 in
     absurd (made (λ same. has.legal.moves.is_move.moves (same_from ∙ same ∙ sym same_to), λ kind is. has.legal.moves.is_move.promotes kind (sym same_promo ∙ is)))
-made_of_parts s number from to promo (Some n) from_is to_is promo_is made m has =
+made_of_fields s number from to promo (Some n) from_is to_is promo_is made m has =
     let p = parts s m number has in
     let same_from : m.from ≡ from = p.0 ∙ sym from_is in
     let same_to : m.to ≡ to = p.1 ∙ ap (λ q. reached s q (number % 64)) (sym from_is) ∙ sym to_is in

@@ -1,4 +1,4 @@
--- Hexadecimal digits, and the words that they write.
+-- Hexadecimal digits, and the randoms that they write.
 use Rattle.std.proofs.Common.{◌≡◌, ℕ, ◌+◌, ◌*◌, ◌^◌, ◌<◌, ◌≤◌, ◌⊎◌, ◌%◌, List, [], ◌∷◌, length, fold, Option, Some, None, is_some, true, Result, Ok, Err, refl, sym, ap, ◌∙◌, subst, arith}
 use Rattle.std.specs.Prelude.{MatchResult, is_ok}
 use Rattle.std.specs.Char.{digit_value}
@@ -24,16 +24,16 @@ IsDigit byte value =
 abbrev digits_after : ℕ → List ℕ → ℕ
 digits_after n values = fold (λ m v. 16 * m + v) n values
 
--- these are 16 digits that write the word
+-- these are 16 digits that write the random
 abbrev pub WritesRandom : List ℕ → ℕ → Type 0
-WritesRandom digits word = (length digits ≡ 16) × IsNumeral 16 digits × (word ≡ digits_value 16 digits)
+WritesRandom digits random = (length digits ≡ 16) × IsNumeral 16 digits × (random ≡ digits_value 16 digits)
 
 -- the same by the values of the digits
-record WritesWord (digits : List ℕ) (word : ℕ) : Type 0 where
+record WritesByValues (digits : List ℕ) (random : ℕ) : Type 0 where
   pub values : List ℕ
   pub sixteen : length values ≡ 16
   pub are : AllZip IsDigit digits values
-  pub word_is : word ≡ digits_after 0 values
+  pub random_is : random ≡ digits_after 0 values
 
 digit_to : (b v : ℕ) → IsDigit b v → (digit_value b ≡ v) × (digit_value b < 16)
 digit_to b v h = grind (arith, nat_tests)
@@ -55,19 +55,19 @@ digits_from : (text : List ℕ) → AllDigits 16 text → (values : List ℕ) ×
 digits_from [] h = ([], tt)
 digits_from (b ∷ text) h = let rest = digits_from text h.1 in (digit_value b ∷ rest.0, (digit_from b h.0, rest.1))
 
-writes_to : (digits : List ℕ) (word : ℕ) → WritesWord digits word → WritesRandom digits word
-writes_to digits word h =
+writes_to : (digits : List ℕ) (random : ℕ) → WritesByValues digits random → WritesRandom digits random
+writes_to digits random h =
     let all = digits_to digits h.values 0 h.are in
     let long : length digits ≡ 16 = length_all_zip IsDigit digits h.values h.are ∙ h.sixteen in
-    (long, (omega (arith, long), all.0), h.word_is ∙ all.1)
+    (long, (omega (arith, long), all.0), h.random_is ∙ all.1)
 
-writes_from : (digits : List ℕ) (word : ℕ) → WritesRandom digits word → WritesWord digits word
-writes_from digits word h =
+writes_from : (digits : List ℕ) (random : ℕ) → WritesRandom digits random → WritesByValues digits random
+writes_from digits random h =
     let values = digits_from digits h.1.1 in record {
       values = values.0;
       sixteen = sym (length_all_zip IsDigit digits values.0 values.1) ∙ h.0;
       are = values.1;
-      word_is = h.2 ∙ sym (digits_to digits values.0 0 values.1).1;
+      random_is = h.2 ∙ sym (digits_to digits values.0 0 values.1).1;
     }
 
 -- ---- digits that `hex` decodes
@@ -121,14 +121,14 @@ eight (a ∷ b ∷ c ∷ d ∷ e ∷ f ∷ g ∷ h ∷ []) long = omega arith
 eight bytes long = absurd (omega arith)
 
 -- Sixteen digits decode to eight bytes of the same number.
-decoded_digits : (digits : List ℕ) (word : ℕ) → WritesWord digits word → (bytes : List ℕ) × (decode_sized digits 8 ≡ Ok bytes) × (word ≡ from_be_bytes w64 bytes)
-decoded_digits digits word h =
+decoded_digits : (digits : List ℕ) (random : ℕ) → WritesByValues digits random → (bytes : List ℕ) × (decode_sized digits 8 ≡ Ok bytes) × (random ≡ from_be_bytes w64 bytes)
+decoded_digits digits random h =
     let long : length digits ≡ 16 = length_all_zip IsDigit digits h.values h.are ∙ h.sixteen in
     let pairs = pairs_of 0 digits h.values h.are (omega arith) in
     let half = pairs.2 in (
       pairs.0,
       decode_sized-pairs digits 8 (omega arith) (omega arith) ∙ pairs.1,
-      h.word_is ∙ pairs.3 0 ∙ sym (eight pairs.0 (omega (arith, half, long))),
+      h.random_is ∙ pairs.3 0 ∙ sym (eight pairs.0 (omega (arith, half, long))),
     )
 
 -- what `decode_to_slice` left, where it answered success and where it didn't
@@ -143,37 +143,37 @@ decoded_err : (decoded : Result (List ℕ) FromHexError) (e : FromHexError) (out
 decoded_err (Ok bytes) e out h = absurd (cc h.0)
 decoded_err (Err d) e out h = let same : e ≡ d = cc in ap Err (sym same)
 
-pub written : (digits out : List ℕ) (word : ℕ) → Decoded (decode_sized digits 8) (Ok tt) out → word ≡ from_be_bytes w64 out → WritesRandom digits word
-written digits out word h word_is =
+pub written : (digits out : List ℕ) (random : ℕ) → Decoded (decode_sized digits 8) (Ok tt) out → random ≡ from_be_bytes w64 out → WritesRandom digits random
+written digits out random h random_is =
     let is = decoded_ok (decode_sized digits 8) out h in
     let passes = (IsOk-decode_sized digits 8).0 (ap is_ok is) in
     let v = digits_of digits passes.1 in
     let sixteen : length v.0 ≡ 16 = sym (length_all_zip IsDigit digits v.0 v.1) ∙ passes.0 in
-    let p = decoded_digits digits (digits_after 0 v.0) (record { values = v.0; sixteen = sixteen; are = v.1; word_is = refl }) in
+    let p = decoded_digits digits (digits_after 0 v.0) (record { values = v.0; sixteen = sixteen; are = v.1; random_is = refl }) in
     let same : p.0 ≡ out = ap (λ (r : Result (List ℕ) FromHexError). result_unwrap_or r []) (sym p.1 ∙ is) in
-    writes_to digits word (record { values = v.0; sixteen = sixteen; are = v.1; word_is = word_is ∙ ap (λ bytes. from_be_bytes w64 bytes) (sym same) ∙ sym p.2 })
+    writes_to digits random (record { values = v.0; sixteen = sixteen; are = v.1; random_is = random_is ∙ ap (λ bytes. from_be_bytes w64 bytes) (sym same) ∙ sym p.2 })
 
-pub unwritten : (digits : List ℕ) (e : FromHexError) (out : List ℕ) → Decoded (decode_sized digits 8) (Err e) out → (word : ℕ) → ¬ WritesRandom digits word
-unwritten digits e out h word writes =
+pub unwritten : (digits : List ℕ) (e : FromHexError) (out : List ℕ) → Decoded (decode_sized digits 8) (Err e) out → (random : ℕ) → ¬ WritesRandom digits random
+unwritten digits e out h random writes =
     let is = decoded_err (decode_sized digits 8) e out h in
-    let p = decoded_digits digits word (writes_from digits word writes) in
+    let p = decoded_digits digits random (writes_from digits random writes) in
     absurd (cc (sym is ∙ p.1))
 
 eight_small : (bytes : List ℕ) → length bytes ≡ 8 → IsBytes bytes → from_be_bytes w64 bytes < 2 ^ 64
 eight_small (a ∷ b ∷ c ∷ d ∷ e ∷ f ∷ g ∷ h ∷ []) long small = omega (arith, small 0, small 1, small 2, small 3, small 4, small 5, small 6, small 7)
 eight_small bytes long small = absurd (omega arith)
 
--- Sixteen digits write a word of 64 bits.
-pub word_small : (digits : List ℕ) (word : ℕ) → WritesRandom digits word → word < 2 ^ 64
-word_small digits word h =
+-- Sixteen digits write a random of 64 bits.
+pub random_small : (digits : List ℕ) (random : ℕ) → WritesRandom digits random → random < 2 ^ 64
+random_small digits random h =
     let long = h.0 in
-    let p = decoded_digits digits word (writes_from digits word h) in
+    let p = decoded_digits digits random (writes_from digits random h) in
     let pairs = decode_pairs-ok 0 digits p.0 (sym (decode_sized-pairs digits 8 (omega (arith, long)) (omega (arith, long))) ∙ p.1) in
     let half = pairs.1 in
     let below = eight_small p.0 (omega (arith, half, long)) pairs.2 in
     let is = p.2 in
     subst (λ (n : ℕ). n < 2 ^ 64) (sym is) below
 
--- Digits write one word.
-pub word_is_one : (digits : List ℕ) (v w : ℕ) → WritesRandom digits v → WritesRandom digits w → v ≡ w
-word_is_one digits v w x y = x.2 ∙ sym y.2
+-- Digits write one random.
+pub random_is_one : (digits : List ℕ) (v w : ℕ) → WritesRandom digits v → WritesRandom digits w → v ≡ w
+random_is_one digits v w x y = x.2 ∙ sym y.2

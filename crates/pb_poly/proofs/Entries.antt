@@ -42,16 +42,16 @@ book_bytes-append (e ∷ front) back = ap (λ xs. entry_bytes e ++ xs) (book_byt
 pub book_bytes-push : (entries : List Entry) (entry : Entry) → book_bytes (entries ++ entry ∷ []) ≡ book_bytes entries ++ entry_bytes entry
 book_bytes-push entries entry = book_bytes-append entries (entry ∷ []) ∙ ap (λ xs. book_bytes entries ++ xs) (append-nil (entry_bytes entry))
 
--- a front of a part is, after what comes before it, a front of the whole
-front_within : (part rest : List ℕ) (count : ℕ) → (n : ℕ) × (take n (part ++ rest) ≡ take count part)
+-- a front of a piece is, after what comes before it, a front of the whole
+front_within : (piece rest : List ℕ) (count : ℕ) → (n : ℕ) × (take n (piece ++ rest) ≡ take count piece)
 front_within [] rest zero = (0, refl)
 front_within [] rest (suc count) = (0, refl)
-front_within (b ∷ part) rest zero = (0, refl)
-front_within (b ∷ part) rest (suc count) = let more = front_within part rest count in (suc more.0, ap (λ xs. b ∷ xs) more.1)
+front_within (b ∷ piece) rest zero = (0, refl)
+front_within (b ∷ piece) rest (suc count) = let more = front_within piece rest count in (suc more.0, ap (λ xs. b ∷ xs) more.1)
 
-front_of_whole : (before part rest : List ℕ) (count : ℕ) → (n : ℕ) × (take n (before ++ (part ++ rest)) ≡ before ++ take count part)
-front_of_whole [] part rest count = front_within part rest count
-front_of_whole (b ∷ before) part rest count = let more = front_of_whole before part rest count in (suc more.0, ap (λ xs. b ∷ xs) more.1)
+front_of_whole : (before piece rest : List ℕ) (count : ℕ) → (n : ℕ) × (take n (before ++ (piece ++ rest)) ≡ before ++ take count piece)
+front_of_whole [] piece rest count = front_within piece rest count
+front_of_whole (b ∷ before) piece rest count = let more = front_of_whole before piece rest count in (suc more.0, ap (λ xs. b ∷ xs) more.1)
 
 pub IsOrdered-push : (entries more : List Entry) (entry : Entry) (last key : ℕ) → IsOrdered entries last → more ≡ entries ++ entry ∷ [] → IsEntry entry → key ≡ entry.key → last ≤ key → IsOrdered more key
 IsOrdered-push entries more entry last key h is one key_is l =

@@ -15,31 +15,31 @@ use Rattle.pb_poly.specs.BookFinds.{FindsNoBook}
 use Rattle.pb_poly.specs.Reading.{Splits}
 use Rattle.pb_poly.proofs.Entries.{book_bytes-push, bounds-push}
 
--- the part is whole with these bytes
-whole_bytes : (came : List ℕ) (entries : List Entry) (part bytes : List ℕ) (entry : Entry) → came ≡ book_bytes entries ++ part → part ++ bytes ≡ entry_bytes entry
+-- the piece is whole with these bytes
+whole_bytes : (came : List ℕ) (entries : List Entry) (piece bytes : List ℕ) (entry : Entry) → came ≡ book_bytes entries ++ piece → piece ++ bytes ≡ entry_bytes entry
     → came ++ bytes ≡ book_bytes (entries ++ entry ∷ [])
-whole_bytes came entries part bytes entry is whole =
-    ap (λ xs. xs ++ bytes) is ∙ append_assoc (book_bytes entries) part bytes ∙ ap (λ xs. book_bytes entries ++ xs) whole ∙ sym (book_bytes-push entries entry)
+whole_bytes came entries piece bytes entry is whole =
+    ap (λ xs. xs ++ bytes) is ∙ append_assoc (book_bytes entries) piece bytes ∙ ap (λ xs. book_bytes entries ++ xs) whole ∙ sym (book_bytes-push entries entry)
 
-pub Splits-whole : (came : List ℕ) (entries : List Entry) (part bytes : List ℕ) (entry : Entry) → Splits came entries part → part ++ bytes ≡ entry_bytes entry → IsEntry entry
+pub Splits-whole : (came : List ℕ) (entries : List Entry) (piece bytes : List ℕ) (entry : Entry) → Splits came entries piece → piece ++ bytes ≡ entry_bytes entry → IsEntry entry
     → NeverFall (entries ++ entry ∷ []) → Splits (came ++ bytes) (entries ++ entry ∷ []) []
-Splits-whole came entries part bytes entry h whole one ordered = record {
+Splits-whole came entries piece bytes entry h whole one ordered = record {
   bounds = bounds-push entries entry h.bounds one;
-  bytes = whole_bytes came entries part bytes entry h.bytes whole ∙ sym (append-nil (book_bytes (entries ++ entry ∷ [])));
+  bytes = whole_bytes came entries piece bytes entry h.bytes whole ∙ sym (append-nil (book_bytes (entries ++ entry ∷ [])));
   partial = omega arith;
   ordered = ordered;
 }
 
-pub Fails-whole : (came : List ℕ) (entries : List Entry) (part bytes : List ℕ) (n : ℕ) (entry : Entry) (e : BookError) → Splits came entries part → part ++ take n bytes ≡ entry_bytes entry
+pub Fails-whole : (came : List ℕ) (entries : List Entry) (piece bytes : List ℕ) (n : ℕ) (entry : Entry) (e : BookError) → Splits came entries piece → piece ++ take n bytes ≡ entry_bytes entry
     → IsEntry entry → RefusesEntry entries entry e → FailsWithin came bytes e
-Fails-whole came entries part bytes n entry e h whole one refuses = (
+Fails-whole came entries piece bytes n entry e h whole one refuses = (
   entries,
   entry,
   record {
     front = take n bytes;
     rest = drop n bytes;
     cut = sym (take-append-drop n bytes);
-    bytes = record { bounds = bounds-push entries entry h.bounds one; are = whole_bytes came entries part (take n bytes) entry h.bytes whole };
+    bytes = record { bounds = bounds-push entries entry h.bounds one; are = whole_bytes came entries piece (take n bytes) entry h.bytes whole };
     ordered = h.ordered;
   },
   refuses,
@@ -48,9 +48,9 @@ Fails-whole came entries part bytes n entry e h whole one refuses = (
 abbrev Front : Type 0
 Front = List Entry × List ℕ
 
--- a part that fills the array is all of it
-pub held_whole : (entries : List Entry) (part : List ℕ) (len : ℕ) (front : Front) → length part ≤ len → (entries, take len part) ≡ front → (entries, part) ≡ front
-held_whole entries part len front full is = ap (λ (bytes : List ℕ). (entries, bytes)) (sym (take_all len part full)) ∙ is
+-- a piece that fills the array is all of it
+pub held_whole : (entries : List Entry) (piece : List ℕ) (len : ℕ) (front : Front) → length piece ≤ len → (entries, take len piece) ≡ front → (entries, piece) ≡ front
+held_whole entries piece len front full is = ap (λ (bytes : List ℕ). (entries, bytes)) (sym (take_all len piece full)) ∙ is
 
 pub Fails-held : (came bytes : List ℕ) (old held : Front) (n : ℕ) (entry : Entry) (e : BookError) → Splits came old.0 old.1 → held ≡ (old.0, old.1 ++ take n bytes)
     → entry_bytes entry ≡ held.1 → IsEntry entry → RefusesEntry held.0 entry e → FailsWithin came bytes e
@@ -65,9 +65,9 @@ Splits-held came bytes old held new n entry h is whole one added none ordered =
     let ordered' : NeverFall (old.0 ++ entry ∷ []) = subst (λ (es : List Entry). NeverFall es) entries ordered in
     rw (entries, none) (Splits-whole came old.0 old.1 (take n bytes) entry h (sym (whole ∙ ap (λ (x : Front). x.1) is)) one ordered')
 
--- where no part is held, the first sixteen bytes are an entry
-pub whole_alone : (part bytes : List ℕ) (entry : Entry) → length part ≡ 0 → entry_bytes entry ≡ bytes → part ++ bytes ≡ entry_bytes entry
-whole_alone part bytes entry none is = ap (λ xs. xs ++ bytes) (nil_from_length part none) ∙ sym is
+-- where no piece is held, the first sixteen bytes are an entry
+pub whole_alone : (piece bytes : List ℕ) (entry : Entry) → length piece ≡ 0 → entry_bytes entry ≡ bytes → piece ++ bytes ≡ entry_bytes entry
+whole_alone piece bytes entry none is = ap (λ xs. xs ++ bytes) (nil_from_length piece none) ∙ sym is
 
 -- of a chunk all but the rest has been taken
 pub record IsTaken (old : Front) (chunk rest : List ℕ) (now : Front) : Type 0 where

@@ -65,43 +65,43 @@ offsets_total f s = four_lists f (piece_offsets s.board 0) (right_offsets s.righ
 
 -- ---- the key
 
--- a key in which the changes are toggled, part by part
-pub record IsToggled (words : List ℕ) (s t : Position) (moved : List ℕ) (k l : ℕ) : Type 0 where
+-- a key in which the changes are toggled, step by step
+pub record IsToggled (randoms : List ℕ) (s t : Position) (moved : List ℕ) (k l : ℕ) : Type 0 where
   pub pieces : ℕ
   pub rights : ℕ
   pub cleared : ℕ
   pub stepped : ℕ
-  pub pieces_is : pieces ≡ toggled words k moved
-  pub rights_is : rights ≡ toggled words pieces (changed_offsets s.rights t.rights)
-  pub cleared_is : cleared ≡ toggled words rights (en_passant_offsets s)
-  pub stepped_is : stepped ≡ toggled words cleared (en_passant_offsets t)
+  pub pieces_is : pieces ≡ toggled randoms k moved
+  pub rights_is : rights ≡ toggled randoms pieces (changed_offsets s.rights t.rights)
+  pub cleared_is : cleared ≡ toggled randoms rights (en_passant_offsets s)
+  pub stepped_is : stepped ≡ toggled randoms cleared (en_passant_offsets t)
   pub turn : t.turn ≡ opponent s.turn
-  pub is : l ≡ toggled words stepped (780 ∷ [])
+  pub is : l ≡ toggled randoms stepped (780 ∷ [])
 
-next_bit : (words : List ℕ) (bit k l : ℕ) (ps : List ℕ) → l ≡ toggled words k ps → bit_at l bit ≡ (bit_at k bit + total (λ offset. bit_at (slice_index words offset) bit) ps) % 2
-next_bit words bit k l ps is = ap (λ n. bit_at n bit) is ∙ toggled_bit words bit k ps
+next_bit : (randoms : List ℕ) (bit k l : ℕ) (ps : List ℕ) → l ≡ toggled randoms k ps → bit_at l bit ≡ (bit_at k bit + total (λ offset. bit_at (slice_index randoms offset) bit) ps) % 2
+next_bit randoms bit k l ps is = ap (λ n. bit_at n bit) is ∙ toggled_bit randoms bit k ps
 
-key_bit : (words : List ℕ) (s : Position) (bit k : ℕ) → k ≡ key words s → bit_at k bit ≡ total (λ offset. bit_at (slice_index words offset) bit) (offsets s) % 2
+key_bit : (randoms : List ℕ) (s : Position) (bit k : ℕ) → k ≡ key randoms s → bit_at k bit ≡ total (λ offset. bit_at (slice_index randoms offset) bit) (offsets s) % 2
 unfolding key
-key_bit words s bit k is =
-    let joins = next_bit words bit 0 k (offsets s) is in
+key_bit randoms s bit k is =
+    let joins = next_bit randoms bit 0 k (offsets s) is in
     let none = bit_at-zero bit in
     omega (arith, joins, none)
 
-pub key_follows : (words : List ℕ) (s t : Position) (moved : List ℕ) (k l : ℕ) → IsTable words
+pub key_follows : (randoms : List ℕ) (s t : Position) (moved : List ℕ) (k l : ℕ) → IsTable randoms
     → ((f : ℕ → ℕ) → (total f (piece_offsets s.board 0) + total f moved) % 2 ≡ total f (piece_offsets t.board 0) % 2)
-    → k ≡ key words s → l < 2 ^ 64 → IsToggled words s t moved k l → l ≡ key words t
+    → k ≡ key randoms s → l < 2 ^ 64 → IsToggled randoms s t moved k l → l ≡ key randoms t
 unfolding key
-key_follows words s t moved k l table board_change before below toggles =
-    same_from_bits_below 64 l (key words t) below (toggled_below words 0 (offsets t) table (omega arith)) (λ bit low.
-    let f : ℕ → ℕ = λ offset. bit_at (slice_index words offset) bit in
-    let start = key_bit words s bit k before in
-    let end = key_bit words t bit (key words t) refl in
-    let a = next_bit words bit k toggles.pieces moved toggles.pieces_is in
-    let b = next_bit words bit toggles.pieces toggles.rights (changed_offsets s.rights t.rights) toggles.rights_is in
-    let c = next_bit words bit toggles.rights toggles.cleared (en_passant_offsets s) toggles.cleared_is in
-    let d = next_bit words bit toggles.cleared toggles.stepped (en_passant_offsets t) toggles.stepped_is in
-    let e = next_bit words bit toggles.stepped l (780 ∷ []) toggles.is in
+key_follows randoms s t moved k l table board_change before below toggles =
+    same_from_bits_below 64 l (key randoms t) below (toggled_below randoms 0 (offsets t) table (omega arith)) (λ bit low.
+    let f : ℕ → ℕ = λ offset. bit_at (slice_index randoms offset) bit in
+    let start = key_bit randoms s bit k before in
+    let end = key_bit randoms t bit (key randoms t) refl in
+    let a = next_bit randoms bit k toggles.pieces moved toggles.pieces_is in
+    let b = next_bit randoms bit toggles.pieces toggles.rights (changed_offsets s.rights t.rights) toggles.rights_is in
+    let c = next_bit randoms bit toggles.rights toggles.cleared (en_passant_offsets s) toggles.cleared_is in
+    let d = next_bit randoms bit toggles.cleared toggles.stepped (en_passant_offsets t) toggles.stepped_is in
+    let e = next_bit randoms bit toggles.stepped l (780 ∷ []) toggles.is in
     let turn = turn_changes f s.turn in
     let turned = ap (λ (c : Colour). total f (turn_offsets c)) toggles.turn in
     let board = board_change f in

@@ -1,4 +1,4 @@
--- A key, bit by bit, is the parity of the words at the setup's offsets, and no other number is.
+-- A key, bit by bit, is the parity of the randoms at the setup's offsets, and no other number is.
 use Rattle.std.proofs.Common.{◌≡◌, ℕ, ◌+◌, ◌%◌, ◌^◌, ◌<◌, inl, inr, List, [], ◌∷◌, length, sym, ap, ◌∙◌, arith}
 use Rattle.std.specs.Prelude.{bit_xor, slice_index, sum_by}
 use Rattle.std.specs.Int.{bit_at}
@@ -13,43 +13,43 @@ use Rattle.pb_poly.specs.Table.{IsTable}
 use Rattle.pb_poly.proofs.Among.{among_contained, contains_among, pairs_distinct, sum_is_total, total, total_same}
 use Rattle.pb_poly.proofs.Offsets.{are_offsets}
 
-word_below : (words : List ℕ) (offset : ℕ) → IsTable words → slice_index words offset < 2 ^ 64
-word_below words offset table = elim (cases_lt offset (length words)) [
+random_below : (randoms : List ℕ) (offset : ℕ) → IsTable randoms → slice_index randoms offset < 2 ^ 64
+random_below randoms offset table = elim (cases_lt offset (length randoms)) [
   | inl within ↦ table.fit offset 0 within
-  | inr past ↦ let none = get_or_past words offset 0 past in omega (arith, none)
+  | inr past ↦ let none = get_or_past randoms offset 0 past in omega (arith, none)
 ]
 
-pub toggled_below : (words : List ℕ) (k : ℕ) (ps : List ℕ) → IsTable words → k < 2 ^ 64 → toggled words k ps < 2 ^ 64
-toggled_below words k [] table below = below
-toggled_below words k (p ∷ ps) table below = toggled_below words (bit_xor k (slice_index words p)) ps table (xor_lt 64 k (slice_index words p) below (word_below words p table))
+pub toggled_below : (randoms : List ℕ) (k : ℕ) (ps : List ℕ) → IsTable randoms → k < 2 ^ 64 → toggled randoms k ps < 2 ^ 64
+toggled_below randoms k [] table below = below
+toggled_below randoms k (p ∷ ps) table below = toggled_below randoms (bit_xor k (slice_index randoms p)) ps table (xor_lt 64 k (slice_index randoms p) below (random_below randoms p table))
 
-pub toggled_bit : (words : List ℕ) (bit k : ℕ) (ps : List ℕ) → bit_at (toggled words k ps) bit ≡ (bit_at k bit + total (λ offset. bit_at (slice_index words offset) bit) ps) % 2
-toggled_bit words bit k [] = let low = bit_at-lt k bit in omega (arith, low)
-toggled_bit words bit k (p ∷ ps) =
-    let more = toggled_bit words bit (bit_xor k (slice_index words p)) ps in
-    let first = bit_at_xor k (slice_index words p) bit in
+pub toggled_bit : (randoms : List ℕ) (bit k : ℕ) (ps : List ℕ) → bit_at (toggled randoms k ps) bit ≡ (bit_at k bit + total (λ offset. bit_at (slice_index randoms offset) bit) ps) % 2
+toggled_bit randoms bit k [] = let low = bit_at-lt k bit in omega (arith, low)
+toggled_bit randoms bit k (p ∷ ps) =
+    let more = toggled_bit randoms bit (bit_xor k (slice_index randoms p)) ps in
+    let first = bit_at_xor k (slice_index randoms p) bit in
     omega (arith, more, first)
 
 pub key_is_parity : KeyIsParity
 unfolding key
-key_is_parity words s table setup = record {
-  below = toggled_below words 0 (offsets s) table (omega arith);
+key_is_parity randoms s table setup = record {
+  below = toggled_below randoms 0 (offsets s) table (omega arith);
   offsets = offsets s;
   are = are_offsets s setup;
   bits = λ bit low.
-      let is = toggled_bit words bit 0 (offsets s) in
+      let is = toggled_bit randoms bit 0 (offsets s) in
       let none = bit_at-zero bit in
-      let sum = sum_is_total (λ offset. bit_at (slice_index words offset) bit) (offsets s) in
+      let sum = sum_is_total (λ offset. bit_at (slice_index randoms offset) bit) (offsets s) in
       omega (arith, is, none, sum);
 }
 
 -- how many of the numbers at these offsets have this bit
-abbrev words_with : List ℕ → ℕ → List ℕ → ℕ
-words_with words bit offsets = sum_by (λ offset. bit_at (slice_index words offset) bit) offsets
+abbrev randoms_with : List ℕ → ℕ → List ℕ → ℕ
+randoms_with randoms bit offsets = sum_by (λ offset. bit_at (slice_index randoms offset) bit) offsets
 
-same_sums : (words : List ℕ) (s : Position) (ps qs : List ℕ) (bit : ℕ) → AreOffsets s ps → AreOffsets s qs → words_with words bit ps ≡ words_with words bit qs
-same_sums words s ps qs bit x y =
-    let f : ℕ → ℕ = λ offset. bit_at (slice_index words offset) bit in
+same_sums : (randoms : List ℕ) (s : Position) (ps qs : List ℕ) (bit : ℕ) → AreOffsets s ps → AreOffsets s qs → randoms_with randoms bit ps ≡ randoms_with randoms bit qs
+same_sums randoms s ps qs bit x y =
+    let f : ℕ → ℕ = λ offset. bit_at (slice_index randoms offset) bit in
     sum_is_total f ps
     ∙ total_same f ps qs (pairs_distinct ps x.once) (pairs_distinct qs y.once)
     (λ n among. among_contained qs n ((y.each n).1 ((x.each n).0 (contains_among ps n among))))
@@ -57,6 +57,6 @@ same_sums words s ps qs bit x y =
     ∙ sym (sum_is_total f qs)
 
 pub key_is_one : KeyIsOne
-key_is_one words s k l x y =
+key_is_one randoms s k l x y =
     same_from_bits_below 64 k l x.below y.below (λ bit low.
-    x.bits bit low ∙ ap (λ n. n % 2) (same_sums words s x.offsets y.offsets bit x.are y.are) ∙ sym (y.bits bit low))
+    x.bits bit low ∙ ap (λ n. n % 2) (same_sums randoms s x.offsets y.offsets bit x.are y.are) ∙ sym (y.bits bit low))

@@ -37,19 +37,19 @@ module _ (fills : ℕ) (old new : SourceState) where
   no_table_to (Fault Endless) h = meets_to (Fault Endless) h
 
   pub table_to : (result : Result (List ℕ) TableFault) → IfOk result (FindsTable fills old new) → IfErr result (FindsNoTable fills old new) → ReadsTable fills old new result
-  table_to (Ok words) h k = inl (at_end, h.came, h.reads, h.is)
+  table_to (Ok randoms) h k = inl (at_end, h.came, h.reads, h.is)
   table_to (Err e) h k = no_table_to e k
 
   abbrev Apart : Result (List ℕ) TableFault → Type 0
-  Apart (Ok words) = FindsTable fills old new words
+  Apart (Ok randoms) = FindsTable fills old new randoms
   Apart (Err e) = FindsNoTable fills old new e
 
   by_way : (way : Way) (bytes : List ℕ) (result : Result (List ℕ) TableFault) → Reads way table_limit fills old new bytes → TableIs way bytes result → Apart result
-  by_way at_end bytes (Ok words) r h = record { came = bytes; reads = r; is = h }
+  by_way at_end bytes (Ok randoms) r h = record { came = bytes; reads = r; is = h }
   by_way just_so_far bytes (Err Long) r h = record { came = bytes; reads = r; due = omega (arith, h); few = omega (arith, h) }
   by_way at_end bytes (Err (Line n)) r h = record { came = bytes; reads = r; due = h; few = omega (arith, h.0) }
   by_way at_end bytes (Err (Count n)) r h = record { came = bytes; reads = r; due = h; few = omega (arith, h.0) }
-  by_way at_end bytes (Err (Fault Memory)) r (words, table) = inr (record { came = bytes; reads = r; due = (table.0, (words, table.1)); few = omega (arith, table.0) })
+  by_way at_end bytes (Err (Fault Memory)) r (randoms, table) = inr (record { came = bytes; reads = r; due = (table.0, (randoms, table.1)); few = omega (arith, table.0) })
   by_way at_fault bytes (Err (Fault Read)) r h = record { came = bytes; reads = r; due = h; few = omega (arith, h) }
   by_way at_no_end bytes (Err (Fault Endless)) r h = record { came = bytes; reads = r; due = h; few = omega (arith, h) }
   by_way way bytes result r h = absurd h
@@ -58,8 +58,8 @@ module _ (fills : ℕ) (old new : SourceState) where
   table_from result (inl (way, bytes, r, h)) = by_way way bytes result r h
   table_from result (inr (is, same)) = subst Apart (sym is) (inl same)
 
-  pub found_table : (words : List ℕ) → ReadsTable fills old new (Ok words) → FindsTable fills old new words
-  found_table words h = table_from (Ok words) h
+  pub found_table : (randoms : List ℕ) → ReadsTable fills old new (Ok randoms) → FindsTable fills old new randoms
+  found_table randoms h = table_from (Ok randoms) h
 
   pub found_no_table : (e : TableFault) → ReadsTable fills old new (Err e) → FindsNoTable fills old new e
   found_no_table e h = table_from (Err e) h

@@ -20,7 +20,7 @@ NeverFall entries = NeverFallsFrom 0 (keys_of entries)
 abbrev pub book_bytes : List Entry → List ℕ
 book_bytes entries = flat_map entry_bytes entries
 
--- these are the bytes of the entries, each part of which is in its range
+-- these are the bytes of the entries, each field of which is in its range
 pub record BookBytes (entries : List Entry) (bytes : List ℕ) : Type 0 where
   pub bounds : All IsEntry entries
   pub are : bytes ≡ flat_map entry_bytes entries

@@ -30,11 +30,11 @@ BookRead Memory = ReadsFront
 abbrev pub BookDue : BookError → List ℕ → Type 0
 BookDue (Unsorted number) came =
     (entries : List Entry) × BookBytes entries came × BreaksAt NeverFall entries number
-BookDue (Cut extra) came = (entries : List Entry) × (part : List ℕ) × Splits came entries part
-    × (0 < extra) × (extra ≡ length part)
+BookDue (Cut extra) came = (entries : List Entry) × (piece : List ℕ) × Splits came entries piece
+    × (0 < extra) × (extra ≡ length piece)
 BookDue Memory came = (before : List Entry) × (entry : Entry)
     × BookBytes (before ++ entry ∷ []) came × NeverFall (before ++ entry ∷ [])
-BookDue fault came = (entries : List Entry) × (part : List ℕ) × Splits came entries part
+BookDue fault came = (entries : List Entry) × (piece : List ℕ) × Splits came entries piece
 
 -- bytes came that give no book for this reason
 pub record MeetsNoBook (fills : ℕ) (old new : SourceState) (e : BookError) : Type 0 where

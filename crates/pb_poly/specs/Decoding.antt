@@ -1,4 +1,4 @@
--- What the parts of a move code stand for.
+-- What the fields of a move code stand for.
 use Rattle.std.specs.Prelude.{ℕ, ◌==◌, Option, Some, None, if◌then◌else◌}
 use Rattle.pb_board.specs.declared.piece.Colour.{Colour}
 use Rattle.pb_board.specs.declared.castling.Castling.{Castling}
@@ -10,11 +10,11 @@ use Rattle.pb_board.specs.Board.{at, is_piece}
 -- the square that the king of this side reaches where the code names the rook with which it
 -- castles, and else the one named
 abbrev pub king_or : Colour → ℕ → Option Castling → ℕ
-king_or side named None = named
-king_or side named (Some c) = let row = castling_row c in
-    if colour_number row.colour == colour_number side then row.king_to else named
+king_or side to None = to
+king_or side to (Some c) = let row = castling_row c in
+    if colour_number row.colour == colour_number side then row.king_to else to
 
 -- the square that a move from this square reaches where its code names that one
 abbrev pub reached : Position → ℕ → ℕ → ℕ
-reached s from named = if is_piece (king_of s.turn) (at s.board from)
-    then king_or s.turn named (castling_from_home from named) else named
+reached s from to = if is_piece (king_of s.turn) (at s.board from)
+    then king_or s.turn to (castling_from_home from to) else to

@@ -3,7 +3,7 @@ use Rattle.std.specs.Prelude.{ℕ, ◌^◌, ◌<◌, List, ◌++◌}
 use Rattle.std.specs.Int.{w16, w32, w64, to_be_bytes}
 use Rattle.pb_poly.specs.declared.entry.Entry.{Entry}
 
--- each part is in the range of its bytes
+-- each field is in the range of its bytes
 pub record IsEntry (e : Entry) : Type 0 where
   pub key : e.key < 2 ^ 64
   pub code : e.code < 2 ^ 16

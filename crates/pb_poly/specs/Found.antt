@@ -7,22 +7,22 @@ use Rattle.pb_poly.specs.Code.{HasCode}
 use Rattle.pb_poly.specs.Key.{key}
 
 -- the entry stands under the setup's key, and its code is that of this legal move
-pub record IsFor (words : List ℕ) (s : Position) (e : Entry) (m : Moved) : Type 0 where
-  pub key_is : e.key ≡ key words s
+pub record IsFor (randoms : List ℕ) (s : Position) (e : Entry) (m : Moved) : Type 0 where
+  pub key_is : e.key ≡ key randoms s
   pub has_code : HasCode s m e.code
 
 -- the moves and weights of the entries that are for the setup, in the book's order
 abbrev pub Found : List Entry → List ℕ → Position → List (Moved × ℕ) → Type 0
-Found [] words s pairs = pairs ≡ []
-Found (e ∷ entries) words s pairs =
-    ((m : Moved) × (rest : List (Moved × ℕ)) × IsFor words s e m × (pairs ≡ (m, e.weight) ∷ rest)
-    × Found entries words s rest)
-    ⊎ (((m : Moved) → ¬ IsFor words s e m) × Found entries words s pairs)
+Found [] randoms s pairs = pairs ≡ []
+Found (e ∷ entries) randoms s pairs =
+    ((m : Moved) × (rest : List (Moved × ℕ)) × IsFor randoms s e m × (pairs ≡ (m, e.weight) ∷ rest)
+    × Found entries randoms s rest)
+    ⊎ (((m : Moved) → ¬ IsFor randoms s e m) × Found entries randoms s pairs)
 
 -- ---- laws
 
 -- a book holds one list of moves and weights for a setup
 abbrev pub FoundIsOne : Type 0
-FoundIsOne = (entries : List Entry) (words : List ℕ) (s : Position)
-    (pairs others : List (Moved × ℕ)) → IsSetup s → Found entries words s pairs
-    → Found entries words s others → pairs ≡ others
+FoundIsOne = (entries : List Entry) (randoms : List ℕ) (s : Position)
+    (pairs others : List (Moved × ℕ)) → IsSetup s → Found entries randoms s pairs
+    → Found entries randoms s others → pairs ≡ others

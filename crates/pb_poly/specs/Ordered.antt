@@ -13,7 +13,7 @@ last_from floor (n ∷ ns) = last_from n ns
 abbrev pub last_key : List Entry → ℕ
 last_key entries = last_from 0 (keys_of entries)
 
--- the keys never fall, each part is in its range, and this is the last key
+-- the keys never fall, each field is in its range, and this is the last key
 pub record IsOrdered (entries : List Entry) (last : ℕ) : Type 0 where
   pub ordered : NeverFall entries
   pub bounds : All IsEntry entries

@@ -9,11 +9,11 @@ use Rattle.pb_poly.specs.declared.table.TableError.TheVariants as poly
 use Rattle.pb_poly.specs.declared.table_file.TableFault.{TableFault}
 use Rattle.pb_poly.specs.declared.table_file.TableFault.TheVariants.{Long, Line, Count, Fault}
 
--- the stream is the table file of these words and no more
-pub record FindsTable (fills : ℕ) (old new : SourceState) (words : List ℕ) : Type 0 where
+-- the stream is the table file of these randoms and no more
+pub record FindsTable (fills : ℕ) (old new : SourceState) (randoms : List ℕ) : Type 0 where
   pub came : List ℕ
   pub reads : ReadsAll table_limit fills old new came
-  pub is : IsTableFile words came
+  pub is : IsTableFile randoms came
 
 -- how far a stream was read that gave no table for this reason
 abbrev pub TableRead : TableFault → ℕ → ℕ → SourceState → SourceState → List ℕ → Type 0

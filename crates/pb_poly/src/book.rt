@@ -32,12 +32,11 @@ impl Model for Book {
 impl Book {
     ghost use Rattle.std.specs.Prelude.{MatchResult, filter};
 
-    /// The book of these entries.
+    /// Makes the book of these entries.
     ///
     /// # Errors
     ///
-    /// The number, from 1, of the first entry whose key is below the key before it, with the
-    /// entries.
+    /// The number, from 1, of the first entry whose key falls, with the entries.
     pub fn of(entries: Vec<Entry>) -> Result<Book, (usize, Vec<Entry>)>
         ensures { MatchResult result
             (λ b. (b ≡ entries.items) × NeverFall b × All IsEntry b)
@@ -49,7 +48,6 @@ impl Book {
         }
     }
 
-    /// The book of entries whose keys are known not to fall.
     pub(crate) fn of_ordered(entries: Vec<Entry>) -> Book
         requires ordered { NeverFall entries.items }
         requires bounds { All IsEntry entries.items }
@@ -58,7 +56,6 @@ impl Book {
         Book { entries }
     }
 
-    /// The entries of this key, which stand together.
     pub(crate) fn under(&self, key: u64) -> &[Entry]
         ensures { result.now ≡ filter (λ e. e.key == key) self.now }
     {
@@ -68,7 +65,7 @@ impl Book {
         &rest[..count_under(rest, key)]
     }
 
-    /// The entries in order.
+    /// Gives the entries in order.
     pub fn entries(&self) -> &[Entry]
         ensures value { result.now ≡ self.now }
         ensures ordered { NeverFall self.now }
@@ -78,7 +75,6 @@ impl Book {
     }
 }
 
-/// How many entries of this key these begin with.
 fn count_under(entries: &[Entry], key: u64) -> usize
     ensures { result ≡ length (take_while (λ e. e.key == key) entries.now) }
 {
@@ -101,10 +97,6 @@ fn first_fall(entries: &[Entry]) -> Option<usize>
 }
 
 /// Puts the bytes of the entries in order, and flushes.
-///
-/// # Errors
-///
-/// The sink has failed.
 pub fn write_book<K: Sink>(sink: &mut K, book: &Book) -> Result<(), Failed>
     ensures { Writes (K.state sink.old) (K.state sink.new) result (book_bytes book.now) }
 {

@@ -13,7 +13,6 @@ ghost use Rattle.pb_poly.specs.Code.{HasCode, encode_move, encoded_to};
 use pb_board::{Castling, Colour, Kind, Setup, Square};
 use pb_moves::{Effect, Move, is_legal, promotion_of};
 
-/// Whether the king of the side to move stands there.
 #[inline(always)]
 fn has_own_king(setup: &Setup, square: Square) -> bool
     ensures { result ≡ is_piece (king_of setup.now.turn) (at setup.now.board square) }
@@ -24,7 +23,7 @@ fn has_own_king(setup: &Setup, square: Square) -> bool
     }
 }
 
-/// The square that the code of a move by this side's king names as the one that it reaches.
+/// The square that codes give as reached by a king: of castling, its rook's home.
 #[inline(always)]
 fn king_to(side: Colour, m: Move) -> Square
     ensures { result ≡ if is_castling side m then rook_home m else m.to }
@@ -35,7 +34,6 @@ fn king_to(side: Colour, m: Move) -> Square
     }
 }
 
-/// The square that the code names as the one that the move reaches.
 #[inline(always)]
 fn coded_to(setup: &Setup, m: Move) -> Square
     ensures { result ≡ encoded_to setup.now m }
@@ -47,7 +45,6 @@ fn coded_to(setup: &Setup, m: Move) -> Square
     }
 }
 
-/// The code of a move that names this square as the one that it reaches.
 #[inline(always)]
 fn code_to(m: Move, to: Square) -> u16
     ensures { (s : Position) → to ≡ encoded_to s m → result ≡ encode_move s m }
@@ -55,7 +52,7 @@ fn code_to(m: Move, to: Square) -> u16
     m.bits() - u16::from(m.to().index()) + u16::from(to.index())
 }
 
-/// The code of a legal move in a PolyGlot book, below 2^15. It is `to + 64 * from + 4096 *
+/// Gives the code of a legal move in a PolyGlot book, below 2^15: `to + 64 * from + 4096 *
 /// promotion`, where none, knight, bishop, rook and queen are 0 to 4. Castling is the king's move
 /// to its rook, as e1h1.
 #[inline(always)]
@@ -65,8 +62,7 @@ pub fn code_of(setup: &Setup, m: Move) -> u16
     code_to(m, coded_to(setup, m))
 }
 
-/// The code, as `code_of` gives it, of a move of which it is known what it does. No square is
-/// looked up.
+/// Gives the code, as `code_of` does, of a move of which it is known what it does.
 #[inline(always)]
 pub fn code_by(m: Move, effect: &Effect) -> u16
     ensures { (s : Position) → IsEffect s m effect.now → result ≡ encode_move s m }
@@ -78,31 +74,27 @@ pub fn code_by(m: Move, effect: &Effect) -> u16
     }
 }
 
-/// The square that a coded move reaches: the king's target where it castles, else the named one.
-fn reached(setup: &Setup, from: Square, named: Square) -> Square
-    ensures { result ≡ reached_by setup.now from named }
+fn reached(setup: &Setup, from: Square, to: Square) -> Square
+    ensures { result ≡ reached_by setup.now from to }
 {
-    match Castling::from_home(from, named) {
+    match Castling::from_home(from, to) {
         Some(castling) if castling.colour() == setup.turn() && has_own_king(setup, from) => {
             castling.squares().king_to
         }
-        _ => named,
+        _ => to,
     }
 }
 
-/// The move that a code may mean: no other legal move has it.
+/// The only move that the code may mean.
 fn decoded(setup: &Setup, code: u16) -> Option<Move>
     ensures { (m : Moved) → HasCode setup.now m code → result ≡ Some m }
 {
     let from = Square::from_index((code / 64 % 64) as u8)?;
-    let named = Square::from_index((code % 64) as u8)?;
-    Move::new(from, reached(setup, from, named), promotion_of(code / 4096))
+    let to = Square::from_index((code % 64) as u8)?;
+    Move::new(from, reached(setup, from, to), promotion_of(code / 4096))
 }
 
-/// The one legal move with this code. None exactly where no legal move has it, and so where bit 15
-/// isn't 0.
-///
-/// The code is taken apart into the only move that it may mean, and that one is tested.
+/// Gives the one legal move with this code. None exactly where no legal move has it.
 pub fn move_of(setup: &Setup, code: u16) -> Option<Move>
     ensures { MatchOption result
         ((m : Moved) → ¬ HasCode setup.now m code)

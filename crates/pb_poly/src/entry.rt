@@ -7,7 +7,6 @@ ghost use Rattle.pb_poly.specs.Entry.{IsEntry, entry_bytes};
 
 use pb_io::{Failed, Sink};
 
-/// How many bytes an entry has.
 pub(crate) const ENTRY_LEN: usize = 16;
 
 /// An entry of a PolyGlot book: a move in a setup, with its weight.
@@ -15,16 +14,13 @@ pub(crate) const ENTRY_LEN: usize = 16;
 pub struct Entry {
     /// The key of the setup before the move.
     pub key: u64,
-    /// The code of the move.
     pub code: u16,
-    /// How much the move is worth beside the others of its setup.
     pub weight: u16,
-    /// What a program has learnt of the move. Books that are made have 0 here.
+    /// 0 in each book that is made here.
     pub learn: u32,
 }
 
 impl Entry {
-    /// The sixteen bytes of the entry.
     pub(crate) fn to_bytes(self) -> [u8; ENTRY_LEN]
         ensures { result ≡ entry_bytes self }
     {
@@ -36,7 +32,6 @@ impl Entry {
         bytes
     }
 
-    /// The entry with these sixteen bytes.
     pub(crate) fn from_bytes(bytes: &[u8]) -> Entry
         requires { length bytes.now ≡ 16 }
         ensures bytes { entry_bytes result ≡ bytes.now }
@@ -55,20 +50,15 @@ impl Entry {
 
 /// Puts the entry's 16 bytes: 8 of the key, 2 of the code, 2 of the weight and 4 of the learn
 /// value, each big-endian.
-///
-/// # Errors
-///
-/// The sink has failed.
 pub fn write_entry<K: Sink>(sink: &mut K, entry: &Entry) -> Result<(), Failed>
     ensures { Put (K.state sink.old) (K.state sink.new) result (entry_bytes entry.now) }
 {
     sink.put(&entry.to_bytes())
 }
 
-/// How many entries are put at once at most: a sink is called once for all of them.
+/// The most entries that are put at once.
 pub const ENTRIES_AT_ONCE: usize = 64;
 
-/// Copies the bytes of an entry behind those that are there.
 #[inline(always)]
 fn copy_behind(room: &mut [u8; 1024], len: usize, bytes: &[u8; ENTRY_LEN])
     requires { len + 16 ≤ 1024 }
@@ -77,11 +67,7 @@ fn copy_behind(room: &mut [u8; 1024], len: usize, bytes: &[u8; ENTRY_LEN])
     room[len..len + ENTRY_LEN].copy_from_slice(bytes);
 }
 
-/// Puts the bytes of some entries, 64 at most, at once.
-///
-/// # Errors
-///
-/// The sink has failed.
+/// Puts the bytes of at most 64 entries at once.
 pub fn write_entries<K: Sink>(sink: &mut K, entries: &[Entry]) -> Result<(), Failed>
     requires { length entries.now ≤ 64 }
     ensures { Put (K.state sink.old) (K.state sink.new) result (book_bytes entries.now) }

@@ -15,16 +15,14 @@ ghost use Rattle.pb_poly.specs.Table.{IsTable};
 use crate::table::Table;
 use pb_board::{Colour, Kind, Piece, Rights, Setup, Square};
 
-/// Where the words of castling rights begin, which are in the order of the letters `KQkq`.
+/// The first offset of castling rights, which are in the order `KQkq`.
 const CASTLING_START: usize = 768;
 
-/// Where the words of en passant files begin.
+/// The first offset of en passant files.
 const EN_PASSANT_START: usize = 772;
 
-/// The offset of the word for White to move.
 pub(crate) const WHITE_TO_MOVE: usize = 780;
 
-/// The offset of a piece on the square of this index.
 #[inline(always)]
 pub(crate) fn piece_offset(piece: Piece, square: usize) -> usize
     requires { square < 64 }
@@ -36,22 +34,20 @@ pub(crate) fn piece_offset(piece: Piece, square: usize) -> usize
     64 * number + square
 }
 
-/// The words of the pieces, xor-ed.
 fn pieces_key(table: &Table, board: &[Option<Piece>; 64]) -> u64
     ensures value { result ≡ toggled table.now 0 (piece_offsets board.now 0) }
     ensures rules { IsTable table.now }
 {
-    let words = table.words();
+    let randoms = table.randoms();
     let mut key = 0;
     for (square, content) in board.iter().enumerate() {
         if let Some(piece) = content {
-            key ^= words[piece_offset(*piece, square)];
+            key ^= randoms[piece_offset(*piece, square)];
         }
     }
     key
 }
 
-/// Toggles the word at the offset, where the flag is set.
 #[inline(always)]
 pub(crate) fn toggle_if(table: &Table, key: u64, flag: bool, offset: usize) -> u64
     requires { offset < 781 }
@@ -60,7 +56,6 @@ pub(crate) fn toggle_if(table: &Table, key: u64, flag: bool, offset: usize) -> u
     if flag { key ^ table.word(offset) } else { key }
 }
 
-/// Toggles the words of the castling rights.
 pub(crate) fn toggle_rights(table: &Table, key: u64, rights: Rights) -> u64
     ensures { result ≡ toggled table.now key (of_rights rights 768 769 770 771) }
 {
@@ -70,7 +65,6 @@ pub(crate) fn toggle_rights(table: &Table, key: u64, rights: Rights) -> u64
     toggle_if(table, key, rights.black_long, CASTLING_START + 3)
 }
 
-/// Whether a pawn of this side stands on the square of this index.
 fn has_pawn(setup: &Setup, side: Colour, square: u8) -> bool
     requires { square < 64 }
     ensures { result ≡ is_piece (piece_of side Pawn) (at setup.now.board square) }
@@ -81,7 +75,6 @@ fn has_pawn(setup: &Setup, side: Colour, square: u8) -> bool
     }
 }
 
-/// The square directly beyond an en passant square, by index.
 fn beyond(turn: Colour, square: Square) -> u8
     requires { OnEnPassantRank turn square }
     ensures value { result ≡ beyond_by turn square }
@@ -93,7 +86,6 @@ fn beyond(turn: Colour, square: Square) -> u8
     }
 }
 
-/// Whether a pawn of this side stands directly beside the square of this index.
 pub(crate) fn has_capturer(setup: &Setup, side: Colour, pawn: u8) -> bool
     requires { pawn < 64 }
     ensures { result ≡ has_capturer_by setup.now.board side pawn }
@@ -102,7 +94,6 @@ pub(crate) fn has_capturer(setup: &Setup, side: Colour, pawn: u8) -> bool
         || (pawn % 8 != 7 && has_pawn(setup, side, pawn + 1))
 }
 
-/// The offset of the word of an en passant square on the file of this square.
 #[inline(always)]
 pub(crate) fn en_passant_offset(square: Square) -> usize
     ensures value { result ≡ 772 + file square }
@@ -111,8 +102,6 @@ pub(crate) fn en_passant_offset(square: Square) -> usize
     EN_PASSANT_START + square.file() as usize
 }
 
-/// Toggles the word of the en passant square, where a pawn stands beside the pawn that made the
-/// double step.
 #[inline(always)]
 pub(crate) fn toggle_en_passant(table: &Table, key: u64, setup: &Setup) -> u64
     ensures value { result ≡ toggled table.now key (en_passant_offsets setup.now) }
@@ -128,18 +117,16 @@ pub(crate) fn toggle_en_passant(table: &Table, key: u64, setup: &Setup) -> u64
     }
 }
 
-/// Toggles the word for White to move, where White is.
 fn toggle_turn(table: &Table, key: u64, turn: Colour) -> u64
     ensures { result ≡ toggled table.now key (only_if (colour_number turn == 0) 780) }
 {
     toggle_if(table, key, turn == Colour::White, WHITE_TO_MOVE)
 }
 
-/// The key of a setup in PolyGlot books (its Zobrist hash): the exclusive or of the table's words
-/// for its pieces, castling rights, en passant file and White to move.
-///
-/// The word of the en passant square counts exactly where a pawn of the side to move stands beside
-/// the pawn that made the double step, whether or not that pawn may take it.
+/// Gives the key of a setup in PolyGlot books (its Zobrist hash): the exclusive or of the table's
+/// randoms for its pieces, castling rights, en passant file and White to move. That of the file
+/// counts where a pawn of the side to move stands beside the pawn that made the double step,
+/// whether or not it may take it.
 pub fn key_of(table: &Table, setup: &Setup) -> u64
     ensures parity { IsKey table.now setup.now result }
     ensures value { result ≡ key_by table.now setup.now }

@@ -17,7 +17,6 @@ use crate::table::Table;
 use pb_board::{MovedPiece, Piece, Rights, Setup, Square};
 use pb_moves::{Effect, Move, MoveKind, effect_of};
 
-/// Toggles the word of the piece on the square.
 #[inline(always)]
 fn toggle_piece(table: &Table, key: u64, piece: Piece, square: Square) -> u64
     ensures { result ≡ toggled table.now key (piece_offset_by piece square ∷ []) }
@@ -25,7 +24,6 @@ fn toggle_piece(table: &Table, key: u64, piece: Piece, square: Square) -> u64
     key ^ table.word(piece_offset(piece, square.index() as usize))
 }
 
-/// Toggles the word of what stands on the square.
 #[inline(always)]
 fn toggle_square(table: &Table, key: u64, before: &Setup, square: Square) -> u64
     ensures { result ≡ toggled table.now key (square_offsets (at before.now.board square) square) }
@@ -36,7 +34,7 @@ fn toggle_square(table: &Table, key: u64, before: &Setup, square: Square) -> u64
     }
 }
 
-/// Toggles the words of a piece that goes: of what leaves, of what is taken, and of what arrives.
+/// Toggles what leaves, what is taken, and what arrives.
 #[inline(always)]
 fn toggle_going(table: &Table, key: u64, before: &Setup, leaving: Piece, carried: MovedPiece) -> u64
     ensures { result ≡ toggled table.now key (going_offsets before.now.board leaving carried) }
@@ -47,8 +45,7 @@ fn toggle_going(table: &Table, key: u64, before: &Setup, leaving: Piece, carried
     toggle_piece(table, taken, piece, to)
 }
 
-/// Toggles the words of two pieces that go one after the other. It is out of line, since few moves
-/// need it.
+/// Out of line, since few moves need it.
 #[inline(never)]
 fn toggle_two(table: &Table, key: u64, before: &Setup, first: MovedPiece, second: MovedPiece) -> u64
     ensures { result ≡ toggled table.now key (going_offsets before.now.board first.piece first
@@ -60,7 +57,6 @@ fn toggle_two(table: &Table, key: u64, before: &Setup, first: MovedPiece, second
     toggle_piece(table, left, second.piece, second.to)
 }
 
-/// Toggles the words of the pieces that the move of this one puts elsewhere.
 #[inline(always)]
 fn toggle_moved(
     table: &Table,
@@ -81,7 +77,6 @@ fn toggle_moved(
     }
 }
 
-/// Toggles the words of the castling rights that one of the two has.
 #[inline(always)]
 fn toggle_changed(table: &Table, key: u64, old: Rights, new: Rights) -> u64
     ensures { result ≡ toggled table.now key (changed_offsets old new) }
@@ -99,8 +94,6 @@ fn toggle_changed(table: &Table, key: u64, old: Rights, new: Rights) -> u64
     toggle_rights(table, key, changed)
 }
 
-/// Toggles the word of the en passant square after a double step to this square, where an enemy
-/// pawn stands beside the pawn.
 #[inline(always)]
 fn toggle_stepped(table: &Table, key: u64, before: &Setup, to: Square, ep: Option<Square>) -> u64
     ensures { result ≡ toggled table.now key (stepped_offsets before.now to ep) }
@@ -113,10 +106,7 @@ fn toggle_stepped(table: &Table, key: u64, before: &Setup, to: Square, ep: Optio
     toggle_if(table, key, flag, en_passant_offset(square))
 }
 
-/// The key of the setup after a move, made of the setup before it, its key, and what the move does.
-///
-/// The words of what the move changes are toggled, on four squares at most, without going over the
-/// board.
+/// Gives the key of the setup after a move, of the one before it, its key, and what the move does.
 #[inline(always)]
 pub fn key_next(table: &Table, key: u64, before: &Setup, m: Move, effect: &Effect) -> u64
     requires key { key ≡ key_by table.now before.now }
@@ -131,11 +121,7 @@ pub fn key_next(table: &Table, key: u64, before: &Setup, m: Move, effect: &Effec
     stepped ^ table.word(WHITE_TO_MOVE)
 }
 
-/// The key of the setup after a move, made of the key of the setup before it, as `play` gives the
-/// one after the other.
-///
-/// The words of what the move changes are toggled, on four squares at most, without going over the
-/// board.
+/// Gives the key of the setup after a move, of the key of the setup before it.
 pub fn key_after(table: &Table, key: u64, before: &Setup, m: Move, after: &Setup) -> u64
     requires key { key ≡ key_by table.now before.now }
     requires moves { PseudoLegal before.now m }

@@ -1,5 +1,4 @@
-//! Laws of move codes, of keys, of books and of what they hold. Each is the contract of a function
-//! that does nothing.
+//! Laws, each the contract of a function that does nothing.
 
 ghost use Rattle.std.specs.Bool.{Decides};
 ghost use Rattle.std.specs.Prelude.{◌≡◌, ◌<◌, ℕ, List, Some, false, length};
@@ -10,12 +9,10 @@ ghost use Rattle.pb_poly.specs.Found.{FoundIsOne};
 ghost use Rattle.pb_poly.specs.Key.{KeyIsOne, KeyIsParity};
 ghost use Rattle.pb_poly.specs.Reading.{Tells};
 ghost use Rattle.pb_poly.specs.declared.entry.Entry.{Entry};
-ghost use Rattle.pb_poly.specs.declared.reading.BookError.{BookError};
 ghost use Rattle.pb_poly.specs.declared.table.TableError.{TableError};
 ghost use Rattle.pb_poly.specs.declared.table_file.TableFault.{TableFault};
 
 use crate::entry::Entry;
-use crate::reading::BookError;
 use crate::table::TableError;
 use crate::table_file::TableFault;
 pub use pb_io::laws::{lines_begin, lines_few, pieces_join};
@@ -25,25 +22,21 @@ pub fn code_is_one()
     ensures { CodeIsOne }
 {}
 
-/// The key that the function gives is the one number that is, bit by bit, the parity of the words
-/// at a setup's offsets.
+/// The key is the one number that is, bit by bit, the parity of the randoms at a setup's offsets.
 pub fn key_is_one()
     ensures is { KeyIsParity }
     ensures only { KeyIsOne }
 {}
 
-/// No two books have the same bytes, and no book has two texts: what `write_book` puts is read as
-/// the same entries, and the entries that were read are put as the same bytes.
+/// No two books have the same bytes, and no book has two texts.
 pub fn book_is_one()
     ensures entries { BookIsOne }
     ensures bytes { BytesAreOne }
 {}
 
-/// Entries, and reasons why bytes give no book or no table, are equal (`==`) exactly where they are
-/// one value.
+/// `==` holds exactly where two values are one.
 pub fn equal_values()
     ensures entry { (e f : Entry) → Decides (⟦<Entry as PartialEq>⟧.eq e f) (e ≡ f) }
-    ensures book { (e f : BookError) → Decides (⟦<BookError as PartialEq>⟧.eq e f) (e ≡ f) }
     ensures table { (e f : TableError) → Decides (⟦<TableError as PartialEq>⟧.eq e f) (e ≡ f) }
     ensures fault { (e f : TableFault) → Decides (⟦<TableFault as PartialEq>⟧.eq e f) (e ≡ f) }
 {}
@@ -53,8 +46,7 @@ pub fn found_is_one()
     ensures { FoundIsOne }
 {}
 
-/// A source that tells what comes, and doesn't fail, gives a text that is shorter than the fills
-/// that a call may make: so there are such reads.
+/// There are reads as `Tells` wants them.
 pub fn told_texts()
     ensures { (fills : ℕ) (old new : SourceState) (bytes : List ℕ) → old.to_come ≡ Some bytes
         → new.failed ≡ false → length bytes < fills → Tells fills old new bytes }

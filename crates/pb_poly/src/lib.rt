@@ -1,6 +1,5 @@
-//! The PolyGlot book format over any source and sink: tables, the keys of positions, the codes of
-//! moves, and books with what they hold for a setup. Games and file names are the business of the
-//! crates above.
+//! The PolyGlot book format over any source and sink: tables, keys of setups, codes of moves, and
+//! books with what they hold for a setup.
 //!
 //! ```rust
 //! let table = take_table(alloc, &mut table_source, u32::MAX)?;
@@ -25,9 +24,10 @@ pub use code::{code_by, code_of, move_of};
 pub use entry::{ENTRIES_AT_ONCE, Entry, write_entries, write_entry};
 pub use key::key_of;
 pub use key_change::{key_after, key_next};
+pub use pb_fuse::{FuseSink, FuseSource, NeverSource};
 pub use pb_io::{
-    Failed, FromRead, FuseSink, FuseSource, LINE_LIMIT, LineTask, MemSink, MemSource, NeverSource,
-    ReadFault, Sink, Source, ToWrite, take_lines,
+    Failed, FromRead, LINE_LIMIT, LineTask, MemSink, MemSource, ReadFault, Sink, Source, ToWrite,
+    take_lines,
 };
 pub use probing::probe;
 pub use reading::{BookError, read_book};

@@ -11,13 +11,9 @@ use pb_board::Setup;
 use pb_moves::Move;
 use std::alloc::{AllocError, Global};
 
-/// The moves that the book has for the setup, with their weights, in the book's order: those of
-/// each entry under the setup's key whose code is that of a legal move. An entry of weight 0 counts
-/// too, and so does each of two entries of one move.
-///
-/// # Errors
-///
-/// There was no memory for the list.
+/// Gives the moves that the book has for the setup, with their weights, in the book's order: of
+/// each entry under the setup's key whose code is that of a legal move, also of weight 0, and of
+/// each of two entries of one move.
 pub fn probe(
     alloc: Global,
     book: &Book,

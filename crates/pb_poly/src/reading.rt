@@ -19,21 +19,19 @@ use std::marker::Model;
 use thiserror::Error;
 
 /// Why a stream gave no book.
-#[derive(Clone, Copy, Debug, PartialEq, Eq, Error)]
+#[derive(Clone, Copy, Debug, Error)]
 pub enum BookError {
-    /// The entry of this number, from 1, has a key below the key before it.
+    /// The number of the entry, from 1.
     #[error("entry {0} has a lower key than the one before it")]
     Unsorted(usize),
-    /// The stream ends with so many bytes, from 1 to 15, after the last whole entry.
+    /// How many bytes come after the last whole entry, from 1 to 15.
     #[error("its last entry has {0} of 16 bytes")]
     Cut(usize),
-    /// The source has failed.
     #[error("the input has failed")]
     Read,
-    /// The fills were used up, and none was the end or a fault.
+    /// The fills were used up before the end.
     #[error("the input has no end")]
     Endless,
-    /// No memory.
     #[error("no memory")]
     Memory,
 }
@@ -43,7 +41,7 @@ pub enum BookError {
 struct Reading {
     entries: Vec<Entry>,
     last_key: u64,
-    part: [u8; ENTRY_LEN],
+    piece: [u8; ENTRY_LEN],
     len: usize,
 }
 
@@ -54,25 +52,23 @@ impl Model for Reading {
 
     ghost Value = { List Entry × List ℕ };
 
-    ghost view = { λ r. (r.entries.items, take r.len r.part) };
+    ghost view = { λ r. (r.entries.items, take r.len r.piece) };
 
     ghost invariant = { λ r. (r.len ≤ 16) × IsOrdered r.entries.items r.last_key };
 }
 
 impl Reading {
-    /// Nothing has come yet.
     fn new(alloc: Global) -> Reading
         ensures { result ≡ ([], []) }
     {
         Reading {
             entries: Vec::new(alloc),
             last_key: 0,
-            part: [0; ENTRY_LEN],
+            piece: [0; ENTRY_LEN],
             len: 0,
         }
     }
 
-    /// Adds an entry.
     fn add(&mut self, entry: Entry) -> Result<(), BookError>
         requires { IsEntry entry }
         ensures ok { OnOk result ((self.new.0 ≡ self.old.0 ++ entry ∷ [])
@@ -91,20 +87,20 @@ impl Reading {
         }
     }
 
-    /// Takes as many bytes as the part has room for, and answers how many.
+    /// Takes as many bytes as there is room for, and answers how many.
     fn hold(&mut self, bytes: &[u8]) -> usize
         ensures count { result ≡ min (16 - length self.old.1) (length bytes.now) }
         ensures held { self.new ≡ (self.old.0, self.old.1 ++ take result bytes.now) }
     {
         let count = (ENTRY_LEN - self.len).min(bytes.len());
         let end = self.len + count;
-        self.part[self.len..end].copy_from_slice(&bytes[..count]);
+        self.piece[self.len..end].copy_from_slice(&bytes[..count]);
         self.len = end;
         count
     }
 
     /// Takes some of the bytes, at most those of one entry, and answers how many.
-    fn take_part(&mut self, bytes: &[u8]) -> Result<usize, BookError>
+    fn take_piece(&mut self, bytes: &[u8]) -> Result<usize, BookError>
         requires some { 0 < length bytes.now }
         requires partial { length self.old.1 < 16 }
         ensures count { IfOk result (λ count. (0 < count) × (count ≤ length bytes.now)) }
@@ -121,14 +117,13 @@ impl Reading {
         }
         let count = self.hold(bytes);
         if self.len == ENTRY_LEN {
-            let entry = Entry::from_bytes(&self.part);
+            let entry = Entry::from_bytes(&self.piece);
             self.len = 0;
             self.add(entry)?;
         }
         Ok(count)
     }
 
-    /// Takes the bytes.
     fn feed(&mut self, chunk: &[u8]) -> Result<(), BookError>
         requires { length self.old.1 < 16 }
         ensures partial { OnOk result (length self.new.1 < 16) }
@@ -139,13 +134,12 @@ impl Reading {
     {
         let mut rest = chunk;
         while !rest.is_empty() {
-            let count = self.take_part(rest)?;
+            let count = self.take_piece(rest)?;
             rest = &rest[count..];
         }
         Ok(())
     }
 
-    /// The book of the entries, at the end of input.
     fn finish(self) -> Result<Book, BookError>
         ensures ok { IfOk result (λ book. (book ≡ self.0) × (self.1 ≡ [])) }
         ensures err { IfErr result (λ e. (e ≡ Cut (length self.1)) × (0 < length self.1)) }
@@ -156,7 +150,6 @@ impl Reading {
         Ok(Book::of_ordered(self.entries))
     }
 
-    /// Reads the source to its end, into the chunk.
     fn drain<S: Source>(
         mut self,
         chunk: &mut [u8],
@@ -182,9 +175,6 @@ impl Reading {
 }
 
 /// Reads a book to the end of input, in at most so many fills, in whatever pieces it comes.
-///
-/// Where the source tells bytes, doesn't fail and ends within the fills, the book is that of those
-/// bytes, want of memory aside.
 ///
 /// # Errors
 ///

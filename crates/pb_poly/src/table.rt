@@ -1,4 +1,4 @@
-//! Tables of the words that keys are made of.
+//! Tables of the random numbers that keys are made of.
 
 ghost use Rattle.std.specs.Prelude.{◌≡◌, ◌+◌, ◌<◌, ℕ, List, ◌∷◌, All, IfOk, IfErr, MatchOption};
 ghost use Rattle.std.specs.Prelude.{MatchResult, length, slice_index};
@@ -13,27 +13,26 @@ use std::alloc::{AllocError, Global};
 use std::marker::Model;
 use thiserror::Error;
 
-/// How many words a table has.
 const TABLE_LEN: usize = 781;
 
 /// Why bytes are no table.
 #[derive(Clone, Copy, Debug, PartialEq, Eq, Error)]
 pub enum TableError {
-    /// The line of this number, from 1, isn't 16 hexadecimal digits. Each line before it is.
+    /// The number of the first such line, from 1.
     #[error("line {0} isn't 16 hexadecimal digits")]
     Line(usize),
-    /// Each line is 16 hexadecimal digits, and there are this many and not 781.
+    /// The number of lines, each of 16 hexadecimal digits.
     #[error("a table has 781 lines, and this one {0}")]
     Count(usize),
-    /// No memory for the table. The bytes are one.
+    /// No memory for the table that the bytes are.
     #[error("no memory")]
     Memory,
 }
 
-/// A table of 781 words of 64 bits, of which the keys of setups are made.
+/// A table of 781 random numbers of 64 bits, of which the keys of setups are made.
 #[derive(Clone, Drop)]
 pub struct Table {
-    words: Vec<u64>,
+    randoms: Vec<u64>,
 }
 
 impl Model for Table {
@@ -42,31 +41,29 @@ impl Model for Table {
 
     ghost Value = { List ℕ };
 
-    ghost view = { λ t. t.words.items };
+    ghost view = { λ t. t.randoms.items };
 
-    ghost invariant = { λ t. IsTable t.words.items };
+    ghost invariant = { λ t. IsTable t.randoms.items };
 }
 
 impl Table {
-    /// The words in order.
-    pub fn words(&self) -> &[u64]
+    pub(crate) fn randoms(&self) -> &[u64]
         ensures value { result.now ≡ self.now }
         ensures rules { IsTable self.now }
     {
-        self.words.as_slice()
+        self.randoms.as_slice()
     }
 
-    /// The word at an offset.
+    /// Gives the random number at an offset.
     pub fn word(&self, offset: usize) -> u64
         requires { offset < 781 }
         ensures value { result ≡ slice_index self.now offset }
         ensures rules { IsTable self.now }
     {
-        self.words[offset]
+        self.randoms[offset]
     }
 }
 
-/// The first of the lines, and the bytes after it.
 fn first_line(bytes: &[u8]) -> (&[u8], &[u8])
     requires { 0 < length bytes.now }
     ensures cut { lines bytes.now ≡ result.0.now ∷ lines result.1.now }
@@ -78,8 +75,7 @@ fn first_line(bytes: &[u8]) -> (&[u8], &[u8])
     }
 }
 
-/// Reads the word that the line spells.
-fn word_of(line: &[u8]) -> Option<u64>
+fn random_of(line: &[u8]) -> Option<u64>
     ensures { MatchOption result (¬ IsRandomLine line.now) (SpellsRandom line.now) }
 {
     let mut bytes = [0; 8];
@@ -89,50 +85,44 @@ fn word_of(line: &[u8]) -> Option<u64>
     }
 }
 
-/// Reads the words that the lines spell.
-fn words_of(bytes: &[u8]) -> Result<[u64; TABLE_LEN], TableError>
-    ensures ok { IfOk result (λ words. TableText words bytes.now) }
+fn randoms_of(bytes: &[u8]) -> Result<[u64; TABLE_LEN], TableError>
+    ensures ok { IfOk result (λ randoms. TableText randoms bytes.now) }
     ensures err { IfErr result (λ e. IsDueTable e bytes.now) }
 {
     // An array, so that no memory is taken for bytes that are no table.
-    let mut words = [0; TABLE_LEN];
+    let mut randoms = [0; TABLE_LEN];
     let mut rest = bytes;
     let mut count = 0;
     while !rest.is_empty() {
         let (line, after) = first_line(rest);
-        let Some(word) = word_of(line) else {
+        let Some(random) = random_of(line) else {
             return Err(TableError::Line(count + 1));
         };
         // Lines beyond the table's are judged too, and counted.
         if count < TABLE_LEN {
-            words[count] = word;
+            randoms[count] = random;
         }
         count += 1;
         rest = after;
     }
     if count == TABLE_LEN {
-        Ok(words)
+        Ok(randoms)
     } else {
         Err(TableError::Count(count))
     }
 }
 
-/// The table of a file: 781 lines of 16 hexadecimal digits of either case, one for each word. LF
-/// ends a line, the last LF may be missing, and one CR at the end of a line is dropped.
-///
-/// # Errors
-///
-/// `Line` for the first line that isn't 16 hexadecimal digits, `Count` where each line is and there
-/// are not 781, and `Memory` only for bytes that are a table.
+/// Reads the table of a file: 781 lines of 16 hexadecimal digits of either case. LF ends a line,
+/// the last LF may be missing, and one CR at the end of a line is dropped.
 pub fn read_table(alloc: Global, bytes: &[u8]) -> Result<Table, TableError>
     ensures found { IfOk result (λ t. TableText t bytes.now) }
-    ensures only { (words : List ℕ) → TableText words bytes.now
-        → MatchResult result (λ t. t ≡ words) (λ e. e ≡ Memory) }
+    ensures only { (randoms : List ℕ) → TableText randoms bytes.now
+        → MatchResult result (λ t. t ≡ randoms) (λ e. e ≡ Memory) }
     ensures refused { IfErr result (λ e. IsDueTable e bytes.now) }
 {
-    let words = words_of(bytes)?;
-    match Vec::from_array(alloc, words) {
-        Ok(words) => Ok(Table { words }),
+    let randoms = randoms_of(bytes)?;
+    match Vec::from_array(alloc, randoms) {
+        Ok(randoms) => Ok(Table { randoms }),
         Err(_) => Err(TableError::Memory),
     }
 }

@@ -1,4 +1,5 @@
 //! Table files from sources.
+
 ghost use Rattle.std.specs.Prelude.{◌≡◌, ℕ, ◌<◌, ◌≤◌, List, [], IfErr, IfOk, MatchResult, OnOk};
 ghost use Rattle.std.specs.Prelude.{length};
 ghost use Rattle.pb_poly.specs.Reading.{Tells};
@@ -16,28 +17,25 @@ use std::alloc::{AllocError, Global};
 use std::marker::Model;
 use thiserror::Error;
 
-/// The most bytes that a table file may have.
 const TABLE_LIMIT: usize = 16_384;
 
 /// Why a source gave no table.
 #[derive(Clone, Copy, Debug, PartialEq, Eq, Error)]
 pub enum TableFault {
-    /// More bytes came than a table file may have. None of them was judged.
+    /// More than 16,384 bytes came. None of them was judged.
     #[error("it is longer than a table")]
     Long,
-    /// The line of this number, from 1, isn't 16 hexadecimal digits. Each line before it is.
+    /// The number of the first line, from 1, that isn't 16 hexadecimal digits.
     #[error("{}", TableError::Line(*.0))]
     Line(usize),
-    /// Each line is 16 hexadecimal digits, and there are this many and not 781.
+    /// The number of lines, each of 16 hexadecimal digits.
     #[error("{}", TableError::Count(*.0))]
     Count(usize),
-    /// The source wasn't read to its end. Memory may be wanting for the table too, after the last
-    /// fill.
+    /// The source wasn't read to its end, or memory was wanting for the table.
     #[error("{0}")]
     Fault(ReadFault),
 }
 
-/// A table file that is being read.
 #[derive(Drop)]
 struct TableBytes {
     bytes: Vec<u8>,
@@ -56,7 +54,6 @@ impl Model for TableBytes {
 }
 
 impl TableBytes {
-    /// No bytes, and room for as many as a table file may have.
     fn new(alloc: Global) -> Result<TableBytes, AllocError>
         ensures { IfOk result (λ held. held ≡ []) }
     {
@@ -66,7 +63,6 @@ impl TableBytes {
         })
     }
 
-    /// The bytes.
     fn as_bytes(&self) -> &[u8]
         ensures value { result.now ≡ self.now }
         ensures few { length self.now ≤ table_limit }
@@ -74,8 +70,7 @@ impl TableBytes {
         &self.bytes[..self.len]
     }
 
-    /// Takes what one fill of the source gives, and answers how many bytes. Where there is no more
-    /// room, it asks for one byte, to tell whether the source is at its end.
+    /// Takes what one fill gives, and answers how many bytes.
     fn fill<S: Source>(&mut self, source: &mut S) -> Result<usize, TableFault>
         ensures fills { FillsTable (S.state source.old) (S.state source.new) self.old self.new
             result }
@@ -91,7 +86,6 @@ impl TableBytes {
         Ok(count)
     }
 
-    /// Reads the source to its end.
     fn drain<S: Source>(&mut self, source: &mut S, fills: u32) -> Result<(), TableFault>
         requires { self.old ≡ [] }
         ensures all { OnOk result (ReadsAll table_limit fills (S.state source.old)
@@ -107,7 +101,6 @@ impl TableBytes {
         Err(TableFault::Fault(ReadFault::Endless))
     }
 
-    /// The table of the source's bytes.
     fn read<S: Source>(
         mut self,
         alloc: Global,
@@ -143,18 +136,15 @@ fn expect_end<S: Source>(source: &mut S) -> Result<usize, TableFault>
 
 /// Reads a table file to the end of input, in at most so many fills, in whatever pieces it comes.
 ///
-/// Where the source tells bytes, doesn't fail and ends within the fills, the table is that of those
-/// bytes, want of memory aside.
-///
 /// # Errors
 ///
 /// `Long` once more than 16,384 bytes are there, and at the end of input `Line` or `Count`.
 /// Memory is wanting before the first fill, or where the bytes are a table.
 pub fn take_table<S: Source>(alloc: Global, source: &mut S, fills: u32) -> Result<Table, TableFault>
     ensures reads { ReadsTable fills (S.state source.old) (S.state source.new) result }
-    ensures only { (words bytes : List ℕ) → Tells fills (S.state source.old) (S.state source.new)
-        bytes → IsTableFile words bytes
-        → MatchResult result (λ table. table ≡ words) (λ e. e ≡ Fault Memory) }
+    ensures only { (randoms bytes : List ℕ) → Tells fills (S.state source.old) (S.state source.new)
+        bytes → IsTableFile randoms bytes
+        → MatchResult result (λ table. table ≡ randoms) (λ e. e ≡ Fault Memory) }
 {
     let Ok(held) = TableBytes::new(alloc) else {
         return Err(TableFault::Fault(ReadFault::Memory));

@@ -18,8 +18,7 @@ use pb_messages::{Left, Messages, Named, Part, Progress, Told, Watching};
 use std::alloc::Global;
 use std::cell::RefCell;
 
-/// Takes the submissions on standard input, keeps what is wanted beside the book, and answers
-/// whether there is a book.
+/// Answers whether there is a book.
 pub(crate) fn collect<'a>(
     messages: Messages<'a>,
     guard: &JournalGuard<'a>,
@@ -39,8 +38,7 @@ pub(crate) fn collect<'a>(
     Ok(tell_made(&progress, made, order.table, path, Some(order.book)))
 }
 
-/// Runs the order over these ends. A saved ledger that it names is made anew after the run and before
-/// the book.
+/// A saved ledger is made anew after the run and before the book.
 fn run<'a>(
     messages: Messages<'a>,
     guard: &JournalGuard<'a>,
@@ -76,8 +74,7 @@ fn run<'a>(
     }
 }
 
-/// Makes sure that the files of the run are different ones, and gives the path of what is kept
-/// beside the book.
+/// Gives the path of what is kept beside the book.
 fn kept_apart<'a>(messages: Messages<'a>, order: &CollectOrder<'a>) -> Result<&'a str, Stop> {
     let table = (Part::Table, order.table);
     let book = (Part::Book, order.book);
@@ -93,7 +90,6 @@ fn kept_apart<'a>(messages: Messages<'a>, order: &CollectOrder<'a>) -> Result<&'
     Ok(kept.1)
 }
 
-/// The reader of this saved ledger, and the store where it is made anew, under the same name.
 fn ledger<'a, 'f>(
     kept: Named<'a>,
     file: &'f SavedLedger<'a>,
@@ -113,8 +109,6 @@ fn ledger<'a, 'f>(
     })
 }
 
-/// Runs the order over the journal that it has come to, which each new game is added to before its
-/// reply is written.
 fn add_to_journal<'g, 'f, 'a, const MODE: u8>(
     alloc: Global,
     order: &CollectOrder<'a>,
@@ -138,8 +132,7 @@ fn add_to_journal<'g, 'f, 'a, const MODE: u8>(
     }
 }
 
-/// Runs the order over this journal, whatever its file is: the type of what is lent here names no
-/// borrow of the file's.
+/// Generic in the journal's file, so that the type of what is lent names no borrow of it.
 fn run_journal<'f, 'a, K: Source + Drop, J: JournalFile + Drop, F: Folder, const MODE: u8>(
     alloc: Global,
     order: &CollectOrder<'_>,

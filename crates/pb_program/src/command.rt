@@ -12,11 +12,9 @@ use std::cell::RefCell;
 use std::fs::File;
 use std::io::{Input, StdinLock};
 
-/// A file as a source.
 pub(crate) type FileSource<'a> = FromRead<Told<'a, File>>;
 
-/// Runs the order's command, and answers whether all was taken. The standard streams have to be
-/// open, and the files that it reads are opened before anything is read.
+/// Answers whether all was taken. The files that are read are opened before anything is read.
 pub(crate) fn answer<'a>(
     messages: Messages<'a>,
     order: &Order<'a>,
@@ -52,8 +50,7 @@ pub(crate) fn answer<'a>(
     }
 }
 
-/// Opens the table, then the book, and looks up the record, or without one the positions on
-/// standard input.
+/// Looks up the record, or without one the positions on standard input.
 fn look_up(
     messages: Messages<'_>,
     table: &str,
@@ -61,22 +58,21 @@ fn look_up(
     record: Option<&str>,
     output: &mut impl Sink,
 ) -> Result<bool, Stop> {
-    let (mut words, mut entries) = (source(messages, table)?, source(messages, book)?);
+    let (mut table_file, mut book_file) = (source(messages, table)?, source(messages, book)?);
     let alloc = messages.rt.alloc();
     let answer = match record {
         Some(record) => {
             let record = record.as_bytes();
-            ordered::probe(alloc, &mut words, &mut entries, record, output)?
+            ordered::probe(alloc, &mut table_file, &mut book_file, record, output)?
         }
         None => {
             let mut input = FromRead::new(input(messages));
-            ordered::lookup(alloc, &mut words, &mut entries, &mut input, output)?
+            ordered::lookup(alloc, &mut table_file, &mut book_file, &mut input, output)?
         }
     };
     Ok(tell_answer(messages, table, book, answer))
 }
 
-/// Judges the submissions. Each answer is written before the next line is waited for.
 fn check(messages: Messages<'_>, output: &mut impl Sink) -> Result<bool, Stop> {
     let output = RefCell::new(output);
     let progress = Progress::new(messages, false);
@@ -90,7 +86,6 @@ fn check(messages: Messages<'_>, output: &mut impl Sink) -> Result<bool, Stop> {
     Ok(all_taken)
 }
 
-/// Opens the table, then takes the submissions, whose replies are dropped.
 fn export(
     messages: Messages<'_>,
     order: &ExportOrder<'_>,
@@ -110,13 +105,11 @@ fn export(
     Ok(tell_made(&progress, made?, order.table, "", None))
 }
 
-/// Gives the file of this name as a source.
 pub(crate) fn source<'a>(messages: Messages<'a>, name: &'a str) -> Result<FileSource<'a>, Stop> {
     let named = Named::new(messages, name);
     Ok(FromRead::new(Told::new(named, open(named)?)))
 }
 
-/// Gives standard input.
 pub(crate) fn input<'a>(messages: Messages<'a>) -> Told<'a, StdinLock<'a>> {
     Told::new(Named::new(messages, "standard input"), messages.rt.reader())
 }

@@ -6,8 +6,7 @@ use pb_files::{Stop, keep_apart};
 use pb_io::{Fault, Sink};
 use pb_messages::{Message, Messages, Part, Progress, Watching};
 
-/// Opens all files, then prints the submission lines of each in turn. A last line without its end
-/// is told, as are lines that are no submissions.
+/// Opens all files, then prints the submission lines of each in turn.
 pub(crate) fn games<'a>(
     messages: Messages<'a>,
     files: &[&'a str],
@@ -26,7 +25,7 @@ pub(crate) fn games<'a>(
     for (name, file) in files.iter().zip(sources.iter_mut()) {
         let mut watcher = Watching::new(&progress, name);
         if ordered::games(alloc, file, output, &mut watcher)? {
-            messages.warn(&Message::TornEnd(name));
+            messages.warn(&Message::CutLine(name));
         }
     }
     Ok(true)

@@ -25,9 +25,9 @@ ghost use Rattle.pb_poly.specs.Reading.{ReadsBook};
 ghost use Rattle.pb_program.specs.Ordered.{IsLedgerPath, is_synced, most_fills};
 
 use pb_cli::{
-    Answer, CollectOrder, Ends, ExportOrder, Fault, JournalEnds, LedgerEnds, Made, NoBook,
-    NotContinued, Store, Watcher, answer_lookup, answer_probe, answer_show, collect_into,
-    continue_into, export_submissions, journal_into, pick_games, run_check, run_epd,
+    Answer, CollectOrder, Ends, ExportOrder, Fault, JournalEnds, LedgerEnds, Made, NoBook, Store,
+    Watcher, answer_lookup, answer_probe, answer_show, collect_into, continue_into,
+    export_submissions, journal_into, pick_games, run_check, run_epd,
 };
 use pb_files::laws::{answered_games_are_handed_on, answered_games_are_left};
 use pb_files::{JournalFile, JournalSink};
@@ -35,15 +35,9 @@ use pb_folder::{Folder, KeptFile};
 use pb_io::{Sink, Source};
 use std::alloc::Global;
 
-/// How many fills a command may make of a source: as many as can be counted, so that only a source
-/// without an end meets the limit.
+/// Allows as many fills of a source as can be counted, so that only one without an end meets it.
 pub const FILLS: u32 = u32::MAX;
 
-/// Runs `collect_into` by the rules of the order, into the book's file.
-///
-/// # Errors
-///
-/// Those of `collect_into`.
 pub(crate) fn collect<'f, 'a, Table: Source, In: Source, Out: Sink, Watch: Watcher, F: Folder>(
     alloc: Global,
     order: &CollectOrder<'_>,
@@ -62,11 +56,6 @@ pub(crate) fn collect<'f, 'a, Table: Source, In: Source, Out: Sink, Watch: Watch
     collect_into(alloc, order.rules, ends, book, FILLS)
 }
 
-/// Runs `continue_into` by the rules of the order.
-///
-/// # Errors
-///
-/// Those of `continue_into`.
 pub(crate) fn go_on<
     'l,
     'f,
@@ -83,7 +72,7 @@ pub(crate) fn go_on<
     ends: &mut Ends<Table, In, Out, Watch>,
     ledger: &mut LedgerEnds<Saved, KeptFile<'l, 'a, F>>,
     book: &mut KeptFile<'f, 'a, F>,
-) -> Result<Made, NotContinued>
+) -> Result<Made, NoBook>
     requires ledger { IsLedgerPath order.now.kept ledger.old.store.label.path.now }
     requires book { book.old.label.path.now ≡ order.now.book.now }
     ensures ends { let e = states Table.state In.state Out.state ends.old ends.new in
@@ -102,14 +91,8 @@ pub(crate) fn go_on<
     continue_into(alloc, order.rules, ends, ledger, book, FILLS)
 }
 
-/// Runs `journal_into` by the rules of the order, which also says whether its games are synced. The
-/// journal is the end of a file. So each game that was answered `ok` is in that file, however the
-/// run ends, and whatever comes then: each crash leaves it there where games are synced, and else
-/// each kill.
-///
-/// # Errors
-///
-/// Those of `journal_into`.
+/// Each game that was answered `ok` is in the journal's file, however the run ends: a crash leaves
+/// it there where games are synced, and else a kill.
 pub(crate) fn journal<
     'f,
     'a,
@@ -158,11 +141,6 @@ pub(crate) fn journal<
     journal_into(alloc, order.rules, ends, journal, book, FILLS)
 }
 
-/// Runs `export_submissions` by the rules of the order.
-///
-/// # Errors
-///
-/// Those of `export_submissions`.
 pub(crate) fn export<Table: Source, In: Source, Replies: Sink, Watch: Watcher, Out: Sink>(
     alloc: Global,
     order: &ExportOrder<'_>,
@@ -179,11 +157,6 @@ pub(crate) fn export<Table: Source, In: Source, Replies: Sink, Watch: Watcher, O
     export_submissions(alloc, order.rules, ends, sink, FILLS)
 }
 
-/// Runs `run_check`.
-///
-/// # Errors
-///
-/// Those of `run_check`.
 pub(crate) fn check<In: Source, Out: Sink, Watch: Watcher>(
     alloc: Global,
     source: &mut In,
@@ -196,11 +169,6 @@ pub(crate) fn check<In: Source, Out: Sink, Watch: Watcher>(
     run_check(alloc, source, sink, watcher, FILLS)
 }
 
-/// Runs `answer_probe`.
-///
-/// # Errors
-///
-/// Those of `answer_probe`.
 pub(crate) fn probe<TableIn: Source, BookIn: Source, Out: Sink>(
     alloc: Global,
     table_source: &mut TableIn,
@@ -216,11 +184,6 @@ pub(crate) fn probe<TableIn: Source, BookIn: Source, Out: Sink>(
     answer_probe(alloc, table_source, book_source, fen, sink, FILLS)
 }
 
-/// Runs `answer_lookup`.
-///
-/// # Errors
-///
-/// Those of `answer_lookup`.
 pub(crate) fn lookup<TableIn: Source, BookIn: Source, In: Source, Out: Sink>(
     alloc: Global,
     table_source: &mut TableIn,
@@ -236,11 +199,6 @@ pub(crate) fn lookup<TableIn: Source, BookIn: Source, In: Source, Out: Sink>(
     answer_lookup(alloc, table_source, book_source, source, sink, FILLS)
 }
 
-/// Runs `answer_show`.
-///
-/// # Errors
-///
-/// Those of `answer_show`.
 pub(crate) fn show<In: Source, Out: Sink>(
     alloc: Global,
     source: &mut In,
@@ -252,11 +210,6 @@ pub(crate) fn show<In: Source, Out: Sink>(
     answer_show(alloc, source, sink, FILLS)
 }
 
-/// Runs `run_epd`.
-///
-/// # Errors
-///
-/// Those of `run_epd`.
 pub(crate) fn epd<In: Source, Out: Sink>(
     alloc: Global,
     source: &mut In,
@@ -268,11 +221,6 @@ pub(crate) fn epd<In: Source, Out: Sink>(
     run_epd(alloc, source, sink, FILLS)
 }
 
-/// Runs `pick_games`.
-///
-/// # Errors
-///
-/// Those of `pick_games`.
 pub(crate) fn games<In: Source, Out: Sink, Watch: Watcher>(
     alloc: Global,
     source: &mut In,

@@ -6,11 +6,10 @@ use std::fmt::Display;
 use std::fs::{self, File};
 use std::io::Read;
 
-/// How many first bytes of a refused file are looked at.
+/// In bytes, of a refused file.
 const LOOKED_AT: usize = 512;
 
-/// Tells why the table or the book of these names, the record or a move was refused, and answers
-/// whether all was taken. A line that is refused is an answer.
+/// Answers whether all was taken. A line that is refused is an answer.
 pub(crate) fn tell_answer(messages: Messages<'_>, table: &str, book: &str, answer: Answer) -> bool {
     if let Answer::Refused(why) = answer {
         match why {
@@ -22,9 +21,8 @@ pub(crate) fn tell_answer(messages: Messages<'_>, table: &str, book: &str, answe
     answer.is_taken()
 }
 
-/// Tells what a run has made, or why it read no submission, by the names of its table, its saved
-/// ledger and its book, and answers whether it has made something. Of a ledger that was cut short
-/// the last line is told too.
+/// Tells what a run has made, or why it read no submission. Of a ledger that was cut short the last
+/// line is told too.
 pub(crate) fn tell_made(
     progress: &Progress<'_>,
     made: Made,
@@ -51,7 +49,6 @@ pub(crate) fn tell_made(
     false
 }
 
-/// Tells why the file of this name is refused, which was to be of this part.
 fn tell_file<E: Display>(messages: Messages<'_>, part: Part, name: &str, why: &E) {
     match looks_of_file(messages.rt, name, part) {
         Some(looks) => messages.tell(&format_args!("{name}: {why}; it {looks}")),
@@ -59,8 +56,8 @@ fn tell_file<E: Display>(messages: Messages<'_>, part: Part, name: &str, why: &E
     }
 }
 
-/// Gives what a file looks like that was to be of this part, if it looks like something else. Only
-/// an ordinary file is looked at again, since a pipe gives its bytes once.
+/// What a file looks like, if not like one of this part. Only an ordinary file is looked at again,
+/// since a pipe gives its bytes once.
 fn looks_of_file(rt: &HostRuntime, name: &str, part: Part) -> Option<Looks> {
     if !fs::metadata(rt, name).ok()?.is_file() {
         return None;

@@ -11,31 +11,30 @@ use pb_io::ToWrite;
 use pb_messages::{Message, Messages, Named, Told};
 use std::io::{self, BufWriter, ErrorKind, IsTerminal};
 
-/// What messages call standard output.
 const OUTPUT: &str = "standard output";
 
-/// The status for words that give no order.
+/// Is the exit status for arguments that give no order.
 pub const USAGE_STATUS: u8 = 2;
 
-/// Reads the words of the command line, of which the first is the program's name, runs their
-/// command and answers the exit status. That is 0 where all was taken, 1 where an input was
-/// refused, 2 where the words give no order, 3 where a device failed or memory was wanting.
-pub fn run(rt: &HostRuntime, words: &[&str]) -> u8
+/// Runs the command of these arguments, of which the first is the program's name, and answers the
+/// exit status: 0 where all was taken, 1 where an input was refused, 2 where they give no order, 3
+/// where a device failed or memory was wanting.
+pub fn run(rt: &HostRuntime, arguments: &[&str]) -> u8
     ensures { result ≤ 3 }
 {
-    match parse(rt.alloc(), words) {
+    match parse(rt.alloc(), arguments) {
         Ok(order) => perform(rt, &order),
         Err(ParseFault::Memory) => tell_no_memory(rt),
         Err(ParseFault::Usage(text)) => {
-            show_usage(rt, words, text.as_str());
+            show_usage(rt, arguments, text.as_str());
             USAGE_STATUS
         }
     }
 }
 
-/// Puts the text on standard output. The first line of a usage error is told too, where that is
-/// sent to a file. A text that was asked for is none.
-fn show_usage(rt: &HostRuntime, words: &[&str], text: &str) {
+/// Puts the text on standard output. The first line of a usage error is told too where that goes to
+/// a file. A text that was asked for is none.
+fn show_usage(rt: &HostRuntime, arguments: &[&str], text: &str) {
     let messages = Messages::new(rt);
     if let Err(error) = print!(rt; "{text}")
         && error.kind() != ErrorKind::BrokenPipe
@@ -50,15 +49,15 @@ fn show_usage(rt: &HostRuntime, words: &[&str], text: &str) {
     {
         messages.tell(&Message::Usage(text));
     }
-    if let Some(message) = on_input(words, error) {
+    if let Some(message) = on_input(arguments, error) {
         messages.tell(&message);
     }
 }
 
-/// Gives the message for a file that is named where the command of these words takes lines from
-/// standard input: the usage error says that it is a word too many. An option is no file.
-fn on_input<'m>(words: &[&str], error: &'m str) -> Option<Message<'m>> {
-    let noun = match *words.get(1)? {
+/// Answers a file's name where the command takes lines from standard input: the usage error says
+/// that it is an argument too many.
+fn on_input<'m>(arguments: &[&str], error: &'m str) -> Option<Message<'m>> {
+    let noun = match *arguments.get(1)? {
         "collect" | "export" | "check" => "games",
         "epd" | "lookup" => "positions",
         _ => return None,
@@ -71,7 +70,6 @@ fn on_input<'m>(words: &[&str], error: &'m str) -> Option<Message<'m>> {
     Some(Message::OnInput(noun, file))
 }
 
-/// Runs the command over standard output and answers the exit status.
 fn perform<'a>(rt: &'a HostRuntime, order: &Order<'a>) -> u8
     ensures { result ≤ 3 }
 {
@@ -91,7 +89,6 @@ fn perform<'a>(rt: &'a HostRuntime, order: &Order<'a>) -> u8
     }
 }
 
-/// The messages of a run with this order, which tells what it asks for.
 fn messages_of<'a>(rt: &'a HostRuntime, order: &Order<'_>) -> Messages<'a> {
     let mut messages = Messages::new(rt);
     if let Order::Collect(CollectOrder { quiet, summary, .. })
@@ -103,7 +100,7 @@ fn messages_of<'a>(rt: &'a HostRuntime, order: &Order<'_>) -> Messages<'a> {
     messages
 }
 
-/// Tells that there was no memory to begin with, and answers the status of a fault.
+/// Tells that there was no memory to begin with, and answers the exit status.
 pub fn tell_no_memory(rt: &HostRuntime) -> u8
     ensures { result ≡ 3 }
 {

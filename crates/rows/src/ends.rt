@@ -9,7 +9,7 @@ use pb_poly::{Failed, FromRead, FuseSource, MemSource, NeverSource, Source};
 use std::alloc::Global;
 use std::io::{self, ErrorKind, Read, Write};
 
-/// The place of an error that never comes.
+/// Where an error stands that never comes.
 const NEVER: usize = usize::MAX;
 
 /// Gives bytes in pieces, with an error after so many of them, and then the others. A read into no
@@ -93,8 +93,8 @@ impl Source for NamedSource<'_> {
     }
 }
 
-/// The source that a word names over these bytes: `memory:3` for pieces of three bytes in memory,
-/// of which `fuse:3,5` lets five fills pass; `slice` for the reader that std makes of them;
+/// Makes the source that a word names over these bytes: `memory:3` for pieces of three bytes in
+/// memory, of which `fuse:3,5` lets five fills pass; `slice` for the reader that std makes of them;
 /// `reader:3` for one in pieces of three, where `reader:3,interrupted:5` and `reader:3,ended:5`
 /// fail once after five bytes and then go on; and `endless` for the first byte over and over.
 /// `memory:3,front:5` and the like have the first five bytes alone.
@@ -113,7 +113,7 @@ pub fn named_source<'a>(word: &str, bytes: &'a [u8]) -> NamedSource<'a> {
     }
 }
 
-/// Those of the bytes that a source of this word has.
+/// Gives those of the bytes that a source of this word has.
 pub fn front_of<'a>(word: &str, bytes: &'a [u8]) -> &'a [u8] {
     match word.split_once(",front:") {
         Some((_, count)) => bytes.get(..count_of(count)).unwrap_or(bytes),
@@ -121,7 +121,7 @@ pub fn front_of<'a>(word: &str, bytes: &'a [u8]) -> &'a [u8] {
     }
 }
 
-/// A reader of these bytes in pieces of this size, with the failure that a word names.
+/// Makes a reader of these bytes in pieces of this size, with the failure that a word names.
 pub fn giver_of<'a>(bytes: &'a [u8], piece: usize, failure: &str) -> Giver<'a> {
     let (until, kind) = match failure.split_once(':') {
         Some(("interrupted", count)) => (count_of(count), ErrorKind::Interrupted),
@@ -138,17 +138,22 @@ pub fn giver_of<'a>(bytes: &'a [u8], piece: usize, failure: &str) -> Giver<'a> {
     }
 }
 
-/// What a word of a row says of the end of this name, where `table=fuse:3,1 output=room:12` says it
-/// of two. The others are as usual.
+/// Gives what a word of a row says of the end of this name, where `table=fuse:3,1 output=room:12`
+/// says it of two. The others are as usual.
 pub fn end_of<'a>(ends: &'a str, name: &str, usual: &'a str) -> &'a str {
-    for part in ends.split(' ') {
-        if let Some((end, word)) = part.split_once('=')
+    for text in ends.split(' ') {
+        if let Some((end, word)) = text.split_once('=')
             && end == name
         {
             return word;
         }
     }
     usual
+}
+
+/// Makes the source over these bytes that the word for a row's ends names, or else the usual one.
+pub fn source_in<'a>(ends: &str, name: &str, usual: &str, bytes: &'a [u8]) -> NamedSource<'a> {
+    named_source(end_of(ends, name, usual), bytes)
 }
 
 /// Takes bytes one at a time. Where so many have been taken, one write takes none, or is an error
@@ -163,20 +168,18 @@ pub struct Taker {
 }
 
 impl Taker {
-    /// The writer that a word names: `room:5` for one that takes no more once after five bytes,
-    /// `interrupted:5` for one whose write is an error then, `broken:5` for one whose first flush
-    /// is one too, and any other word for one that takes all.
+    /// Makes the writer that a word names: `room:5` for one that takes no more once after five
+    /// bytes, `interrupted:5` for one whose write is an error then, `broken:5` for one whose first
+    /// flush is one too, and any other word for one that takes all.
     pub fn of(alloc: Global, word: &str) -> Taker {
         let (kind, room) = word.split_once(':').unwrap_or((word, ""));
-        let room = if room.is_empty() {
-            NEVER
-        } else {
-            count_of(room)
-        };
         let fails_at_flush = kind == "broken";
         Taker {
             taken: Vec::new(alloc),
-            room,
+            room: match room {
+                "" => NEVER,
+                _ => count_of(room),
+            },
             is_broken: fails_at_flush || kind == "interrupted",
             fails_at_flush,
             flushes: 0,
@@ -188,10 +191,9 @@ impl Write for Taker {
     fn write(&mut self, buf: &[u8]) -> io::Result<usize> {
         if buf.is_empty() || self.taken.len() == self.room {
             self.room = NEVER;
-            return if self.is_broken {
-                Err(io::Error::from(ErrorKind::Interrupted))
-            } else {
-                Ok(0)
+            return match self.is_broken {
+                true => Err(io::Error::from(ErrorKind::Interrupted)),
+                false => Ok(0),
             };
         }
         if self.taken.push(buf[0]).is_err() {

@@ -11,12 +11,11 @@ const ROOM: usize = 4096;
 /// How many equal bytes are written one by one at most.
 const LONGEST_RUN: usize = 31;
 
-/// Why a row has no answer.
+/// Why a row has no answer: there was no memory, or the row names no call, or gives it no such
+/// arguments.
 #[derive(Clone, Copy, Debug)]
 pub enum Trouble {
-    /// There was no memory.
     Memory,
-    /// The row names no call, or gives it no such arguments.
     Row,
 }
 
@@ -44,7 +43,7 @@ pub type Done = Result<(), Trouble>;
 /// The answer to a row that names no call, or gives it no such arguments.
 pub const NO_ROW: Done = Err(Trouble::Row);
 
-/// What has been written down so far. Where memory is wanting for a part, that and all after it are
+/// What has been written down so far. Where memory is wanting for a text, that and all after it are
 /// left out, and the page is short.
 #[derive(Drop)]
 pub struct Page {
@@ -56,16 +55,12 @@ pub struct Page {
 impl Write for Page {
     fn write_str(&mut self, text: &str) -> fmt::Result {
         self.is_short = self.is_short || self.text.push_str(text).is_err();
-        if self.is_short {
-            Err(fmt::Error)
-        } else {
-            Ok(())
-        }
+        self.done().map_err(|_| fmt::Error)
     }
 }
 
 impl Page {
-    /// Nothing yet.
+    /// Makes an empty one.
     pub fn new(alloc: Global) -> Page {
         let (text, is_short) = match String::with_capacity(alloc, ROOM) {
             Ok(text) => (text, false),
@@ -78,7 +73,7 @@ impl Page {
         }
     }
 
-    /// Done, where memory was there for all of it.
+    /// Fails where the page is short.
     pub fn done(&self) -> Done {
         if self.is_short {
             Err(Trouble::Memory)
@@ -87,15 +82,13 @@ impl Page {
         }
     }
 
-    /// The lines of the answer that have ended.
+    /// Gives the lines of the answer that have ended.
     pub fn ended_lines(&self) -> &str {
-        match self.text.as_str().rsplit_once('\n') {
-            Some((lines, _)) => lines,
-            None => "",
-        }
+        let ended = self.text.as_str().rsplit_once('\n');
+        ended.map_or("", |(lines, _)| lines)
     }
 
-    /// The answer.
+    /// Gives the answer.
     pub fn as_str(&self) -> &str {
         self.text.as_str()
     }
@@ -122,18 +115,7 @@ impl Page {
 
     /// Adds a refusal.
     pub fn put_refusal<T: Debug>(&mut self, refusal: &T) {
-        self.put("refused ");
-        self.put_debug(refusal);
-    }
-
-    /// Adds a name and a key after it, as 16 hexadecimal digits.
-    pub fn put_key(&mut self, name: &str, key: u64) {
-        let _ = write!(self, "{name}{key:016x}");
-    }
-
-    /// Adds a name and a code after it, as four hexadecimal digits.
-    pub fn put_code(&mut self, name: &str, code: u16) {
-        let _ = write!(self, "{name}{code:04x}");
+        let _ = write!(self, "refused {refusal:?}");
     }
 
     /// Adds the bytes as two hexadecimal digits each.
@@ -150,25 +132,21 @@ impl Page {
         }
     }
 
-    /// Adds equal bytes.
     fn put_run(&mut self, run: &[u8]) {
-        let count = run.len();
-        let [byte, ..] = run else {
-            return;
-        };
-        if count > LONGEST_RUN {
-            self.put_count("{", &count);
+        if let [byte, ..] = run
+            && run.len() > LONGEST_RUN
+        {
+            self.put_count("{", &run.len());
             self.put("*");
             self.put_byte(*byte);
             self.put("}");
             return;
         }
-        for _ in run {
+        for byte in run {
             self.put_byte(*byte);
         }
     }
 
-    /// Adds a byte.
     fn put_byte(&mut self, byte: u8) {
         match byte {
             b'\r' => self.put("{cr}"),

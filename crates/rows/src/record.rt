@@ -7,24 +7,36 @@ use pb_board::{
     Colour, Fen, FenError, Piece, Setup, Square, read_fen, read_setup, write_fen, write_setup,
 };
 use pb_moves::{Move, attacked, in_check, playable};
+use std::fmt::Write;
 
-/// The answer to a call.
+/// Answers a call.
 pub fn answer(page: &mut Page, call: &[&str]) -> Done {
-    let [name, words @ ..] = call else {
-        return NO_ROW;
-    };
-    match *name {
-        "read" => read(page, words),
-        "fields" => read_fields(page, words),
-        "look" => look(page, words),
-        "build" => build(page, words),
-        "square" => tell_square(page, words),
-        "clocks" => clocks(page, words),
-        _ => NO_ROW,
+    match call {
+        ["read", text] => return read(page, text),
+        ["fields", a, b, c, d] => {
+            return read_fields(
+                page,
+                [a.as_bytes(), b.as_bytes(), c.as_bytes(), d.as_bytes()],
+            );
+        }
+        ["look", record, squares @ ..] => return look(page, &setup_of(record)?, squares),
+        ["build", en_passant, record, moves @ ..] => {
+            return build(page, named(en_passant).ok(), &setup_of(record)?, moves);
+        }
+        ["square", index] => tell_square(page, Square::from_index(byte_of(index))),
+        ["square", file, rank] => tell_square(page, Square::new(byte_of(file), byte_of(rank))),
+        ["clocks", half, full] => {
+            match Fen::new(Setup::start(), clock_of(half), clock_of(full)) {
+                Some(fen) => return tell(page, &fen),
+                None => page.put("none"),
+            }
+        }
+        _ => return NO_ROW,
     }
+    Ok(())
 }
 
-/// The record of a text: `start` is the initial array as the library makes it.
+/// Reads the record of a text: `start` is the initial array as the library makes it.
 pub fn record_of(record: &str) -> Result<Fen, Trouble> {
     if record == "start" {
         return Fen::new(Setup::start(), 0, 1).ok_or(Trouble::Row);
@@ -32,30 +44,27 @@ pub fn record_of(record: &str) -> Result<Fen, Trouble> {
     read_fen(record.as_bytes()).ok().ok_or(Trouble::Row)
 }
 
-/// The setup of the record of a text.
+/// Reads the setup of the record of a text.
 pub fn setup_of(record: &str) -> Result<Setup, Trouble> {
     Ok(record_of(record)?.setup())
 }
 
-/// Tells why a record is refused, and the word for it.
+/// Why a record is refused, and the word for it.
 fn tell_refusal(page: &mut Page, refusal: FenError) {
     page.put_refusal(&refusal);
     page.put_count(" ", &refusal.word());
 }
 
-/// Tells the record as it tells its text, as it is written, and its clocks.
+/// The text that the record tells, as it is written, and its clocks.
 fn tell(page: &mut Page, fen: &Fen) -> Done {
     page.put_bytes(fen.text().as_bytes());
     page.put("\n");
     page.put_bytes(write_fen(page.alloc, fen)?.as_slice());
-    page.put_count("\nclocks ", &fen.half());
-    page.put_count(" ", &fen.full());
+    let _ = write!(page, "\nclocks {} {}", fen.half(), fen.full());
     Ok(())
 }
 
-/// The text, read as a record.
-fn read(page: &mut Page, words: &[&str]) -> Done {
-    let [text] = words else { return NO_ROW };
+fn read(page: &mut Page, text: &str) -> Done {
     match read_fen(text.as_bytes()) {
         Ok(fen) => return tell(page, &fen),
         Err(refusal) => tell_refusal(page, refusal),
@@ -64,9 +73,8 @@ fn read(page: &mut Page, words: &[&str]) -> Done {
 }
 
 /// Four fields read as a setup and written again, and whether it is the initial array.
-fn read_fields(page: &mut Page, words: &[&str]) -> Done {
-    let [a, b, c, d] = words else { return NO_ROW };
-    match read_setup([a.as_bytes(), b.as_bytes(), c.as_bytes(), d.as_bytes()]) {
+fn read_fields(page: &mut Page, fields: [&[u8]; 4]) -> Done {
+    match read_setup(fields) {
         Ok(setup) => {
             page.put_bytes(write_setup(page.alloc, &setup)?.as_slice());
             page.put_count("\nstart ", &(setup == Setup::start()));
@@ -84,54 +92,41 @@ fn named(name: &str) -> Result<Square, Trouble> {
     Square::new(file.wrapping_sub(b'a'), rank.wrapping_sub(b'1')).ok_or(Trouble::Row)
 }
 
-/// The number that a word writes, or 255.
 fn byte_of(word: &str) -> u8 {
     number_of(word).min(255) as u8
 }
 
-/// The square of an index, or of a file and a rank, by their numbers from 0, if there is one.
-fn tell_square(page: &mut Page, words: &[&str]) -> Done {
-    let square = match words {
-        [index] => Square::from_index(byte_of(index)),
-        [file, rank] => Square::new(byte_of(file), byte_of(rank)),
-        _ => return NO_ROW,
-    };
-    match square {
-        Some(it) => {
-            page.put_count("index ", &it.index());
-            page.put_count(" file ", &it.file());
-            page.put_count(" rank ", &it.rank());
-        }
-        None => page.put("none"),
-    }
-    Ok(())
+fn clock_of(word: &str) -> u16 {
+    number_of(word).min(65_535) as u16
 }
 
-/// What a setup tells of its parts, who is in check, and what stands on these squares and attacks
-/// them.
-fn look(page: &mut Page, words: &[&str]) -> Done {
-    let [record, squares @ ..] = words else {
-        return NO_ROW;
+fn tell_square(page: &mut Page, square: Option<Square>) {
+    let Some(square) = square else {
+        page.put("none");
+        return;
     };
-    let setup = setup_of(record)?;
-    tell_parts(page, &setup);
+    let (index, file, rank) = (square.index(), square.file(), square.rank());
+    let _ = write!(page, "index {index} file {file} rank {rank}");
+}
+
+/// What a setup tells of itself, who is in check, and what stands on these squares and attacks
+/// them.
+fn look(page: &mut Page, setup: &Setup, squares: &[&str]) -> Done {
+    tell_setup(page, setup);
     for name in squares {
         let square = named(name)?;
-        page.put(name);
-        page.put(" ");
-        page.put_debug(&setup.at(square));
-        page.put_count(
-            ", attacked by White ",
-            &attacked(&setup, square, Colour::White),
+        let white = attacked(setup, square, Colour::White);
+        let black = attacked(setup, square, Colour::Black);
+        let piece = setup.at(square);
+        let _ = write!(
+            page,
+            "{name} {piece:?}, attacked by White {white}, by Black {black}\n"
         );
-        page.put_count(", by Black ", &attacked(&setup, square, Colour::Black));
-        page.put("\n");
     }
     Ok(())
 }
 
-/// The parts of a setup, and who is in check.
-fn tell_parts(page: &mut Page, setup: &Setup) {
+fn tell_setup(page: &mut Page, setup: &Setup) {
     page.put_debug(&setup.turn());
     page.put(" to move, en passant ");
     page.put_debug(&setup.ep().map(|square| square.index()));
@@ -145,18 +140,14 @@ fn tell_parts(page: &mut Page, setup: &Setup) {
     page.put("\n");
 }
 
-/// The setup with the parts of a record, but for this en passant square and for what these moves,
-/// legal or not, carry elsewhere.
-fn build(page: &mut Page, words: &[&str]) -> Done {
-    let [en_passant, record, moves @ ..] = words else {
-        return NO_ROW;
-    };
-    let setup = setup_of(record)?;
+/// The setup of this one's fields, but for the en passant square and for what these moves, legal or
+/// not, carry elsewhere.
+fn build(page: &mut Page, ep: Option<Square>, setup: &Setup, moves: &[&str]) -> Done {
     let mut board = setup.board();
     for word in moves {
         carry(&mut board, spelled(word)?);
     }
-    match Setup::build(board, setup.turn(), setup.rights(), named(en_passant).ok()) {
+    match Setup::build(board, setup.turn(), setup.rights(), ep) {
         Ok(setup) => page.put_bytes(write_setup(page.alloc, &setup)?.as_slice()),
         Err(refusal) => page.put_refusal(&refusal),
     }
@@ -166,19 +157,4 @@ fn build(page: &mut Page, words: &[&str]) -> Done {
 /// Carries what stands on the square that a move leaves to the one that it reaches.
 fn carry(board: &mut [Option<Piece>; 64], m: Move) {
     board[m.to().index() as usize] = board[m.from().index() as usize].take();
-}
-
-/// The number that a word writes, or 65,535.
-fn clock_of(word: &str) -> u16 {
-    number_of(word).min(65_535) as u16
-}
-
-/// The record of the initial array with these clocks.
-fn clocks(page: &mut Page, words: &[&str]) -> Done {
-    let [half, full] = words else { return NO_ROW };
-    match Fen::new(Setup::start(), clock_of(half), clock_of(full)) {
-        Some(fen) => return tell(page, &fen),
-        None => page.put("none"),
-    }
-    Ok(())
 }

@@ -13,18 +13,16 @@ const BASIS: u64 = 0xcbf2_9ce4_8422_2325;
 
 const PRIME: u64 = 0x0000_0100_0000_01b3;
 
-/// Tells of an answer how many lines it has and the checksum of its bytes, and then its first line
-/// and its last.
+/// Tells how many lines an answer has and the checksum of its bytes, then its first and its last line.
 pub fn tell_digest(page: &mut Page, answer: &str) {
     let mut sum = BASIS;
     for byte in answer.as_bytes() {
         sum = (sum ^ u64::from(*byte)).wrapping_mul(PRIME);
     }
     let count = answer.lines().count();
-    let _ = write!(page, "{count} lines, checksum {sum:016x}\n");
-    page.put(answer.lines().next().unwrap_or(""));
-    page.put("\n");
-    page.put(answer.lines().last().unwrap_or(""));
+    let first = answer.lines().next().unwrap_or("");
+    let last = answer.lines().last().unwrap_or("");
+    let _ = write!(page, "{count} lines, checksum {sum:016x}\n{first}\n{last}");
 }
 
 /// Tells the answer to a row for each number. Equal answers in a row are told once, with their
@@ -83,7 +81,6 @@ pub fn fuses<F: FnMut(&mut Page, &str) -> Done>(page: &mut Page, row: &str, mut 
     NO_ROW
 }
 
-/// Tells the answer for these numbers.
 fn tell_run(page: &mut Page, first: usize, last: usize, answer: &Page) {
     let answer = answer.as_str();
     let _ = write!(page, "from {first} to {last}\n{answer}\n");

@@ -5,21 +5,23 @@ ghost use Rattle.std.specs.Prelude.{⊤};
 use crate::ends::{Taker, giver_of, named_source};
 use crate::page::{Done, NO_ROW, Page};
 use crate::text::{count_of, fills_of, small_of};
-use pb_io::{Fault, FromRead, FuseSink, LineTask, MemSink, Sink, Source, ToWrite, take_lines};
+use pb_io::{Fault, FromRead, LineTask, MemSink, Sink, Source, ToWrite, take_lines};
+use pb_poly::FuseSink;
 use std::io::Cursor;
 
-/// The answer to a call.
+/// Answers a call.
 pub fn answer(page: &mut Page, call: &[&str]) -> Done {
-    let [name, words @ ..] = call else {
-        return NO_ROW;
-    };
-    match *name {
-        "lines" => lines(page, words),
-        "failing-lines" => failing_lines(page, words),
-        "fill" => fill(page, words),
-        "sink" => sink(page, words),
-        _ => NO_ROW,
+    match call {
+        ["lines", source, fills, text] => {
+            let mut source = named_source(source, text.as_bytes());
+            take_all(page, &mut source, fills_of(fills));
+        }
+        ["failing-lines", failure, text] => failing_lines(page, failure, text),
+        ["fill", source, text, rooms @ ..] => return fill(page, source, text, rooms),
+        ["sink", end, texts @ ..] => sink(page, end, texts),
+        _ => return NO_ROW,
     }
+    Ok(())
 }
 
 /// Writes each line down with a bar after it, and a star for a long one. The line `stop` stops it,
@@ -60,25 +62,9 @@ fn take_all<S: Source>(page: &mut Page, source: &mut S, fills: u32) {
     page.put_bytes(task.text.as_slice());
 }
 
-/// The lines of a text from the source that a word names, in so many fills.
-fn lines(page: &mut Page, words: &[&str]) -> Done {
-    let [source, fills, text] = words else {
-        return NO_ROW;
-    };
-    take_all(
-        page,
-        &mut named_source(source, text.as_bytes()),
-        fills_of(fills),
-    );
-    Ok(())
-}
-
 /// The lines of a reader that fails once, what the source answers after that, and how often the
 /// reader was asked after its failure.
-fn failing_lines(page: &mut Page, words: &[&str]) -> Done {
-    let [failure, text] = words else {
-        return NO_ROW;
-    };
+fn failing_lines(page: &mut Page, failure: &str, text: &str) {
     let mut giver = giver_of(text.as_bytes(), 2, failure);
     let mut source = FromRead::new(&mut giver);
     take_all(page, &mut source, u32::MAX);
@@ -87,31 +73,21 @@ fn failing_lines(page: &mut Page, words: &[&str]) -> Done {
     page.put(", then ");
     page.put_debug(&next);
     page.put_count("\nreads after the failure: ", &giver.later);
-    Ok(())
 }
 
 /// The bytes of each fill of a slice of these sizes with a bar after them and the answer, and
 /// whether the source has failed then.
-fn fill(page: &mut Page, words: &[&str]) -> Done {
-    let [source, text, rooms @ ..] = words else {
-        return NO_ROW;
-    };
+fn fill(page: &mut Page, source: &str, text: &str, rooms: &[&str]) -> Done {
     let mut source = named_source(source, text.as_bytes());
     for room in rooms {
-        fill_room(page, &mut source, count_of(room))?;
+        let mut slice = vec![in page.alloc; 0; count_of(room)]?;
+        let filled = source.fill(slice.as_mut_slice());
+        page.put_bytes(&slice[..filled.unwrap_or(0)]);
+        page.put("|");
+        page.put_debug(&filled);
+        page.put("\n");
     }
     page.put_count("failed ", &source.failed());
-    Ok(())
-}
-
-/// The bytes of a fill of a slice of this size with a bar after them, and the answer.
-fn fill_room<S: Source>(page: &mut Page, source: &mut S, room: usize) -> Done {
-    let mut slice = vec![in page.alloc; 0; room]?;
-    let filled = source.fill(slice.as_mut_slice());
-    page.put_bytes(&slice[..filled.unwrap_or(0)]);
-    page.put("|");
-    page.put_debug(&filled);
-    page.put("\n");
     Ok(())
 }
 
@@ -132,10 +108,7 @@ fn put_all<K: Sink>(page: &mut Page, sink: &mut K, texts: &[&str]) {
 
 /// What the sink that a word names answers to these texts, and what it keeps: `memory`, `fuse:2`
 /// where two puts and flushes pass, a `vector`, an `array` of four bytes, or a writer.
-fn sink(page: &mut Page, words: &[&str]) -> Done {
-    let [end, texts @ ..] = words else {
-        return NO_ROW;
-    };
+fn sink(page: &mut Page, end: &str, texts: &[&str]) {
     let (kind, good) = end.split_once(':').unwrap_or((end, ""));
     match kind {
         "memory" => {
@@ -155,11 +128,8 @@ fn sink(page: &mut Page, words: &[&str]) -> Done {
         }
         "array" => {
             let mut kept = [0; 4];
-            put_all(
-                page,
-                &mut ToWrite::new(Cursor::new(kept.as_mut_slice())),
-                texts,
-            );
+            let mut sink = ToWrite::new(Cursor::new(kept.as_mut_slice()));
+            put_all(page, &mut sink, texts);
             page.put_bytes(kept.as_slice());
         }
         _ => {
@@ -169,5 +139,4 @@ fn sink(page: &mut Page, words: &[&str]) -> Done {
             page.put_count("\nflushes: ", &taker.flushes);
         }
     }
-    Ok(())
 }

@@ -19,14 +19,14 @@ const ODD: u64 = 0x9e37_79b9_7f4a_7c15;
 /// How many lines a table's file has.
 const LINES: u64 = 781;
 
-/// The word at a place of a table that anyone can make: in `powers` it is 2^(place mod 64), in
-/// `places` the place, in `ones` 1, and in `products` the low 64 bits of (place + 1) * `ODD`.
-fn word_at(table: &str, place: u64) -> Option<u64> {
+/// The word of an index in a table that anyone can make: in `powers` it is 2^(index mod 64), in
+/// `places` the index, in `ones` 1, and in `products` the low 64 bits of (index + 1) * `ODD`.
+fn word_at(table: &str, index: u64) -> Option<u64> {
     match table {
-        "powers" => Some(1 << (place % 64)),
-        "places" => Some(place),
+        "powers" => Some(1 << (index % 64)),
+        "places" => Some(index),
         "ones" => Some(1),
-        "products" => Some(place.wrapping_add(1).wrapping_mul(ODD)),
+        "products" => Some(index.wrapping_add(1).wrapping_mul(ODD)),
         _ => None,
     }
 }
@@ -34,39 +34,53 @@ fn word_at(table: &str, place: u64) -> Option<u64> {
 /// Adds the file of the table of a name in small digits, with this after each line. Where there is
 /// none, it adds nothing.
 pub fn push_file(text: &mut String, table: &str, ending: &str) -> Result<(), AllocError> {
-    for place in 0..LINES {
-        if let Some(word) = word_at(table, place) {
+    for index in 0..LINES {
+        if let Some(word) = word_at(table, index) {
             write!(text, "{word:016x}{ending}").map_err(|_| AllocError)?;
         }
     }
     Ok(())
 }
 
-/// Whether a table is that of a name.
 fn is_named(table: &Table, name: &str) -> bool {
-    (0..LINES).all(|place| word_at(name, place) == Some(table.word(place as usize)))
+    (0..LINES).all(|index| word_at(name, index) == Some(table.word(index as usize)))
 }
 
-/// The answer to a call.
+/// Answers a call.
 pub fn answer(page: &mut Page, call: &[&str]) -> Done {
-    let [name, words @ ..] = call else {
-        return NO_ROW;
-    };
-    match *name {
-        "read" => read(page, words),
-        "words" => read_words(page, words),
-        "take" => take(page, words),
-        "cut" => cut(page, words),
-        "key" => key(page, words),
-        "keys" => keys(page, words),
-        "codes" => codes(page, words),
-        "code" => code(page, words),
-        "move" => coded(page, words),
-        _ => NO_ROW,
+    match call {
+        ["read", text] => match read_table(page.alloc, text.as_bytes()) {
+            Ok(_table) => page.put("a table"),
+            Err(refusal) => page.put_refusal(&refusal),
+        },
+        ["words", name, digits, ending] => return read_words(page, name, digits, ending),
+        ["take", source, name] => return take(page, source, name),
+        ["cut", text] => cut(page, text.as_bytes()),
+        ["key", table, record] => {
+            let setup = setup_of(record)?;
+            tell_key(page, "", key_of(&table_of(page.alloc, table)?, &setup));
+        }
+        ["keys", table, record, moves @ ..] => {
+            let setup = setup_of(record)?;
+            return tell_keys(page, &table_of(page.alloc, table)?, setup, moves);
+        }
+        ["codes", record] => return codes(page, &setup_of(record)?),
+        ["code", record, text] => {
+            let setup = setup_of(record)?;
+            let code = code_of(&setup, spelled(text)?);
+            let _ = write!(page, "{code:04x} ");
+            tell_move(page, move_of(&setup, code));
+        }
+        ["move", record, code] => {
+            let code = hexadecimal(code).min(0xffff) as u16;
+            tell_move(page, move_of(&setup_of(record)?, code));
+        }
+        _ => return NO_ROW,
     }
+    Ok(())
 }
 
-/// The table that a text writes.
+/// Reads the table that a text writes.
 pub fn table_of(alloc: Global, text: &str) -> Result<Table, Trouble> {
     match read_table(alloc, text.as_bytes()) {
         Ok(table) => Ok(table),
@@ -75,43 +89,25 @@ pub fn table_of(alloc: Global, text: &str) -> Result<Table, Trouble> {
     }
 }
 
-/// Whether the text is a table, or why not.
-fn read(page: &mut Page, words: &[&str]) -> Done {
-    let [text] = words else { return NO_ROW };
-    match read_table(page.alloc, text.as_bytes()) {
-        Ok(_table) => page.put("a table"),
-        Err(refusal) => page.put_refusal(&refusal),
-    }
-    Ok(())
-}
-
 /// Whether the file of a table, with such digits and ends of lines, is read as its words, whole and
 /// without its last byte.
-fn read_words(page: &mut Page, words: &[&str]) -> Done {
-    let [name, digits, ending] = words else {
-        return NO_ROW;
-    };
+fn read_words(page: &mut Page, name: &str, digits: &str, ending: &str) -> Done {
     let mut file = String::new(page.alloc);
     push_file(&mut file, name, ending)?;
-    if *digits == "capital" {
+    if digits == "capital" {
         file.make_ascii_uppercase();
     }
-    page.put_count("whole ", &is_read_as(page.alloc, file.as_str(), name)?);
+    let whole = table_of(page.alloc, file.as_str())?;
+    page.put_count("whole ", &is_named(&whole, name));
     let _last = file.pop();
-    let is_cut = is_read_as(page.alloc, file.as_str(), name)?;
-    page.put_count(", without its last byte ", &is_cut);
+    let cut = table_of(page.alloc, file.as_str())?;
+    page.put_count(", without its last byte ", &is_named(&cut, name));
     Ok(())
-}
-
-/// Whether a text is read as the table of a name.
-fn is_read_as(alloc: Global, text: &str, name: &str) -> Result<bool, Trouble> {
-    Ok(is_named(&table_of(alloc, text)?, name))
 }
 
 /// Whether the file of a table is taken as its words from the source that a word names, or why it
 /// is refused.
-fn take(page: &mut Page, words: &[&str]) -> Done {
-    let [source, name] = words else { return NO_ROW };
+fn take(page: &mut Page, source: &str, name: &str) -> Done {
     let mut file = String::new(page.alloc);
     push_file(&mut file, name, "\n")?;
     let mut source = named_source(source, file.as_bytes());
@@ -135,97 +131,65 @@ fn due_after(count: usize) -> Option<TableError> {
 
 /// Each shorter front of a table's file, read: how many are refused as they have to be, or the
 /// first that isn't.
-fn cut(page: &mut Page, words: &[&str]) -> Done {
-    let [text] = words else { return NO_ROW };
-    let bytes = text.as_bytes();
+fn cut(page: &mut Page, bytes: &[u8]) {
     for count in 0..bytes.len() {
         let answer = read_table(page.alloc, &bytes[..count]).err();
         if answer != due_after(count) {
             page.put_debug(&answer);
             page.put_count(" for ", &count);
-            return Ok(());
+            return;
         }
     }
     page.put_display(&bytes.len());
     page.put(" fronts judged");
-    Ok(())
 }
 
-/// The key of a record's setup.
-fn key(page: &mut Page, words: &[&str]) -> Done {
-    let [table, record] = words else {
-        return NO_ROW;
-    };
-    let setup = setup_of(record)?;
-    page.put_key("", key_of(&table_of(page.alloc, table)?, &setup));
-    Ok(())
+fn tell_key(page: &mut Page, name: &str, key: u64) {
+    let _ = write!(page, "{name}{key:016x}");
 }
 
 /// The key after each of these moves, made anew, by what changed, and of the setup before the move
 /// alone.
-fn keys(page: &mut Page, words: &[&str]) -> Done {
-    let [table, record, moves @ ..] = words else {
-        return NO_ROW;
-    };
-    let setup = setup_of(record)?;
-    tell_all_keys(page, &table_of(page.alloc, table)?, setup, moves)
-}
-
-/// The keys after these moves from a setup.
-fn tell_all_keys(page: &mut Page, table: &Table, setup: Setup, moves: &[&str]) -> Done {
-    let mut setup = setup;
-    for word in moves {
-        page.put(word);
-        setup = tell_keys(page, table, &setup, spelled(word)?)?;
+fn tell_keys(page: &mut Page, table: &Table, start: Setup, moves: &[&str]) -> Done {
+    let mut setup = start;
+    for text in moves {
+        page.put(text);
+        setup = tell_next(page, table, &setup, spelled(text)?)?;
     }
     Ok(())
 }
 
 /// The key after a move, made in three ways, and the setup after it.
-fn tell_keys(page: &mut Page, table: &Table, setup: &Setup, m: Move) -> Result<Setup, Trouble> {
+fn tell_next(page: &mut Page, table: &Table, setup: &Setup, m: Move) -> Result<Setup, Trouble> {
     let after = play(setup, m).ok_or(Trouble::Row)?;
     let key = key_of(table, setup);
-    let next = match legal_effect(setup, m) {
-        Some(effect) => key_next(table, key, setup, m, &effect),
-        None => return Err(Trouble::Row),
+    let Some(effect) = legal_effect(setup, m) else {
+        return Err(Trouble::Row);
     };
-    page.put_key(" anew ", key_of(table, &after));
-    page.put_key(", by change ", key_after(table, key, setup, m, &after));
-    page.put_key(", of the setup before ", next);
+    tell_key(page, " anew ", key_of(table, &after));
+    tell_key(
+        page,
+        ", by change ",
+        key_after(table, key, setup, m, &after),
+    );
+    tell_key(
+        page,
+        ", of the setup before ",
+        key_next(table, key, setup, m, &effect),
+    );
     page.put("\n");
     Ok(after)
 }
 
-/// The code of a move, and the move of this code.
-fn code(page: &mut Page, words: &[&str]) -> Done {
-    let [record, text] = words else { return NO_ROW };
-    let setup = setup_of(record)?;
-    let code = code_of(&setup, spelled(text)?);
-    page.put_code("", code);
-    page.put(" ");
-    tell_move(page, move_of(&setup, code));
-    Ok(())
-}
-
 /// The codes of the legal moves in order, each the code of this move alone.
-fn codes(page: &mut Page, words: &[&str]) -> Done {
-    let [record] = words else { return NO_ROW };
-    let setup = setup_of(record)?;
+fn codes(page: &mut Page, setup: &Setup) -> Done {
     page.put("codes:");
-    for m in &legal_moves(page.alloc, &setup)? {
-        let code = code_of(&setup, *m);
-        if move_of(&setup, code) != Some(*m) {
+    for m in &legal_moves(page.alloc, setup)? {
+        let code = code_of(setup, *m);
+        if move_of(setup, code) != Some(*m) {
             return NO_ROW;
         }
-        page.put_code(" ", code);
+        let _ = write!(page, " {code:04x}");
     }
-    Ok(())
-}
-
-/// The legal move of a code.
-fn coded(page: &mut Page, words: &[&str]) -> Done {
-    let [record, code] = words else { return NO_ROW };
-    let code = hexadecimal(code).min(0xffff) as u16;
-    tell_move(page, move_of(&setup_of(record)?, code));
     Ok(())
 }

@@ -14,16 +14,16 @@ pub const START: &str = "rnbqkbnr/pppppppp/8/8/8/8/PPPPPPPP/RNBQKBNR w KQkq - 0 
 /// A record with more legal moves than any other that is known.
 const MOST: &str = "R6R/3Q4/1Q4Q1/4Q3/2Q4Q/Q4Q2/pp1Q4/kBNN1KB1 w - - 0 1";
 
-/// The text that a row writes.
+/// Makes the text that a row writes.
 pub fn text_of(alloc: Global, written: &str) -> Result<String, AllocError> {
     let mut text = String::new(alloc);
-    for part in written.split('{') {
-        match part.split_once('}') {
+    for piece in written.split('{') {
+        match piece.split_once('}') {
             Some((word, rest)) => {
                 push_word(alloc, &mut text, word)?;
                 text.push_str(rest)?;
             }
-            None => text.push_str(part)?,
+            None => text.push_str(piece)?,
         }
     }
     Ok(text)
@@ -45,7 +45,6 @@ fn push_word(alloc: Global, text: &mut String, word: &str) -> Result<(), AllocEr
     text.push_str(whole.as_str().get(..count_of(count)).unwrap_or(""))
 }
 
-/// Adds the text of a name, or a name of none in its braces.
 fn push_named(text: &mut String, name: &str) -> Result<(), AllocError> {
     match name {
         "cr" => text.push_str("\r"),
@@ -64,32 +63,31 @@ fn push_named(text: &mut String, name: &str) -> Result<(), AllocError> {
     }
 }
 
-/// The number that a word writes, or 0.
+/// Reads a number, 0 where the word is none.
 pub fn number_of(word: &str) -> u64 {
     word.parse::<u64>().unwrap_or(0)
 }
 
-/// The number of things that a word writes, or 0.
+/// Reads the number of things, 0 where the word is none.
 pub fn count_of(word: &str) -> usize {
     number_of(word) as usize
 }
 
-/// The number of 32 bits that a word writes, or the greatest.
+/// Reads a number of 32 bits, the greatest where the word's is greater.
 pub fn small_of(word: &str) -> u32 {
     number_of(word).min(4_294_967_295) as u32
 }
 
-/// The number of fills in a word, or `all` for as many as there may be.
+/// Reads a number of fills, where `all` stands for as many as there may be.
 pub fn fills_of(word: &str) -> u32 {
-    if word == "all" {
-        u32::MAX
-    } else {
-        small_of(word)
+    match word {
+        "all" => u32::MAX,
+        _ => small_of(word),
     }
 }
 
-/// How many an argument stands for, and how each is written: `128*#` stands for 128, each with its
-/// number in the place of `#`.
+/// Takes apart how many an argument stands for, and how each is written: `128*#` stands for 128,
+/// each with its number in the place of `#`.
 pub fn times_of(text: &str) -> (u64, &str) {
     match text.split_once('*') {
         Some((count, rest)) if number_of(count) > 0 => (number_of(count), rest),
@@ -97,7 +95,7 @@ pub fn times_of(text: &str) -> (u64, &str) {
     }
 }
 
-/// The number that a word writes in hexadecimal, or 0.
+/// Reads a number in hexadecimal, 0 where the word is none.
 pub fn hexadecimal(word: &str) -> u64 {
     u64::from_str_radix(word, 16).unwrap_or(0)
 }

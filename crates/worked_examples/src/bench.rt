@@ -13,33 +13,28 @@ use std::alloc::{AllocError, Global};
 use std::fs::File;
 use std::io::{self, BufWriter, Write};
 
-/// How many plies a game has at most.
+/// How many plies a game has at most, and one that is submitted.
 const PLIES: u32 = 200;
 
-/// How many plies a submitted game has at most.
 const SUBMITTED_PLIES: u32 = 80;
 
-/// The results of submitted games, in turn.
 const RESULTS: [&str; 3] = ["1-0", "1/2-1/2", "0-1"];
 
-/// The answer to a call.
 pub(crate) fn answer(rt: &HostRuntime, page: &mut Page, call: &[&str]) -> Done {
-    let [name, first, second] = call else {
-        return NO_ROW
-    };
-    let number = number_of(first);
-    match *name {
-        "perft" => {
-            let count = perft(page.alloc, &setup_of(second)?, small_of(first))?;
+    match call {
+        ["perft", depth, record] => {
+            let count = perft(page.alloc, &setup_of(record)?, small_of(depth))?;
             page.put_display(&count);
             Ok(())
         }
-        "games" => rounds(page, None, number, number_of(second)),
-        "keys" => {
+        ["games", count, times] => rounds(page, None, number_of(count), number_of(times)),
+        ["keys", count, times] => {
             let table = table_of(page.alloc, text_of(page.alloc, "{powers}")?.as_str())?;
-            rounds(page, Some(&table), number, number_of(second))
+            rounds(page, Some(&table), number_of(count), number_of(times))
         }
-        "lines" => write_lines(rt, number, second).map_err(|_fault| Trouble::Row),
+        ["lines", count, path] => {
+            write_lines(rt, number_of(count), path).map_err(|_fault| Trouble::Row)
+        }
         _ => NO_ROW,
     }
 }
@@ -72,7 +67,6 @@ fn choose_game(alloc: Global, seed: u64, plies: u32) -> Result<Vec<Move>, AllocE
     Ok(game)
 }
 
-/// So many games, chosen once.
 fn choose_games(alloc: Global, count: u64) -> Result<Vec<Vec<Move>>, AllocError> {
     let mut games = Vec::new(alloc);
     for seed in 0..count {
@@ -139,13 +133,10 @@ fn write_lines(rt: &HostRuntime, count: u64, path: &str) -> io::Result<()> {
     let mut out = BufWriter::new(rt.alloc(), File::create(rt, path)?)?;
     for seed in 0..count {
         let game = choose_game(rt.alloc(), seed, SUBMITTED_PLIES)?;
-        let mut line = Page::new(rt.alloc());
-        line.put_count("g", &seed);
-        line.put_count("\t", &RESULTS[(seed % 3) as usize]);
-        line.put_count("\t", &START);
-        line.put("\t");
-        tell_moves(&mut line, game.as_slice());
-        line.put("\n");
+        let mut moves = Page::new(rt.alloc());
+        tell_moves(&mut moves, game.as_slice());
+        let (result, moves) = (RESULTS[(seed % 3) as usize], moves.as_str());
+        let line = format!(in rt.alloc(); "g{seed}\t{result}\t{START}\t{moves}\n")?;
         out.write_all(line.as_str().as_bytes())?;
     }
     out.flush()

@@ -5,38 +5,23 @@
 //! with places has counted, or why it read no submission.
 
 use crate::command::tell_next;
-use crate::ends::{Output, fills_in, rules_in};
+use crate::ends::{Output, fills_in, is_told, rules_in};
 use crate::game::stream_of;
 use mem_files::MemStore;
 use pb_cli::{
     Continued, Ends, Fault, JournalEnds, LedgerEnds, Made, NoBook, StoreError, Watcher,
     collect_into, continue_into, journal_into, run_collect, run_continue,
 };
-use pb_collecting::Rules;
 use pb_ledger::{Accepted, Refusal, save};
 use pb_poly::{Book, FromRead, MemSink, ToWrite, read_book};
 use rows::book;
-use rows::ends::{NamedSource, end_of, named_source};
-use rows::page::{Done, NO_ROW, Page, Trouble};
+use rows::ends::{NamedSource, source_in};
+use rows::page::{Done, NO_ROW, Page};
 use rows::text::count_of;
 use std::alloc::Global;
-use std::fmt::Debug;
+use std::fmt::{Debug, Write};
 
-/// What a run reads and writes, and who is told.
 type RowEnds<'a> = Ends<NamedSource<'a>, NamedSource<'a>, ToWrite<Output>, Passed>;
-
-/// What a run is given.
-#[derive(Drop)]
-struct Run<'a> {
-    word: &'a str,
-    rules: Rules,
-    fills: u32,
-    ends: RowEnds<'a>,
-    /// The saved ledger or the journal as it is read.
-    first: NamedSource<'a>,
-    /// Where the book is kept.
-    book: MemStore,
-}
 
 /// The numbers of the journal's lines that are skipped, each after a space.
 #[derive(Drop)]
@@ -55,7 +40,6 @@ impl Watcher for Passed {
 }
 
 impl Passed {
-    /// No number yet.
     pub(crate) fn new(alloc: Global) -> Passed {
         Passed {
             numbers: Page::new(alloc),
@@ -64,177 +48,130 @@ impl Passed {
 
     /// Tells them, where the word for the row's ends asks for them.
     pub(crate) fn tell_all(&self, page: &mut Page, ends: &str) {
-        if end_of(ends, "passed", "hidden") == "told" {
-            page.put("\npassed");
-            page.put(self.numbers.as_str());
+        if is_told(ends, "passed") {
+            page.put_count("\npassed", &self.numbers.as_str());
         }
     }
 }
 
-/// The answer to a call.
-pub(crate) fn answer(page: &mut Page, name: &str, words: &[&str]) -> Done {
-    let [word, table, count, lines @ ..] = words else {
+/// The answer to a call: the replies, and then what else the run tells.
+pub(crate) fn answer(page: &mut Page, call: &[&str]) -> Done {
+    let [name, word, table, count, lines @ ..] = call else {
         return NO_ROW
     };
     let (first, later) = lines.split_at(count_of(count).min(lines.len()));
     let first = stream_of(page.alloc, first)?;
     let later = stream_of(page.alloc, later)?;
-    let run = Run {
-        word,
-        rules: rules_in(word).ok_or(Trouble::Row)?,
-        fills: fills_in(word),
-        ends: Ends {
-            table: named_source(end_of(word, "table", "reader:1000"), table.as_bytes()),
-            lines: named_source(end_of(word, "input", "reader:100"), later.as_bytes()),
-            replies: ToWrite::new(Output::of(page.alloc, word, "output")),
-            watcher: Passed::new(page.alloc),
-        },
-        first: named_source(end_of(word, "first", "reader:7"), first.as_bytes()),
-        book: MemStore::new(page.alloc),
+    let mut told = Page::new(page.alloc);
+    let mut ends = Ends {
+        table: source_in(word, "table", "reader:1000", table.as_bytes()),
+        lines: source_in(word, "input", "reader:100", later.as_bytes()),
+        replies: ToWrite::new(Output::of(page.alloc, word, "output")),
+        watcher: Passed::new(page.alloc),
     };
+    let first = source_in(word, "first", "reader:7", first.as_bytes());
+    run(&mut told, name, word, &mut ends, first)?;
+    ends.replies.into_inner().tell(page);
+    page.put(told.as_str());
+    told.done()
+}
+
+/// Runs the command over these ends, of which the first is read before the submissions.
+fn run(page: &mut Page, name: &str, word: &str, ends: &mut RowEnds, first: NamedSource) -> Done {
+    let (alloc, rules, fills) = (page.alloc, rules_in(word)?, fills_in(word));
+    let (table, lines, replies) = (&mut ends.table, &mut ends.lines, &mut ends.replies);
     match name {
-        "collect" => run.collect(page),
-        "continue" => run.go_on(page),
-        "journal" => run.journal(page, false),
-        "collect-into" => run.collect_into(page),
-        "continue-into" => run.continue_into(page),
-        "journal-into" => run.journal(page, true),
-        _ => NO_ROW,
+        "collect" => {
+            let answer = run_collect(alloc, rules, table, lines, replies, fills);
+            tell_book(page, &answer);
+        }
+        "continue" => {
+            let mut saved = first;
+            let answer = run_continue(alloc, rules, table, &mut saved, lines, replies, fills);
+            tell_continued(page, answer)?;
+        }
+        "collect-into" => {
+            let mut book = MemStore::new(alloc);
+            let answer = collect_into(alloc, rules, ends, &mut book, fills);
+            tell_kept(page, word, &answer, &book);
+        }
+        "continue-into" => continue_from(page, word, ends, first)?,
+        "journal" | "journal-into" => journal(page, [name, word], ends, first)?,
+        _ => return NO_ROW,
     }
+    tell_next(page, word, &mut ends.lines);
+    Ok(())
 }
 
-impl<'a> Run<'a> {
-    /// The run alone.
-    fn collect(self, page: &mut Page) -> Done {
-        let ends = self.ends;
-        let mut table = ends.table;
-        let mut lines = ends.lines;
-        let mut replies = ends.replies;
-        let answer = run_collect(
-            page.alloc,
-            self.rules,
-            &mut table,
-            &mut lines,
-            &mut replies,
-            self.fills,
-        );
-        tell_book(page, &replies.into_inner(), &answer);
-        tell_next(page, self.word, &mut lines);
-        Ok(())
-    }
-
-    /// The run from a saved ledger on, how many games are held then, and their saved form.
-    fn go_on(self, page: &mut Page) -> Done {
-        let ends = self.ends;
-        let mut table = ends.table;
-        let mut first = self.first;
-        let mut lines = ends.lines;
-        let mut replies = ends.replies;
-        let answer = run_continue(
-            page.alloc,
-            self.rules,
-            &mut table,
-            &mut first,
-            &mut lines,
-            &mut replies,
-            self.fills,
-        );
-        let replies = replies.into_inner();
-        match answer {
-            Ok(Some(Continued { ledger, book })) => {
-                tell_book(page, &replies, &book.map(Some));
-                page.put_count("\nheld: ", &ledger.len());
-                page.put("\n");
-                let mut form = MemSink::new(page.alloc);
-                save(&ledger, &mut form)?;
-                page.put_bytes(form.as_bytes());
-            }
-            Ok(None) => tell_book(page, &replies, &Ok(None)),
-            Err(fault) => tell_book(page, &replies, &Err(fault)),
+/// How many games are held after a run from a saved ledger on, and their saved form.
+fn tell_continued(page: &mut Page, answer: Result<Option<Continued>, Fault>) -> Done {
+    match answer {
+        Ok(Some(Continued { ledger, book })) => {
+            tell_book(page, &book.map(Some));
+            page.put_count("\nheld: ", &ledger.len());
+            page.put("\n");
+            let mut form = MemSink::new(page.alloc);
+            save(&ledger, &mut form)?;
+            page.put_bytes(form.as_bytes());
         }
-        tell_next(page, self.word, &mut lines);
-        Ok(())
+        Ok(None) => tell_book(page, &Ok(None)),
+        Err(fault) => tell_book(page, &Err(fault)),
     }
-
-    /// The run alone, with a place for its book.
-    fn collect_into(self, page: &mut Page) -> Done {
-        let mut ends = self.ends;
-        let mut book = self.book;
-        let answer = collect_into(page.alloc, self.rules, &mut ends, &mut book, self.fills);
-        tell_kept(page, &ends.replies.into_inner(), &answer, &book);
-        tell_report(page, self.word, &answer);
-        tell_next(page, self.word, &mut ends.lines);
-        Ok(())
-    }
-
-    /// The run from a saved ledger on, with places for its ledger and its book.
-    fn continue_into(self, page: &mut Page) -> Done {
-        let mut ends = self.ends;
-        let mut book = self.book;
-        let mut ledger = LedgerEnds {
-            saved: self.first,
-            store: MemStore::new(page.alloc),
-        };
-        let answer = continue_into(
-            page.alloc,
-            self.rules,
-            &mut ends,
-            &mut ledger,
-            &mut book,
-            self.fills,
-        );
-        tell_kept(page, &ends.replies.into_inner(), &answer, &book);
-        tell_report(page, self.word, &answer);
-        page.put("\n");
-        match ledger.store.kept() {
-            Some(bytes) => page.put_bytes(bytes),
-            None => page.put("no ledger is kept"),
-        }
-        tell_next(page, self.word, &mut ends.lines);
-        Ok(())
-    }
-
-    /// The run with a journal, what that has gained, and a place for the book, which is told as
-    /// what is kept there or as the book of a run alone.
-    fn journal(self, page: &mut Page, tells_kept: bool) -> Done {
-        let mut ends = self.ends;
-        let mut book = self.book;
-        let mut journal = JournalEnds {
-            kept: self.first,
-            journal: ToWrite::new(Output::of(page.alloc, self.word, "journal")),
-        };
-        let answer = journal_into(
-            page.alloc,
-            self.rules,
-            &mut ends,
-            &mut journal,
-            &mut book,
-            self.fills,
-        );
-        let replies = ends.replies.into_inner();
-        if tells_kept {
-            tell_kept(page, &replies, &answer, &book);
-        } else {
-            tell_as_run(page, &replies, &answer, &book);
-        }
-        tell_report(page, self.word, &answer);
-        page.put("\njournal");
-        journal.journal.into_inner().tell_all(page);
-        ends.watcher.tell_all(page, self.word);
-        tell_next(page, self.word, &mut ends.lines);
-        Ok(())
-    }
+    Ok(())
 }
 
-/// The replies, the answer of a run with places, and the book that is kept, an entry a line.
+/// The run from a saved ledger on, with places for its ledger and its book.
+fn continue_from(page: &mut Page, word: &str, ends: &mut RowEnds, saved: NamedSource) -> Done {
+    let alloc = page.alloc;
+    let (rules, fills) = (rules_in(word)?, fills_in(word));
+    let mut book = MemStore::new(alloc);
+    let mut ledger = LedgerEnds {
+        saved,
+        store: MemStore::new(alloc),
+    };
+    let answer = continue_into(alloc, rules, ends, &mut ledger, &mut book, fills);
+    tell_kept(page, word, &answer, &book);
+    page.put("\n");
+    match ledger.store.kept() {
+        Some(bytes) => page.put_bytes(bytes),
+        None => page.put("no ledger is kept"),
+    }
+    Ok(())
+}
+
+/// The run with a journal, what that has gained, and a place for the book, which is told as what is
+/// kept there or as the book of a run alone.
+fn journal(page: &mut Page, call: [&str; 2], ends: &mut RowEnds, kept: NamedSource) -> Done {
+    let [name, word] = call;
+    let alloc = page.alloc;
+    let (rules, fills) = (rules_in(word)?, fills_in(word));
+    let mut book = MemStore::new(alloc);
+    let mut gained = Output::of(alloc, word, "journal");
+    let mut journal = JournalEnds {
+        kept,
+        journal: ToWrite::new(&mut gained),
+    };
+    let answer = journal_into(alloc, rules, ends, &mut journal, &mut book, fills);
+    if name == "journal" {
+        tell_as_run(page, &answer, &book);
+        tell_report(page, word, &answer);
+    } else {
+        tell_kept(page, word, &answer, &book);
+    }
+    page.put("\njournal");
+    gained.tell_all(page);
+    ends.watcher.tell_all(page, word);
+    Ok(())
+}
+
+/// The answer of a run with places, the book that is kept, an entry a line, and the report.
 fn tell_kept<E: Debug + Copy>(
     page: &mut Page,
-    replies: &Output,
-    answer: &Result<Made, E>,
+    ends: &str,
+    made: &Result<Made, E>,
     book: &MemStore,
 ) {
-    replies.tell(page);
-    page.put_debug(&answer.as_ref().map(is_book));
+    page.put_debug(&made.as_ref().map(is_book));
     match book.kept() {
         Some(bytes) => {
             for entry in bytes.chunks(16) {
@@ -244,10 +181,11 @@ fn tell_kept<E: Debug + Copy>(
         }
         None => page.put("\nnothing is kept"),
     }
+    tell_report(page, ends, made);
 }
 
 /// The same as of a run without places.
-fn tell_as_run(page: &mut Page, replies: &Output, answer: &Result<Made, NoBook>, book: &MemStore) {
+fn tell_as_run(page: &mut Page, answer: &Result<Made, NoBook>, book: &MemStore) {
     let answer = match answer {
         Ok(_made) => match book.kept() {
             // They are a book's, for which memory may be wanting.
@@ -258,12 +196,11 @@ fn tell_as_run(page: &mut Page, replies: &Output, answer: &Result<Made, NoBook>,
         },
         Err(NoBook::Run(fault)) => Err(*fault),
         Err(NoBook::Keep(StoreError::Memory)) => Err(Fault::Memory),
-        Err(NoBook::Keep(_)) => Err(Fault::Write),
+        Err(_) => Err(Fault::Write),
     };
-    tell_book(page, replies, &answer);
+    tell_book(page, &answer);
 }
 
-/// Whether a run has made a book.
 pub(crate) fn is_book(made: &Made) -> bool {
     matches!(made, Made::Book(_))
 }
@@ -271,7 +208,7 @@ pub(crate) fn is_book(made: &Made) -> bool {
 /// What a run has counted, or why it read no submission, where the word for the row's ends asks for
 /// it.
 fn tell_report<E>(page: &mut Page, ends: &str, answer: &Result<Made, E>) {
-    if end_of(ends, "report", "hidden") != "told" {
+    if !is_told(ends, "report") {
         return;
     }
     page.put("\nreport: ");
@@ -282,16 +219,14 @@ fn tell_report<E>(page: &mut Page, ends: &str, answer: &Result<Made, E>) {
     }
 }
 
-/// The replies, and the book or why there is none.
-fn tell_book(page: &mut Page, replies: &Output, answer: &Result<Option<Book>, Fault>) {
-    replies.tell(page);
+/// The book, or why there is none.
+fn tell_book(page: &mut Page, answer: &Result<Option<Book>, Fault>) {
     match answer {
         Ok(Some(made)) if made.entries().is_empty() => page.put("an empty book"),
         Ok(Some(made)) => book::tell(page, made),
         Ok(None) => page.put("no book"),
         Err(fault) => {
-            page.put("fault ");
-            page.put_debug(fault);
+            let _ = write!(page, "fault {fault:?}");
         }
     }
 }

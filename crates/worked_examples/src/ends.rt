@@ -3,17 +3,15 @@
 use pb_ledger::Rules;
 use pb_poly::{FuseSink, Sink};
 use rows::ends::{Taker, end_of};
-use rows::page::Page;
+use rows::page::{Page, Trouble};
 use rows::text::{fills_of, small_of};
 use std::alloc::Global;
 use std::io::{self, ErrorKind, Write};
 
-/// What output goes to.
+/// What output goes to: a writer, or memory of which so many puts and flushes pass.
 #[derive(Drop)]
 pub(crate) enum Output {
-    /// A writer.
     Writer(Taker),
-    /// Memory of which so many puts and flushes pass.
     Fuse(FuseSink),
 }
 
@@ -28,7 +26,6 @@ impl Output {
         }
     }
 
-    /// The bytes that it has.
     pub(crate) fn bytes(&self) -> &[u8] {
         match self {
             Output::Writer(taker) => taker.taken.as_slice(),
@@ -36,7 +33,7 @@ impl Output {
         }
     }
 
-    /// Tells these bytes, but for half a put that is left where its fuse has blown.
+    /// Tells the bytes, but for half a put that is left where its fuse has blown.
     pub(crate) fn tell(&self, page: &mut Page) {
         if !matches!(self, Output::Fuse(sink) if sink.failed()) {
             page.put_bytes(self.bytes());
@@ -80,8 +77,13 @@ pub(crate) fn fills_in(ends: &str) -> u32 {
     fills_of(end_of(ends, "fills", "all"))
 }
 
-/// What of the games counts: `plies=24 least=3`, or all of them. There may be no such rules.
-pub(crate) fn rules_in(ends: &str) -> Option<Rules> {
+/// What of the games counts: `plies=24 least=3`, or all of them.
+pub(crate) fn rules_in(ends: &str) -> Result<Rules, Trouble> {
     let plies = small_of(end_of(ends, "plies", "1024"));
-    Rules::new(plies, small_of(end_of(ends, "least", "1")))
+    Rules::new(plies, small_of(end_of(ends, "least", "1"))).ok_or(Trouble::Row)
+}
+
+/// Whether the word asks for what a row tells only then, as `next=told` does.
+pub(crate) fn is_told(ends: &str, name: &str) -> bool {
+    end_of(ends, name, "hidden") == "told"
 }

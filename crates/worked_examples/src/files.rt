@@ -10,10 +10,10 @@ ghost use Rattle.pb_poly.specs.Book.{book_bytes};
 use crate::collecting::is_book;
 use crate::ends::rules_in;
 use crate::game::stream_of;
-use crate::restarting;
+use crate::journals::restart;
 use mem_files::{MemFolder, Scene};
 use pb_cli::{Ends, LedgerEnds, Store, Text, collect_into, continue_into};
-use pb_collecting::Rules;
+use pb_files::{SYNCED, WRITTEN};
 use pb_folder::{Folder, KeptFile, Label, Status, expect_book, expect_ledger, hold_ledger};
 use pb_ledger::WriteFault;
 use pb_messages::{Messages, Part};
@@ -46,17 +46,23 @@ impl Text for BookText<'_> {
     }
 }
 
-/// The answer to a call.
 pub(crate) fn answer(rt: &HostRuntime, page: &mut Page, call: &[&str]) -> Done {
-    let [name, words @ ..] = call else {
-        return NO_ROW
-    };
-    match *name {
-        "expect" => expect(rt, page, words),
-        "keep" => keep(rt, page, words),
-        "collect" => collect(rt, page, words),
-        "continue" => go_on(rt, page, words),
-        "journal" => restarting::answer(page, words),
+    match call {
+        ["expect", "book", scene, calls] => {
+            let mut folder = folder_of(page.alloc, Part::Book, scene, calls, OLD)?;
+            page.put_debug(&expect_book(&mut folder, &label_of(rt, Part::Book)));
+            Ok(())
+        }
+        ["expect", _, scene, calls] => expect(rt, page, scene, calls),
+        ["keep", scene, calls, good, entries] => {
+            keep(page, place_of(rt, scene, calls, good)?, entries)
+        }
+        ["collect", scene, calls, good, entries, lines @ ..] => {
+            collect(page, place_of(rt, scene, calls, good)?, entries, lines)
+        }
+        ["continue", words @ ..] => go_on(rt, page, words),
+        ["journal", "sync", words @ ..] => restart::<SYNCED>(page, words),
+        ["journal", _, words @ ..] => restart::<WRITTEN>(page, words),
         _ => NO_ROW,
     }
 }
@@ -83,11 +89,13 @@ fn scene_of(word: &str) -> Scene {
     }
 }
 
-/// A name in memory of a file of these bytes, or of none where that was `removed`.
+/// A name in memory of a file of these bytes, or of none where that was `removed`, of which so many
+/// calls succeed.
 pub(crate) fn folder_of(
     alloc: Global,
     part: Part,
     scene: &str,
+    calls: &str,
     first: &[u8],
 ) -> Result<MemFolder, Trouble>
     ensures { IfOk result (λ folder. ⟦<MemFolder as Folder>⟧.part folder ≡ part) }
@@ -96,13 +104,11 @@ pub(crate) fn folder_of(
         "removed" => None,
         _ => Some(Vec::from_slice(alloc, first)?),
     };
-    match MemFolder::new(alloc, part, scene_of(scene), first) {
-        Ok(folder) => Ok(folder),
-        Err(error) => Err(Trouble::from(error)),
-    }
+    let folder = MemFolder::new(alloc, part, scene_of(scene), first)?;
+    folder.calls.set(fills_of(calls));
+    Ok(folder)
 }
 
-/// What messages call a file of this part.
 pub(crate) fn label_of(rt: &HostRuntime, part: Part) -> Label<'_> {
     Label {
         messages: Messages::new(rt),
@@ -118,8 +124,7 @@ fn place_of<'f, 'a>(
     calls: &str,
     good: &str,
 ) -> Result<KeptFile<'f, 'a, MemFolder>, Trouble> {
-    let mut folder = folder_of(rt.alloc(), Part::Book, scene, OLD)?;
-    folder.calls.set(fills_of(calls));
+    let mut folder = folder_of(rt.alloc(), Part::Book, scene, calls, OLD)?;
     folder.good = fills_of(good);
     let label = label_of(rt, Part::Book);
     Ok(KeptFile::<'f, 'a, MemFolder>::of_book(folder, label))
@@ -127,19 +132,24 @@ fn place_of<'f, 'a>(
 
 /// The name of a ledger of these bytes. Its guard finds it as it was left, unless another program
 /// has `changed` it.
-fn ledger_folder(rt: &HostRuntime, scene: &str, bytes: &[u8]) -> Result<MemFolder, Trouble>
+fn ledger_folder(
+    rt: &HostRuntime,
+    scene: &str,
+    calls: &str,
+    bytes: &[u8],
+) -> Result<MemFolder, Trouble>
     ensures { IfOk result (λ folder. ⟦<MemFolder as Folder>⟧.part folder ≡ Ledger) }
 {
-    let mut folder = folder_of(rt.alloc(), Part::Ledger, scene, bytes)?;
+    let mut folder = folder_of(rt.alloc(), Part::Ledger, scene, calls, bytes)?;
     if scene != "changed" {
-        let Ok(told) = fs::metadata(rt, PATH) else {
+        let Ok(found) = fs::metadata(rt, PATH) else {
             return Err(Trouble::Row);
         };
-        let told = Status::of(&told);
-        folder.status.device = told.device;
-        folder.status.inode = told.inode;
-        folder.status.len = told.len;
-        folder.status.modified = told.modified;
+        let found = Status::of(&found);
+        folder.status.device = found.device;
+        folder.status.inode = found.inode;
+        folder.status.len = found.len;
+        folder.status.modified = found.modified;
     }
     Ok(folder)
 }
@@ -150,29 +160,13 @@ pub(crate) fn book_of(alloc: Global, entries: &str) -> Result<MemSink, Trouble> 
     file_of(alloc, entries.as_slice())
 }
 
-/// All games and plies count.
-pub(crate) fn rules() -> Result<Rules, Trouble> {
-    rules_in("").ok_or(Trouble::Row)
-}
-
-/// Whether a book, or a ledger, can be made anew, as far as that is known before.
-fn expect(rt: &HostRuntime, page: &mut Page, words: &[&str]) -> Done {
-    let [what, scene, calls] = words else {
-        return NO_ROW
-    };
-    if *what == "book" {
-        let mut folder = folder_of(page.alloc, Part::Book, scene, OLD)?;
-        folder.calls.set(fills_of(calls));
-        page.put_debug(&expect_book(&mut folder, &label_of(rt, Part::Book)));
-        return Ok(());
-    }
+/// Whether a ledger can be made anew, as far as that is known before.
+fn expect(rt: &HostRuntime, page: &mut Page, scene: &str, calls: &str) -> Done {
     let label = label_of(rt, Part::Ledger);
-    let mut folder = ledger_folder(rt, scene, OLD)?;
-    let Ok(held) = hold_ledger(&mut folder, &label) else {
+    let Ok(held) = hold_ledger(&mut ledger_folder(rt, scene, "all", OLD)?, &label) else {
         return NO_ROW
     };
-    let mut folder = ledger_folder(rt, scene, OLD)?;
-    folder.calls.set(fills_of(calls));
+    let mut folder = ledger_folder(rt, scene, calls, OLD)?;
     page.put_debug(&expect_ledger(&mut folder, &label, &held));
     Ok(())
 }
@@ -204,17 +198,12 @@ fn tell_found(page: &mut Page, place: &KeptFile<'_, '_, MemFolder>, old: &[u8], 
     }
 }
 
-/// Makes a file anew of a book.
-fn keep(rt: &HostRuntime, page: &mut Page, words: &[&str]) -> Done {
-    let [scene, calls, good, entries] = words else {
-        return NO_ROW
-    };
+fn keep(page: &mut Page, mut place: KeptFile<'_, '_, MemFolder>, entries: &str) -> Done {
     let new = book_of(page.alloc, entries)?;
     let mut source = FromRead::new(new.as_bytes());
     let Ok(book) = read_book(page.alloc, &mut source, u32::MAX) else {
         return NO_ROW
     };
-    let mut place = place_of(rt, scene, calls, good)?;
     page.put_debug(&place.keep(&BookText { book: &book }));
     page.put(": ");
     tell_found(page, &place, OLD, new.as_bytes());
@@ -222,29 +211,30 @@ fn keep(rt: &HostRuntime, page: &mut Page, words: &[&str]) -> Done {
 }
 
 /// The ends of a run that reads this table and these submissions, and tells nobody.
-fn ends_of<'a>(
+pub(crate) fn ends_of<'a>(
     alloc: Global,
-    table: &'a [u8],
-    lines: &'a [u8],
+    table: &'a str,
+    lines: &'a str,
 ) -> Ends<FromRead<&'a [u8]>, FromRead<&'a [u8]>, MemSink, ()> {
     Ends {
-        table: FromRead::new(table),
-        lines: FromRead::new(lines),
+        table: FromRead::new(table.as_bytes()),
+        lines: FromRead::new(lines.as_bytes()),
         replies: MemSink::new(alloc),
         watcher: (),
     }
 }
 
-/// Makes a file anew of the book of these lines.
-fn collect(rt: &HostRuntime, page: &mut Page, words: &[&str]) -> Done {
-    let [scene, calls, good, entries, lines @ ..] = words else {
-        return NO_ROW
-    };
+fn collect(
+    page: &mut Page,
+    mut place: KeptFile<'_, '_, MemFolder>,
+    entries: &str,
+    lines: &[&str],
+) -> Done {
     let table = text_of(page.alloc, "{powers}")?;
     let stream = stream_of(page.alloc, lines)?;
-    let mut place = place_of(rt, scene, calls, good)?;
-    let mut ends = ends_of(page.alloc, table.as_bytes(), stream.as_bytes());
-    let answer = collect_into(page.alloc, rules()?, &mut ends, &mut place, u32::MAX);
+    let mut ends = ends_of(page.alloc, table.as_str(), stream.as_str());
+    let rules = rules_in("")?;
+    let answer = collect_into(page.alloc, rules, &mut ends, &mut place, u32::MAX);
     page.put_debug(&answer.as_ref().map(is_book));
     page.put(": ");
     tell_found(page, &place, OLD, book_of(page.alloc, entries)?.as_bytes());
@@ -257,36 +247,29 @@ fn go_on(rt: &HostRuntime, page: &mut Page, words: &[&str]) -> Done {
     let [scene, calls, book_calls, entries, count, lines @ ..] = words else {
         return NO_ROW
     };
+    let (alloc, rules) = (page.alloc, rules_in("")?);
     let (first, later) = lines.split_at(count_of(count).min(lines.len()));
-    let old = stream_of(page.alloc, first)?;
-    let later = stream_of(page.alloc, later)?;
-    let table = text_of(page.alloc, "{powers}")?;
+    let old = stream_of(alloc, first)?;
+    let later = stream_of(alloc, later)?;
+    let table = text_of(alloc, "{powers}")?;
     let label = label_of(rt, Part::Ledger);
-    let mut folder = ledger_folder(rt, scene, old.as_bytes())?;
+    let mut folder = ledger_folder(rt, scene, "all", old.as_bytes())?;
     let Ok(held) = hold_ledger(&mut folder, &label) else {
         return NO_ROW
     };
-    let folder = ledger_folder(rt, scene, old.as_bytes())?;
-    folder.calls.set(fills_of(calls));
+    let folder = ledger_folder(rt, scene, calls, old.as_bytes())?;
     let mut ledger = LedgerEnds {
         saved: FromRead::new(old.as_bytes()),
         store: KeptFile::of_ledger(folder, label, &held),
     };
     let mut book = place_of(rt, "free", book_calls, "all")?;
-    let mut ends = ends_of(page.alloc, table.as_bytes(), later.as_bytes());
-    let answer = continue_into(
-        page.alloc,
-        rules()?,
-        &mut ends,
-        &mut ledger,
-        &mut book,
-        u32::MAX,
-    );
+    let mut ends = ends_of(alloc, table.as_str(), later.as_str());
+    let answer = continue_into(alloc, rules, &mut ends, &mut ledger, &mut book, u32::MAX);
     page.put_debug(&answer.as_ref().map(is_book));
     page.put(": ledger ");
-    let new = stream_of(page.alloc, lines)?;
+    let new = stream_of(alloc, lines)?;
     tell_found(page, &ledger.store, old.as_bytes(), new.as_bytes());
     page.put("; book ");
-    tell_found(page, &book, OLD, book_of(page.alloc, entries)?.as_bytes());
+    tell_found(page, &book, OLD, book_of(alloc, entries)?.as_bytes());
     Ok(())
 }

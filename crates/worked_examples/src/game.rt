@@ -7,16 +7,24 @@ use rows::moves::tell_moves;
 use rows::page::{Done, NO_ROW, Page};
 use rows::text::{START, times_of};
 use std::alloc::{AllocError, Global};
+use std::fmt::Write;
 
-/// The answer to a call.
 pub(crate) fn answer(page: &mut Page, call: &[&str]) -> Done {
-    let [name, text] = call else { return NO_ROW };
-    match *name {
-        "check" => check(page, text, false),
-        "parts" => check(page, text, true),
-        "id" => id(page, text),
-        _ => NO_ROW,
+    match call {
+        [name @ ("check" | "parts"), text] => {
+            match check_line(lines_of(page.alloc, text, 1)?.as_bytes()) {
+                Ok(line) if *name == "parts" => return tell_line(page, &line),
+                Ok(line) => page.put_count("moves: ", &line.plies()),
+                Err(refusal) => page.put_refusal(&refusal),
+            }
+        }
+        ["id", text] => match Id::new(text.as_bytes()) {
+            Some(id) => page.put_bytes(id.as_bytes()),
+            None => page.put("none"),
+        },
+        _ => return NO_ROW,
     }
+    Ok(())
 }
 
 /// The lines that a text writes, with this number.
@@ -24,18 +32,12 @@ pub(crate) fn lines_of(alloc: Global, text: &str, number: u64) -> Result<String,
     let start = format!(in alloc; "\t{START}\t")?;
     let lines = text.replace(alloc, "|", "\t")?;
     let lines = lines.as_str().replace(alloc, "\tS\t", start.as_str())?;
-    if lines.as_str().contains('%') || lines.as_str().contains('#') {
-        numbered(alloc, lines.as_str(), number)
-    } else {
-        Ok(lines)
+    if !lines.as_str().contains('%') && !lines.as_str().contains('#') {
+        return Ok(lines);
     }
-}
-
-/// Lines with this number in the places for it.
-fn numbered(alloc: Global, lines: &str, number: u64) -> Result<String, AllocError> {
     let digits = format!(in alloc; "{number}")?;
     let ranks = ranks_of(alloc, number)?;
-    let lines = lines.replace(alloc, "%", ranks.as_str())?;
+    let lines = lines.as_str().replace(alloc, "%", ranks.as_str())?;
     lines.as_str().replace(alloc, "#", digits.as_str())
 }
 
@@ -44,8 +46,8 @@ fn numbered(alloc: Global, lines: &str, number: u64) -> Result<String, AllocErro
 fn ranks_of(alloc: Global, number: u64) -> Result<String, AllocError> {
     let mut ranks = String::new(alloc);
     let mut rest = number;
-    for place in 0..24_u32 {
-        if place % 8 == 0 && place > 0 {
+    for digit in 0..24_u32 {
+        if digit % 8 == 0 && digit > 0 {
             ranks.push_str("/")?;
         }
         ranks.push_str(if rest % 2 == 1 { "N" } else { "P" })?;
@@ -67,39 +69,14 @@ pub(crate) fn stream_of(alloc: Global, texts: &[&str]) -> Result<String, AllocEr
     stream.as_str().replace(alloc, "{end}\n", "")
 }
 
-/// The line, judged: its number of moves, or all its parts.
-fn check(page: &mut Page, text: &str, whole: bool) -> Done {
-    match check_line(lines_of(page.alloc, text, 1)?.as_bytes()) {
-        Ok(line) if whole => tell_parts(page, &line)?,
-        Ok(line) => page.put_count("moves: ", &line.plies()),
-        Err(refusal) => page.put_refusal(&refusal),
-    }
-    Ok(())
-}
-
-/// The parts of a line.
-fn tell_parts(page: &mut Page, line: &Line) -> Done {
+fn tell_line(page: &mut Page, line: &Line) -> Done {
     page.put_bytes(line.id().as_bytes());
     page.put(" ");
     page.put_bytes(line.id_bytes());
-    page.put(" ");
-    page.put_debug(&line.outcome());
-    page.put("\n");
+    let _ = write!(page, " {:?}\n", line.outcome());
     page.put_bytes(line.start().text().as_bytes());
-    page.put_count("\nmoves: ", &line.plies());
-    page.put(" ");
-    tell_moves(
-        page,
-        MoveList::of(line.moves().collect(page.alloc)?).as_slice(),
-    );
-    Ok(())
-}
-
-/// The bytes as an id.
-fn id(page: &mut Page, text: &str) -> Done {
-    match Id::new(text.as_bytes()) {
-        Some(id) => page.put_bytes(id.as_bytes()),
-        None => page.put("none"),
-    }
+    let _ = write!(page, "\nmoves: {} ", line.plies());
+    let moves = MoveList::of(line.moves().collect(page.alloc)?);
+    tell_moves(page, moves.as_slice());
     Ok(())
 }

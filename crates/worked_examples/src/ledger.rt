@@ -14,55 +14,59 @@ use pb_ledger::{
 };
 use pb_poly::{MemSink, Sink, ToWrite};
 use rows::book::tell;
-use rows::ends::{end_of, named_source};
+use rows::ends::{end_of, source_in};
 use rows::moves::tell_moves;
 use rows::page::{Done, NO_ROW, Page, Trouble};
 use rows::table::table_of;
 use rows::text::{small_of, text_of, times_of};
 use std::alloc::Global;
+use std::fmt::Write;
 
-/// The answer to a call.
 pub(crate) fn answer(page: &mut Page, call: &[&str]) -> Done {
-    if let [_, ends, ..] = call {
-        match end_of(ends, "by", "both") {
-            "map" => return answer_by::<MapTally>(page, call),
-            "list" => return answer_by::<ListTally>(page, call),
-            _ => {}
-        }
+    let [name, ends, lines @ ..] = call else {
+        return NO_ROW
+    };
+    match end_of(ends, "by", "both") {
+        "map" => return answer_by::<MapTally>(page, name, ends, lines),
+        "list" => return answer_by::<ListTally>(page, name, ends, lines),
+        _ => {}
     }
     let mut by_map = Page::new(page.alloc);
-    answer_by::<MapTally>(&mut by_map, call)?;
+    answer_by::<MapTally>(&mut by_map, name, ends, lines)?;
     by_map.done()?;
     let mut by_list = Page::new(page.alloc);
-    answer_by::<ListTally>(&mut by_list, call)?;
+    answer_by::<ListTally>(&mut by_list, name, ends, lines)?;
     by_list.done()?;
     if by_map.as_str() != by_list.as_str() {
-        page.put("another by list\n");
-        page.put(by_list.as_str());
+        page.put_count("another by list\n", &by_list.as_str());
         page.put("\nby map\n");
     }
     page.put(by_map.as_str());
     Ok(())
 }
 
-/// The answer to a call, over one tally.
-fn answer_by<T: Tally>(page: &mut Page, call: &[&str]) -> Done {
-    let [name, ends, lines @ ..] = call else {
-        return NO_ROW
-    };
-    match *name {
+fn answer_by<T: Tally>(page: &mut Page, name: &str, ends: &str, lines: &[&str]) -> Done {
+    match name {
         "rules" => rules::<T>(page, ends),
-        "submit" => submitted::<T>(page, ends, lines),
+        "submit" => {
+            let mut ledger = new_ledger::<T>(page.alloc, ends)?;
+            submit_all(page, &mut ledger, lines)?;
+            page.put_count("held: ", &ledger.len());
+            Ok(())
+        }
         "games" => games::<T>(page, ends, lines),
         "book" => tell_held(page, &ledger_with::<T>(page.alloc, ends, lines)?),
         "export" => exported::<T>(page, ends, lines),
-        "collect" => collected::<T>(page, ends, lines),
+        "collect" => take_all(page, &mut new_ledger::<T>(page.alloc, ends)?, ends, lines),
         "collect-twice" => collected_twice::<T>(page, ends, lines),
         "save" => saved::<T>(page, ends, lines),
-        "load" => loaded::<T>(page, ends, lines),
-        "load-whole" => loaded_whole::<T>(page, ends, lines),
         "load-saved" => load_saved::<T>(page, ends, lines),
-        "replay" => replayed::<T>(page, ends, lines),
+        "load" => {
+            let stream = stream_of(page.alloc, lines)?;
+            load_new::<T>(page, ends, stream.as_bytes())?;
+            Ok(())
+        }
+        "load-whole" | "replay" => read_back::<T>(page, name, ends, lines),
         _ => NO_ROW,
     }
 }
@@ -74,11 +78,9 @@ fn new_ledger<T: Tally>(alloc: Global, ends: &str) -> Result<Ledger<T>, Trouble>
     let powers = text_of(alloc, "{powers}")?;
     let table = table_of(alloc, end_of(ends, "table", powers.as_str()))?;
     let cap = small_of(end_of(ends, "cap", "1000")).clamp(1, MAX_CAP);
-    let rules = rules_in(ends).ok_or(Trouble::Row)?;
-    Ok(Ledger::with_rules(alloc, &table, cap, rules)?)
+    Ok(Ledger::with_rules(alloc, &table, cap, rules_in(ends)?)?)
 }
 
-/// Submits these lines, and tells the answer to each.
 fn submit_all<T: Tally>(page: &mut Page, ledger: &mut Ledger<T>, lines: &[&str]) -> Done {
     for text in lines {
         submit(page, ledger, text)?;
@@ -99,7 +101,6 @@ fn submit<T: Tally>(page: &mut Page, ledger: &mut Ledger<T>, text: &str) -> Done
     Ok(())
 }
 
-/// A ledger with the games of these lines.
 pub(crate) fn ledger_with<T: Tally>(
     alloc: Global,
     ends: &str,
@@ -110,24 +111,14 @@ pub(crate) fn ledger_with<T: Tally>(
     Ok(ledger)
 }
 
-/// The rules of a ledger, if there are such.
 fn rules<T: Tally>(page: &mut Page, ends: &str) -> Done {
     match rules_in(ends) {
-        Some(_) => page.put_debug(&new_ledger::<T>(page.alloc, ends)?.rules()),
-        None => page.put("no rules"),
+        Ok(_) => page.put_debug(&new_ledger::<T>(page.alloc, ends)?.rules()),
+        Err(_) => page.put("no rules"),
     }
     Ok(())
 }
 
-/// The answers to these lines, and how many games are held then.
-fn submitted<T: Tally>(page: &mut Page, ends: &str, lines: &[&str]) -> Done {
-    let mut ledger = new_ledger::<T>(page.alloc, ends)?;
-    submit_all(page, &mut ledger, lines)?;
-    page.put_count("held: ", &ledger.len());
-    Ok(())
-}
-
-/// The game of a number.
 fn tell_game<T: Tally>(page: &mut Page, ledger: &Ledger<T>, number: u32) {
     page.put_display(&number);
     let Some((id, game)) = ledger.get(number) else {
@@ -136,9 +127,7 @@ fn tell_game<T: Tally>(page: &mut Page, ledger: &Ledger<T>, number: u32) {
     };
     page.put(" ");
     page.put_bytes(id.as_bytes());
-    page.put(" ");
-    page.put_debug(&game.outcome);
-    page.put(" ");
+    let _ = write!(page, " {:?} ", game.outcome);
     page.put_bytes(game.start.text().as_bytes());
     page.put(" ");
     tell_moves(page, game.moves.as_slice());
@@ -175,33 +164,26 @@ fn exported<T: Tally>(page: &mut Page, ends: &str, lines: &[&str]) -> Done {
     Ok(())
 }
 
-/// Takes a stream over the source that the word names.
 fn take<T: Tally, K: Sink>(
     alloc: Global,
     ledger: &mut Ledger<T>,
     ends: &str,
-    stream: &str,
+    lines: &[&str],
     sink: &mut K,
-) -> Result<Totals, CollectFault> {
-    let mut source = named_source(end_of(ends, "input", "memory:64"), stream.as_bytes());
-    collect(alloc, &mut source, sink, ledger, fills_in(ends))
+) -> Result<Result<Totals, CollectFault>, Trouble> {
+    let stream = stream_of(alloc, lines)?;
+    let mut source = source_in(ends, "input", "memory:64", stream.as_bytes());
+    Ok(collect(alloc, &mut source, sink, ledger, fills_in(ends)))
 }
 
 /// The replies to a stream, what became of its lines, how many games are held, and their book.
 fn take_all<T: Tally>(page: &mut Page, ledger: &mut Ledger<T>, ends: &str, lines: &[&str]) -> Done {
-    let stream = stream_of(page.alloc, lines)?;
     let mut replies = MemSink::new(page.alloc);
-    let answer = take(page.alloc, ledger, ends, stream.as_str(), &mut replies);
+    let answer = take(page.alloc, ledger, ends, lines, &mut replies)?;
     page.put_bytes(replies.as_bytes());
     page.put_debug(&answer);
     page.put("\n");
     tell_held(page, ledger)
-}
-
-/// The same of a new ledger.
-fn collected<T: Tally>(page: &mut Page, ends: &str, lines: &[&str]) -> Done {
-    let mut ledger = new_ledger::<T>(page.alloc, ends)?;
-    take_all(page, &mut ledger, ends, lines)
 }
 
 /// What becomes of the lines where the output fails, whether it had a front of the replies, and the
@@ -209,31 +191,19 @@ fn collected<T: Tally>(page: &mut Page, ends: &str, lines: &[&str]) -> Done {
 fn collected_twice<T: Tally>(page: &mut Page, ends: &str, lines: &[&str]) -> Done {
     let mut ledger = new_ledger::<T>(page.alloc, ends)?;
     let mut output = Output::of(page.alloc, ends, "output");
-    take_into(page, &mut ledger, ends, lines, &mut output)?;
+    let mut sink = ToWrite::new(&mut output);
+    let answer = take(page.alloc, &mut ledger, ends, lines, &mut sink)?;
     let mut again = Page::new(page.alloc);
     take_all(&mut again, &mut ledger, ends, lines)?;
     let is_front = again.as_str().as_bytes().starts_with(output.bytes());
-    page.put_count(", a front of the replies ", &is_front);
-    page.put("\n");
-    page.put(again.as_str());
+    let _ = write!(
+        page,
+        "{answer:?}, a front of the replies {is_front}\n{}",
+        again.as_str()
+    );
     again.done()
 }
 
-/// What becomes of the lines over an output.
-fn take_into<T: Tally>(
-    page: &mut Page,
-    ledger: &mut Ledger<T>,
-    ends: &str,
-    lines: &[&str],
-    output: &mut Output,
-) -> Done {
-    let stream = stream_of(page.alloc, lines)?;
-    let mut sink = ToWrite::new(output);
-    page.put_debug(&take(page.alloc, ledger, ends, stream.as_str(), &mut sink));
-    Ok(())
-}
-
-/// The saved form of a ledger.
 fn form_of<T: Tally>(alloc: Global, ledger: &Ledger<T>) -> Result<MemSink, Trouble> {
     let mut form = MemSink::new(alloc);
     save(ledger, &mut form)?;
@@ -246,8 +216,7 @@ fn saved<T: Tally>(page: &mut Page, ends: &str, lines: &[&str]) -> Done {
     let ledger = ledger_with::<T>(page.alloc, ends, lines)?;
     let form = form_of(page.alloc, &ledger)?;
     let mut output = Output::of(page.alloc, ends, "output");
-    let answer = save(&ledger, &mut ToWrite::new(&mut output));
-    page.put_debug(&answer);
+    page.put_debug(&save(&ledger, &mut ToWrite::new(&mut output)));
     let is_front = form.as_bytes().starts_with(output.bytes());
     page.put_count(", a front of the form ", &is_front);
     output.tell_all(page);
@@ -257,48 +226,27 @@ fn saved<T: Tally>(page: &mut Page, ends: &str, lines: &[&str]) -> Done {
 /// A new ledger into which a source was loaded. The answer is told, and how many games are held.
 fn load_new<T: Tally>(page: &mut Page, ends: &str, bytes: &[u8]) -> Result<Ledger<T>, Trouble> {
     let mut ledger = new_ledger(page.alloc, ends)?;
-    let mut source = named_source(end_of(ends, "input", "memory:64"), bytes);
-    let answer = load(page.alloc, &mut source, &mut ledger, fills_in(ends));
-    page.put_debug(&answer);
+    let mut source = source_in(ends, "input", "memory:64", bytes);
+    page.put_debug(&load(page.alloc, &mut source, &mut ledger, fills_in(ends)));
     page.put_count(", held: ", &ledger.len());
     Ok(ledger)
 }
 
-/// The answer to the loading of these lines, and how many games are held.
-fn loaded<T: Tally>(page: &mut Page, ends: &str, lines: &[&str]) -> Done {
-    let stream = stream_of(page.alloc, lines)?;
-    load_new::<T>(page, ends, stream.as_bytes())?;
-    Ok(())
-}
-
-/// The same where a saved ledger that was cut short is refused.
-fn loaded_whole<T: Tally>(page: &mut Page, ends: &str, lines: &[&str]) -> Done {
-    let stream = stream_of(page.alloc, lines)?;
-    let mut ledger = new_ledger::<T>(page.alloc, ends)?;
-    let mut source = named_source(end_of(ends, "input", "memory:64"), stream.as_bytes());
-    let answer = load_whole(page.alloc, &mut source, &mut ledger, fills_in(ends));
-    page.put_debug(&answer);
-    page.put_count(", held: ", &ledger.len());
-    Ok(())
-}
-
-/// The answer to the replay of a journal of these lines, how many games are held, and what the
-/// journal has gained.
-fn replayed<T: Tally>(page: &mut Page, ends: &str, lines: &[&str]) -> Done {
-    let stream = stream_of(page.alloc, lines)?;
-    let mut ledger = new_ledger::<T>(page.alloc, ends)?;
-    let mut source = named_source(end_of(ends, "input", "memory:64"), stream.as_bytes());
-    let mut journal = Output::of(page.alloc, ends, "journal");
+/// The same where a saved ledger that was cut short is refused; or of the replay of a journal, with
+/// what that has gained.
+fn read_back<T: Tally>(page: &mut Page, name: &str, ends: &str, lines: &[&str]) -> Done {
+    let (alloc, fills) = (page.alloc, fills_in(ends));
+    let stream = stream_of(alloc, lines)?;
+    let mut ledger = new_ledger::<T>(alloc, ends)?;
+    let mut source = source_in(ends, "input", "memory:64", stream.as_bytes());
+    if name == "load-whole" {
+        page.put_debug(&load_whole(alloc, &mut source, &mut ledger, fills));
+        page.put_count(", held: ", &ledger.len());
+        return Ok(());
+    }
+    let mut journal = Output::of(alloc, ends, "journal");
     let mut sink = ToWrite::new(&mut journal);
-    let fills = fills_in(ends);
-    let answer = replay(
-        page.alloc,
-        &mut source,
-        &mut sink,
-        &mut ledger,
-        &mut (),
-        fills,
-    );
+    let answer = replay(alloc, &mut source, &mut sink, &mut ledger, &mut (), fills);
     page.put_debug(&answer);
     page.put_count(", held: ", &ledger.len());
     journal.tell_all(page);
@@ -310,14 +258,9 @@ fn replayed<T: Tally>(page: &mut Page, ends: &str, lines: &[&str]) -> Done {
 fn load_saved<T: Tally>(page: &mut Page, ends: &str, lines: &[&str]) -> Done {
     let form = form_of(page.alloc, &ledger_with::<T>(page.alloc, ends, lines)?)?;
     let mut ledger = load_new::<T>(page, ends, form.as_bytes())?;
-    save_again(page, &ledger, form.as_bytes())?;
-    take_all(page, &mut ledger, ends, lines)
-}
-
-/// Whether a ledger has this saved form.
-fn save_again<T: Tally>(page: &mut Page, ledger: &Ledger<T>, form: &[u8]) -> Done {
-    let again = form_of(page.alloc, ledger)?;
-    page.put_count(", saved the same ", &(again.as_bytes() == form));
+    let again = form_of(page.alloc, &ledger)?;
+    let is_same = again.as_bytes() == form.as_bytes();
+    page.put_count(", saved the same ", &is_same);
     page.put("\n");
-    Ok(())
+    take_all(page, &mut ledger, ends, lines)
 }

@@ -1,24 +1,20 @@
 //! Worked examples over all crates, as data. Each line of the file `rows.txt` in the folder of the
 //! run is a row: its name, a topic, a call and the call's arguments, with a TAB between each two.
-//! Each line of its answer is printed after the row's name. What the answers have to be stands in
-//! the file `stdout` beside this crate's sources: the values come from the standards, from worked
-//! tables and from other programs, never from a run. Empty lines and lines that begin with `#` are
-//! skipped. Where memory is wanting for a row, or the row names no call, `failed` and why comes
-//! after the lines of its answer that had ended.
+//! Each line of its answer is printed after the row's name. The answers that are due stand in the
+//! file `stdout` beside this crate's sources: they come from the standards, from worked tables and
+//! from other programs, never from a run. Empty lines and lines that begin with `#` are skipped.
+//! Where memory is wanting for a row, or the row names no call, `failed` and why comes after the
+//! lines of its answer that had ended.
 //!
 //! `each` and two numbers in front of the topic stand for a row for each number from the first to
 //! the last, which goes into the places of `{n}`. So does `fuses` for 0, 1, 2, .. up to the first
 //! number with which no write fails. `digest` stands for the row after it, of whose long answer the
 //! number of lines, a checksum, the first line and the last are told.
 //!
-//! The topic `files` runs over files in memory that fail at a call, up to what a crash leaves.
-//!
 //! The topic `run` runs the program `pbook` over the words that follow. What it prints comes after
 //! the row's name in a line of its own. Standard input has its submissions, and the folder of the
-//! run a table, one of 780 lines, an older file in the place of the book, and the files of three
-//! saved ledgers and two journals. The topic `words` compares the program's help with other texts:
-//! the completions and the manual page lie in that folder too, in `installed`. The topic `bench`
-//! counts and plays for a clock, and `make bench` has rows of its own for it.
+//! run what it reads. The topic `words` compares the program's help with the completions and the
+//! manual page, which lie there in `installed`. `make bench` has rows of its own for `bench`.
 #![tactic(auto)]
 
 mod bench;
@@ -27,27 +23,24 @@ mod command;
 mod ends;
 mod files;
 mod game;
-mod journal_files;
+mod journals;
 mod ledger;
 mod points;
-mod restarting;
 mod words;
 
 use pb_program::run;
 use rows::page::{Done, NO_ROW, Page};
 use rows::runs::{each, fuses, tell_digest};
 use rows::text::text_of;
-use std::alloc::{AllocError, Global};
 use std::fs::File;
 use std::io::{self, BufRead, BufReader};
 
-/// The answer to a call of a topic.
 fn answer(rt: &HostRuntime, page: &mut Page, topic: &str, call: &[&str]) -> Done {
     match topic {
         "record" => rows::record::answer(page, call),
         "moves" => rows::moves::answer(page, call),
         "epd" => rows::epd::answer(page, call),
-        "file" => journal_files::answer(rt, page, call),
+        "file" => journals::answer(rt, page, call),
         "table" => rows::table::answer(page, call),
         "book" => rows::book::answer(page, call),
         "stream" => rows::stream::answer(page, call),
@@ -66,7 +59,6 @@ fn answer(rt: &HostRuntime, page: &mut Page, topic: &str, call: &[&str]) -> Done
     }
 }
 
-/// Prints the answer to a row.
 fn print_row(rt: &HostRuntime, row: &str) -> io::Result<()> {
     let (name, call) = row.split_once('\t').unwrap_or((row, ""));
     if call.starts_with("run\t") {
@@ -88,23 +80,22 @@ fn answer_row(rt: &HostRuntime, page: &mut Page, row: &str) -> Done {
     match row.split_once('\t') {
         Some(("each", written)) => each(page, written, |page, row| answer_words(rt, page, row)),
         Some(("fuses", written)) => fuses(page, written, |page, row| answer_words(rt, page, row)),
-        Some(("digest", written)) => digest(rt, page, written),
+        Some(("digest", written)) => {
+            let mut answer = Page::new(page.alloc);
+            answer_words(rt, &mut answer, written)?;
+            answer.done()?;
+            tell_digest(page, answer.as_str());
+            Ok(())
+        }
         _ => answer_words(rt, page, row),
     }
 }
 
-/// The digest of the answer.
-fn digest(rt: &HostRuntime, page: &mut Page, written: &str) -> Done {
-    let mut answer = Page::new(page.alloc);
-    answer_words(rt, &mut answer, written)?;
-    answer.done()?;
-    tell_digest(page, answer.as_str());
-    Ok(())
-}
-
-/// The answer to a topic, a call and its arguments.
 fn answer_words(rt: &HostRuntime, page: &mut Page, row: &str) -> Done {
-    let texts = texts_of(page.alloc, row)?;
+    let mut texts = Vec::new(page.alloc);
+    for word in row.split('\t') {
+        texts.push(text_of(page.alloc, word)?)?;
+    }
     let words: Vec<&str> = texts.iter().map(|text| text.as_str()).collect(page.alloc)?;
     let [topic, call @ ..] = words.as_slice() else {
         return NO_ROW
@@ -112,16 +103,6 @@ fn answer_words(rt: &HostRuntime, page: &mut Page, row: &str) -> Done {
     answer(rt, page, topic, call)
 }
 
-/// The texts that the words of a row write.
-fn texts_of(alloc: Global, row: &str) -> Result<Vec<String>, AllocError> {
-    let mut texts = Vec::new(alloc);
-    for word in row.split('\t') {
-        texts.push(text_of(alloc, word)?)?;
-    }
-    Ok(texts)
-}
-
-/// Prints lines of an answer, each after the row's name.
 fn print_lines(rt: &HostRuntime, name: &str, text: &str) -> io::Result<()> {
     for line in text.lines() {
         if !line.is_empty() {

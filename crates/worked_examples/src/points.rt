@@ -9,41 +9,29 @@ use pb_poly::{Table, code_of, key_of};
 use rows::page::{Done, NO_ROW, Page, Trouble};
 use rows::text::{number_of, small_of};
 use std::alloc::Global;
+use std::fmt::Write;
 
-/// The key of rows that belong to no position.
 const KEY: u64 = 5;
 
-/// The answer to a call.
+/// The answer to a call: whether the points and plies over each tally are those counted again; the
+/// weight of so many points beside the most that a move of its key has; or rows made anew.
 pub(crate) fn answer(page: &mut Page, call: &[&str]) -> Done {
-    let [name, first, rest @ ..] = call else {
-        return NO_ROW
-    };
-    match *name {
-        "recount" => tell_recount(page, first, rest),
-        "scale" => tell_scale(page, first, rest),
-        "ensure" if *first == "map" => ensure_all::<MapTally>(page, rest),
-        "ensure" => ensure_all::<ListTally>(page, rest),
+    match call {
+        ["recount", ends, lines @ ..] => {
+            page.put_count("by map ", &recount::<MapTally>(page.alloc, ends, lines)?);
+            let by_list = recount::<ListTally>(page.alloc, ends, lines)?;
+            page.put_count(", by list ", &by_list);
+            Ok(())
+        }
+        ["scale", count, greatest] => {
+            let count = number_of(count);
+            page.put_display(&scale(count, number_of(greatest).max(count)));
+            Ok(())
+        }
+        ["ensure", "map", codes @ ..] => ensure_all::<MapTally>(page, codes),
+        ["ensure", _, codes @ ..] => ensure_all::<ListTally>(page, codes),
         _ => NO_ROW,
     }
-}
-
-/// Whether the ledger over each tally tells the points and the occurrences of the games that are
-/// held after these lines.
-fn tell_recount(page: &mut Page, ends: &str, lines: &[&str]) -> Done {
-    page.put_count("by map ", &recount::<MapTally>(page.alloc, ends, lines)?);
-    page.put_count(
-        ", by list ",
-        &recount::<ListTally>(page.alloc, ends, lines)?,
-    );
-    Ok(())
-}
-
-/// The weight of so many points beside the most that a move of its key has.
-fn tell_scale(page: &mut Page, count: &str, words: &[&str]) -> Done {
-    let [greatest] = words else { return NO_ROW };
-    let count = number_of(count);
-    page.put_display(&scale(count, number_of(greatest).max(count)));
-    Ok(())
 }
 
 /// Makes rows of these codes in a new tally: the answer to each, the points and the plies that its
@@ -52,12 +40,9 @@ fn ensure_all<T: Tally>(page: &mut Page, codes: &[&str]) -> Done {
     let mut tally = T::new(page.alloc);
     for word in codes {
         let code = small_of(word).min(0xffff) as u16;
-        page.put_display(&code);
-        page.put(" ");
-        page.put_debug(&tally.ensure(KEY, code));
-        page.put_count(", points ", &tally.points(KEY, code));
-        page.put_count(", plies ", &tally.times(KEY, code));
-        page.put("\n");
+        let answer = tally.ensure(KEY, code);
+        let (points, plies) = (tally.points(KEY, code), tally.times(KEY, code));
+        let _ = write!(page, "{code} {answer:?}, points {points}, plies {plies}\n");
     }
     page.put("rows");
     for row in &tally.rows(page.alloc)? {
@@ -86,7 +71,6 @@ fn add_game(rows: &mut Vec<Row>, table: &Table, game: &Game) -> Done {
     Ok(())
 }
 
-/// What each ply of all games gives.
 fn rows_of<T: Tally>(alloc: Global, ledger: &Ledger<T>) -> Result<Vec<Row>, Trouble> {
     let mut rows = Vec::new(alloc);
     for number in 1..=ledger.len() {
@@ -96,21 +80,16 @@ fn rows_of<T: Tally>(alloc: Global, ledger: &Ledger<T>) -> Result<Vec<Row>, Trou
     Ok(rows)
 }
 
-/// What all plies of a key and a code give.
-fn total_of(rows: &[Row], key: u64, code: u16) -> Row {
-    let mut total = Row {
-        key,
-        code,
-        points: 0,
-        times: 0,
-    };
+/// The points and the plies of all rows of a key and a code.
+fn total_of(rows: &[Row], key: u64, code: u16) -> (u64, u64) {
+    let (mut points, mut plies) = (0_u64, 0_u64);
     for row in rows {
         if row.key == key && row.code == code {
-            total.points = total.points.wrapping_add(row.points);
-            total.times = total.times.wrapping_add(row.times);
+            points = points.wrapping_add(row.points);
+            plies = plies.wrapping_add(row.times);
         }
     }
-    total
+    (points, plies)
 }
 
 /// Whether the ledger tells the points and the occurrences of the games that are held after these
@@ -119,11 +98,8 @@ fn recount<T: Tally>(alloc: Global, ends: &str, lines: &[&str]) -> Result<bool, 
     let ledger = ledger_with::<T>(alloc, ends, lines)?;
     let rows = rows_of(alloc, &ledger)?;
     for row in &rows {
-        let total = total_of(rows.as_slice(), row.key, row.code);
-        if ledger.points(row.key, row.code) != total.points {
-            return Ok(false);
-        }
-        if ledger.times(row.key, row.code) != total.times {
+        let (points, plies) = total_of(rows.as_slice(), row.key, row.code);
+        if ledger.points(row.key, row.code) != points || ledger.times(row.key, row.code) != plies {
             return Ok(false);
         }
     }

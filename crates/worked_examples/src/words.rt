@@ -6,13 +6,11 @@ use rows::page::{Done, NO_ROW, Page, Trouble};
 use std::alloc::{AllocError, Global};
 use std::fs;
 
-/// The answer to a call.
 pub(crate) fn answer(rt: &HostRuntime, page: &mut Page, call: &[&str]) -> Done {
-    let [name, text] = call else { return NO_ROW };
-    match *name {
-        "text" => told(page, text),
-        "file" => match fs::read_to_string(rt, *text) {
-            Ok(text) => told(page, text.as_str()),
+    match call {
+        ["text", text] => tell_found(page, text),
+        ["file", path] => match fs::read_to_string(rt, *path) {
+            Ok(text) => tell_found(page, text.as_str()),
             Err(_fault) => NO_ROW,
         },
         _ => NO_ROW,
@@ -21,28 +19,16 @@ pub(crate) fn answer(rt: &HostRuntime, page: &mut Page, call: &[&str]) -> Done {
 
 /// The commands and the options of the help, each with whether the text has it, and the options
 /// that the text has beside them.
-fn told(page: &mut Page, text: &str) -> Done {
+fn tell_found(page: &mut Page, text: &str) -> Done {
     let plain = plain_of(page.alloc, text)?;
     let first = help_of(page.alloc, &["pbook", "--help"])?;
     let commands = commands_of(page.alloc, first.as_str())?;
     let help = helps_of(page.alloc, first.as_str(), commands.as_slice())?;
-    tell_commands(page, commands.as_slice(), plain.as_str())?;
-    tell_options(page, help.as_str(), plain.as_str())
-}
-
-/// The commands, each with whether the text has it.
-fn tell_commands(page: &mut Page, commands: &[&str], text: &str) -> Done {
-    let words = text.split(|c: char| !c.is_ascii_lowercase());
+    let words = plain.as_str().split(|c: char| !c.is_ascii_lowercase());
     let words: Vec<&str> = words.collect(page.alloc)?;
-    tell_wanted(page, "commands", commands, words.as_slice());
-    Ok(())
-}
-
-/// The options of the help, each with whether the text has it, and those that the text has beside
-/// them.
-fn tell_options(page: &mut Page, help: &str, text: &str) -> Done {
-    let wanted = options_of(page.alloc, help)?;
-    let found = options_of(page.alloc, text)?;
+    tell_wanted(page, "commands", commands.as_slice(), words.as_slice());
+    let wanted = options_of(page.alloc, help.as_str())?;
+    let found = options_of(page.alloc, plain.as_str())?;
     tell_wanted(page, "\noptions", wanted.as_slice(), found.as_slice());
     for option in &found {
         if !has(wanted.as_slice(), option) {
@@ -106,12 +92,10 @@ fn options_of(alloc: Global, text: &str) -> Result<Vec<&str>, Trouble> {
     Ok(options)
 }
 
-/// Whether a word is one of these.
 fn has(words: &[&str], wanted: &str) -> bool {
     words.iter().any(|word| *word == wanted)
 }
 
-/// Tells the words that are wanted, and whether they were found.
 fn tell_wanted(page: &mut Page, name: &str, wanted: &[&str], found: &[&str]) {
     page.put(name);
     for word in wanted {

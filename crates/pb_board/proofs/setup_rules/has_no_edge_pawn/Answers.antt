@@ -5,6 +5,6 @@ use Rattle.pb_board.proofs.setup_rules.has_no_edge_pawn.Goals as goal
 
 pub returns : goal.returns
 returns c = λ b full e.
-    let told = λ (q : ℕ). c.by_kind.ensures b q e in
-    let kept = c.by_kind.type_inv in
-    (λ none. no_edge_pawn b _ full told (eqb-true _ 0 none), λ inside. eq-eqb _ 0 (no_edge_bit b _ full told kept inside))
+    let squares = λ (q : ℕ). c.by_kind.ensures b q e in
+    let fits = c.by_kind.type_inv in
+    (λ none. no_edge_pawn b _ full squares (eqb-true _ 0 none), λ inside. eq-eqb _ 0 (no_edge_bit b _ full squares fits inside))

@@ -6,12 +6,12 @@ use Rattle.std.specs.Prelude.{codes}
 use Rattle.pb_cli.proofs.Refusals.{refuses_games}
 use Rattle.pb_cli.proofs.order.games.Goals as goal
 
-pub returns-in_ok-copy_of-in-Some-clause-words : goal.returns-in_ok-copy_of-in-Some-clause-words
-returns-in_ok-copy_of-in-Some-clause-words c =
+pub returns-in_ok-copy_of-in-Some : goal.returns-in_ok-copy_of-in-Some
+returns-in_ok-copy_of-in-Some c =
     let given = sym (c.in-Some.ensures ∙ raw_values-rows (found_of c.args.given.now) (codes "FILE")) in
     (refl, given ∙ ap (λ words. Some (texts words)) (sym c.in_ok-copy_of-in-Some.ensures))
 
-pub returns-in-None-clause-refused : goal.returns-in-None-clause-refused
-returns-in-None-clause-refused c =
+pub returns-in-None : goal.returns-in-None
+returns-in-None c =
     let none = c.in-None.ensures ∙ raw_values-rows (found_of c.args.given.now) (codes "FILE") in
     refuses_games _ _ (λ files given. absurd (cc (none ∙ given)))

@@ -10,7 +10,7 @@ use Rattle.pb_commands.proofs.fen.misspelt.Goals as goal
 pub loop-index-preserved : goal.loop-index-preserved
 loop-index-preserved c =
     let so_far = c.loop-index.invariant in
-    let rest_is = texts_from c.args.words.now c.loop-index.index _ c.loop-index-test.true in record {
+    let rest_is = texts_from c.args.move_texts.now c.loop-index.index _ c.loop-index-test.true in record {
       done = so_far.done ++ _ ∷ [];
       cut = append_assoc so_far.done _ _ ∙ ap (λ ws. so_far.done ++ ws) (sym rest_is) ∙ so_far.cut;
       count = length_push so_far.done _ ∙ ap (λ n. n + 1) so_far.count;
@@ -20,13 +20,13 @@ loop-index-preserved c =
 pub returns : goal.returns
 returns c =
     let so_far = c.loop-index.invariant in
-    let past = texts_past c.args.words.now c.loop-index.index c.loop-index-test.false in
+    let past = texts_past c.args.move_texts.now c.loop-index.index c.loop-index-test.false in
     All-same IsSpelled _ so_far.done (sym so_far.cut ∙ ap (λ ws. so_far.done ++ ws) past ∙ append-nil so_far.done) so_far.spelt
 
 pub returns-then-not-spells_move : goal.returns-then-not-spells_move
 returns-then-not-spells_move c =
     let so_far = c.loop-index.invariant in
-    let rest_is = texts_from c.args.words.now c.loop-index.index _ c.loop-index-test.true in
-    all_breaks IsSpelled (texts c.args.words.now) so_far.done _ _ (c.loop-index.index + 1)
+    let rest_is = texts_from c.args.move_texts.now c.loop-index.index _ c.loop-index-test.true in
+    all_breaks IsSpelled (texts c.args.move_texts.now) so_far.done _ _ (c.loop-index.index + 1)
     (sym so_far.cut ∙ ap (λ ws. so_far.done ++ ws) rest_is) (omega (arith, so_far.count)) so_far.spelt
     (λ spelt. absurd (let taken = c.if-not-spells_move.ensures.1 spelt in cc))

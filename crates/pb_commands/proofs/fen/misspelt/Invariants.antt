@@ -3,11 +3,11 @@ use Rattle.pb_moves.specs.Played.{IsSpelled}
 use Rattle.pb_commands.specs.Line.{texts}
 use Rattle.pb_commands.proofs.fen.misspelt.Given as goal
 
--- the words before this one spell moves
+-- the move texts before this one spell moves
 abbrev pub invariant-loop-index : goal.invariant-loop-index
 invariant-loop-index l = record {
   done : List (List ℕ);
-  cut : done ++ texts (drop l.index l.words) ≡ texts l.words;
+  cut : done ++ texts (drop l.index l.move_texts) ≡ texts l.move_texts;
   count : length done ≡ l.index;
   spelt : All IsSpelled done;
 }

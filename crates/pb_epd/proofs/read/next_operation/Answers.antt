@@ -1,5 +1,5 @@
 use Rattle.std.proofs.Common.{◌≢◌, [], ℕ, List, Ok, Err, OnErr, Result, ◌∙◌, sym, refl, arith, rules}
-use Rattle.pb_epd.specs.Lexeme.{Steps, token_of}
+use Rattle.pb_epd.specs.Lexeme.{NextIs, token_of}
 use Rattle.pb_epd.specs.Token.{Token, TokensAfter}
 use Rattle.pb_epd.proofs.Bad.{steps_shorter}
 use Rattle.std.proofs.lemmas.Bool.{false≢true}
@@ -43,7 +43,7 @@ on_err : {A E : Type 0} (answer : Result A E) (P : Type 0) → P → OnErr answe
 on_err (Ok x) P h = tt
 on_err (Err e) P h = h
 
-found_some : (before t : Token) (ts : List Token) (bytes rest : List ℕ) → Steps before bytes t rest → TokensAfter before ts bytes → ts ≢ []
+found_some : (before t : Token) (ts : List Token) (bytes rest : List ℕ) → NextIs before bytes t rest → TokensAfter before ts bytes → ts ≢ []
 found_some before t ts bytes rest found h none = let f = found_first before t ts bytes rest h found in let never = sym f.is ∙ none in cc
 
 pub returns-in_err-operands-clause-memory : goal.returns-in_err-operands-clause-memory

@@ -1,6 +1,6 @@
 use Rattle.std.proofs.Common.{◌∷◌, ap, subst}
 use Rattle.pb_epd.specs.Token.{word}
-use Rattle.pb_epd.specs.Lexeme.{token_of, Steps}
+use Rattle.pb_epd.specs.Lexeme.{token_of, NextIs}
 use Rattle.pb_epd.specs.Reading.{Follow}
 use Rattle.pb_epd.proofs.TokenLists.{found_first}
 use Rattle.pb_epd.proofs.Reader.{no_step, no_word, first_is, steps_back}
@@ -19,4 +19,4 @@ pub returns-clause-next : goal.returns-clause-next
 returns-clause-next c = λ ts h. subst (λ t. Follow t ts c.in-Found.rest.now) (ap token_of c.in-Word.is) (found_first _ _ ts _ _ h c.in-Found.ensures)
 
 pub returns-clause-back : goal.returns-clause-back
-returns-clause-back c = steps_back _ _ _ _ (subst (λ t. Steps (token_of c.args.before) c.args.text.now t c.in-Found.rest.now) (ap token_of c.in-Word.is) c.in-Found.ensures)
+returns-clause-back c = steps_back _ _ _ _ (subst (λ t. NextIs (token_of c.args.before) c.args.text.now t c.in-Found.rest.now) (ap token_of c.in-Word.is) c.in-Found.ensures)

@@ -19,11 +19,11 @@ loop-so_far-preserved c =
     let x : Operation = (c.in-Ok-Operation.opcode.now, c.in-Ok-Operation.operands.items) in
     let taken = rw c.in-Ok-Operation.field-0-is at c.in-Ok-Operation.ensures.taken in
     let sound = rw c.in-Ok-Operation.field-0-is at c.in-Ok-Operation.ensures.sound in
-    let step = c.in_ok-step-in-Ok-Operation.ensures in
+    let noted = c.in_ok-note-in-Ok-Operation.ensures in
     record {
-      rules = step.rules;
-      setup = step.setup ∙ c.loop-so_far.invariant.setup;
-      read = rw step.count (operations_more _ _ _ _ _ _ _ _ _ x _ c.loop-so_far.invariant.read taken sound step.stands);
+      rules = noted.rules;
+      setup = noted.setup ∙ c.loop-so_far.invariant.setup;
+      read = rw noted.count (operations_more _ _ _ _ _ _ _ _ _ x _ c.loop-so_far.invariant.read taken sound noted.stands);
     }
 
 pub returns-in-Some-clause-refused : goal.returns-in-Some-clause-refused
@@ -48,10 +48,10 @@ returns-in-Err-clause-refused c = λ ts h.
     let so_far = c.loop-so_far.invariant.read.tokens ts h in
     more_tokens ts _ so_far.others so_far.is (c.in-Err.ensures.memory so_far.others so_far.after)
 
-pub returns-in_err-step-in-Ok-Operation-clause-refused : goal.returns-in_err-step-in-Ok-Operation-clause-refused
-returns-in_err-step-in-Ok-Operation-clause-refused c =
+pub returns-in_err-note-in-Ok-Operation-clause-refused : goal.returns-in_err-note-in-Ok-Operation-clause-refused
+returns-in_err-note-in-Ok-Operation-clause-refused c =
     let taken = rw c.in-Ok-Operation.field-0-is at c.in-Ok-Operation.ensures.taken in
     let p = err_from_is_err_and c.from_residual.result c.from_residual.ensures.1 in rw (p.1, p.2) (λ ts h.
     let so_far = c.loop-so_far.invariant.read.tokens ts h in
     let some : so_far.others ≢ [] = λ none. let never = sym (taken so_far.others so_far.after).is ∙ none in cc in
-    subst (λ x. IsRefused x ts) (sym c.in_err-step-in-Ok-Operation.ensures.memory) (more_tokens ts _ so_far.others so_far.is some))
+    subst (λ x. IsRefused x ts) (sym c.in_err-note-in-Ok-Operation.ensures.memory) (more_tokens ts _ so_far.others so_far.is some))

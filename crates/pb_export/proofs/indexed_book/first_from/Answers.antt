@@ -9,8 +9,8 @@ pub returns : goal.returns
 returns c =
     let floor = c.args.floor in
     let entries : List Entry = c.args.entries.now in
-    let place = c.args.place in
-    let rest : take (length entries - place) (drop place entries) ≡ drop place entries = take_all (length entries - place) (drop place entries) (omega (arith, length-drop place entries)) in
-    let counted : c.count_below.result ≡ length (take_while (λ (e : Entry). ltb e.key floor) (drop place entries)) =
+    let start = c.args.start in
+    let rest : take (length entries - start) (drop start entries) ≡ drop start entries = take_all (length entries - start) (drop start entries) (omega (arith, length-drop start entries)) in
+    let counted : c.count_below.result ≡ length (take_while (λ (e : Entry). ltb e.key floor) (drop start entries)) =
     c.count_below.ensures ∙ ap (λ (es : List Entry). length (take_while (λ (e : Entry). ltb e.key floor) es)) rest in
-    first_before floor floor entries place c.count_below.result c.requires.rises c.requires.before (omega arith) counted
+    first_before floor floor entries start c.count_below.result c.requires.rises c.requires.before (omega arith) counted

@@ -10,13 +10,13 @@ loop-front-preserved c =
     let front = c.loop-front.front in
     let old = c.loop-front.firsts.items in
     let put = c.in_ok-push.ensures.items in
-    let place = c.first_from-place.result in
+    let start = c.first_from-start.result in
     let floor : (front * 70368744177664) % 18446744073709551616 ≡ front * 2 ^ 46 = omega (arith, c.loop-front-test.true) in
-    let here = subst (IsBefore entries place) floor c.first_from-place.ensures in
+    let here = subst (IsBefore entries start) floor c.first_from-start.ensures in
     record {
       many = ap length put ∙ length_push old c.in_32_bits.result ∙ ap (λ n. n + 1) c.loop-front.invariant.many;
-      each = firsts_more entries old c.push.new.self.items front place c.in_32_bits.result c.loop-front.invariant.many c.loop-front.invariant.each here c.in_32_bits.ensures put;
-      here = higher_floor entries place (front * 2 ^ 46) ((front + 1) * 2 ^ 46) here (omega arith);
+      each = firsts_more entries old c.push.new.self.items front start c.in_32_bits.result c.loop-front.invariant.many c.loop-front.invariant.each here c.in_32_bits.ensures put;
+      here = higher_floor entries start (front * 2 ^ 46) ((front + 1) * 2 ^ 46) here (omega arith);
     }
 
 pub returns : goal.returns

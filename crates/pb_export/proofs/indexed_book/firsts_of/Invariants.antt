@@ -6,5 +6,5 @@ abbrev pub invariant-loop-front : goal.invariant-loop-front
 invariant-loop-front l = record {
   many : length l.firsts.items ≡ l.front;
   each : (f : ℕ) → f < l.front → IsBefore l.entries (get_or l.firsts.items f 0) (f * 2 ^ 46);
-  here : IsBefore l.entries l.place (l.front * 2 ^ 46);
+  here : IsBefore l.entries l.start (l.front * 2 ^ 46);
 }

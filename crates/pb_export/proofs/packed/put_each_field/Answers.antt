@@ -12,6 +12,6 @@ pub returns : goal.returns
 returns c = on_ok_weaker c.put_en_passant.result (λ put s on is.
     let p = parts_of s c.args.state on is in
     let old = c.args.line.now.items in
-    let turn = c.in_ok-put_word.ensures ∙ ap (λ w. old ++ 32 ∷ w) (c.turn_of.ensures s.turn p.turn) in
-    let castling = c.in_ok-put_word-2.ensures ∙ ap (λ w. c.put_word.new.line.items ++ 32 ∷ w) (c.castling_of.ensures ∙ castling_text_at s.rights _ p.castling) in
-    joined old (turn_text s.turn) (castling_text s.rights) (en_passant_text s.ep) c.put_word.new.line.items c.put_word-2.new.line.items c.put_en_passant.new.line.items turn castling (put s.ep on p.ep)) c.put_en_passant.ensures
+    let turn = c.in_ok-put_spaced.ensures ∙ ap (λ w. old ++ 32 ∷ w) (c.turn_of.ensures s.turn p.turn) in
+    let castling = c.in_ok-put_spaced-2.ensures ∙ ap (λ w. c.put_spaced.new.line.items ++ 32 ∷ w) (c.castling_of.ensures ∙ castling_text_at s.rights _ p.castling) in
+    joined old (turn_text s.turn) (castling_text s.rights) (en_passant_text s.ep) c.put_spaced.new.line.items c.put_spaced-2.new.line.items c.put_en_passant.new.line.items turn castling (put s.ep on p.ep)) c.put_en_passant.ensures

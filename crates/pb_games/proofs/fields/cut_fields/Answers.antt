@@ -2,7 +2,7 @@ use Rattle.std.proofs.Common.{◌≡◌, ◌∷◌, [], ℕ, List, eqb, sym, ap,
 use Rattle.std.specs.List.{slice_split}
 use Rattle.std.specs.Str.Lines.{strip_carriage_return}
 use Rattle.pb_board.proofs.LineEnds.{length-strip}
-use Rattle.pb_games.specs.Header.{fields_of}
+use Rattle.pb_games.specs.Cuts.{fields_of}
 use Rattle.pb_games.proofs.Pieces.{fifth, fourth_short}
 use Rattle.pb_games.proofs.fields.cut_fields.Goals as goal
 

@@ -1,6 +1,6 @@
 use Rattle.std.proofs.Common.{arith}
 use Rattle.std.proofs.lemmas.Grind.{common_steps}
-use Rattle.pb_games.proofs.WordLemmas.{read_first}
+use Rattle.pb_games.proofs.TokenLemmas.{read_first}
 use Rattle.pb_games.proofs.repeat.spell.Goals as goal
 
 pub returns-then-ne : goal.returns-then-ne

@@ -7,12 +7,12 @@ use Rattle.pb_ledger.proofs.saving.put_moves.Goals as goal
 
 pub returns-in_err-put : goal.returns-in_err-put
 returns-in_err-put g c =
-    let is = line_from_first c.args.moves.now c.in-Some.further.now _ c.as_bytes.result.now c.in-Some.ensures.cases.0 (c.as_bytes.ensures ∙ c.text.ensures) in
+    let is = line_from_first c.args.moves.now c.in-Some.further.now _ c.as_bytes.result.now c.in-Some.ensures.cases.0 (c.as_bytes.ensures.value ∙ c.text.ensures) in
     subst (Put _ _ c.from_residual.result) is (put_cut _ _ _ c.from_residual.result c.as_bytes.result.now (with_end (further c.in-Some.further.now)) c.from_residual.ensures.0 c.in_err-put.ensures)
 
 pub loop-later-init : goal.loop-later-init
 loop-later-init g c =
-    let is = line_from_first c.args.moves.now c.in-Some.further.now _ c.as_bytes.result.now c.in-Some.ensures.cases.0 (c.as_bytes.ensures ∙ c.text.ensures) in
+    let is = line_from_first c.args.moves.now c.in-Some.further.now _ c.as_bytes.result.now c.in-Some.ensures.cases.0 (c.as_bytes.ensures.value ∙ c.text.ensures) in
     let put = c.in_ok-put.ensures in record {
       written = (c.as_bytes.result.now, put.all, is);
       failed = λ before. let bad = put.stays_failed before in cc;

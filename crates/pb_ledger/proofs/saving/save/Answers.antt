@@ -14,20 +14,20 @@ use Rattle.pb_ledger.specs.Saving.{header}
 use Rattle.pb_ledger.proofs.SavedForms.{lines_at, lines_more, numbered_text}
 use Rattle.pb_ledger.proofs.saving.save.Goals as goal
 
-pub returns-in_err-put_parts : goal.returns-in_err-put_parts
-returns-in_err-put_parts g c =
+pub returns-in_err-put_pieces : goal.returns-in_err-put_pieces
+returns-in_err-put_pieces g c =
     let texts = map submission_text c.args.ledger.now.accepted in
     let answer = c.from_residual.result in
     let failing = c.from_residual.ensures.0 in (
       flat_map with_end (header ∷ texts),
       refl,
-      Writes-stopped _ _ answer _ failing (put_cut _ _ _ answer (with_end header) (flat_map with_end texts) failing c.in_err-put_parts.ensures),
+      Writes-stopped _ _ answer _ failing (put_cut _ _ _ answer (with_end header) (flat_map with_end texts) failing c.in_err-put_pieces.ensures),
     )
 
 pub loop-index-init : goal.loop-index-init
 loop-index-init g c =
     let texts = map submission_text c.args.ledger.now.accepted in
-    let put = c.in_ok-put_parts.ensures in record {
+    let put = c.in_ok-put_pieces.ensures in record {
       written = put.all;
       failed = λ before. let bad = put.stays_failed before in cc;
       lasts = put.lasts;

@@ -1,5 +1,5 @@
 use Rattle.std.proofs.Common.{ℕ, ◌↔◌, subst, get_or}
-use Rattle.pb_moves.specs.declared.piece_targets.TheConstants.{KNIGHT}
+use Rattle.pb_moves.specs.declared.target_tables.TheConstants.{KNIGHT}
 use Rattle.pb_moves.specs.Reach.{IsKnightsMove}
 use Rattle.pb_moves.specs.Attackers.{In}
 use Rattle.pb_moves.proofs.NearTargets.{knight_back}

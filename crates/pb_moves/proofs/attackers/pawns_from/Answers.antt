@@ -1,8 +1,8 @@
 use Rattle.std.proofs.Common.{ℕ, ◌↔◌, subst, sym, get_or, bit_and}
 use Rattle.pb_board.specs.declared.piece.Colour.{Colour}
 use Rattle.pb_board.specs.declared.piece.Colour.TheVariants.{White, Black}
-use Rattle.pb_moves.specs.declared.pawn_targets.TheConstants.{BLACK_PAWN, WHITE_PAWN}
-use Rattle.pb_moves.specs.declared.piece_targets.TheConstants.{BISHOP}
+use Rattle.pb_moves.specs.declared.target_tables.TheConstants.{BLACK_PAWN, WHITE_PAWN}
+use Rattle.pb_moves.specs.declared.target_tables.TheConstants.{BISHOP}
 use Rattle.pb_moves.specs.Attackers.{In, StrikesFrom}
 use Rattle.pb_moves.proofs.NearTargets.{white_back, black_back}
 use Rattle.pb_moves.proofs.attackers.pawns_from.Goals as goal

@@ -16,7 +16,7 @@ returns-clause-value c =
     let q = c.args.square in
     let enemy = c.opponent-colour.result in
     let men = c.by_colour.result in
-    let king = c.by_piece.result in
+    let king = c.squares_of-king.result in
     let on = c.has.ensures.on_board in
     let of : Colour → Kind → Type 0 = λ side kind. Holds b q (piece_of side kind) in (
       λ h.
@@ -24,11 +24,11 @@ returns-clause-value c =
           let stands = (c.by_colour.ensures.squares q).0 inside.0 in
           record {
             kind = stands.0;
-            no_king = λ e. omega (arith, inside.1, bit_at_not w64 king q (omega arith) on, (c.by_piece.ensures q).1 (subst (of enemy) e stands.1));
+            no_king = λ e. omega (arith, inside.1, bit_at_not w64 king q (omega arith) on, (c.squares_of-king.ensures q).1 (subst (of enemy) e stands.1));
             stands = subst (λ (side : Colour). of side stands.0) c.opponent-colour.ensures stands.1;
           },
       λ prey.
           let stands = subst (λ (side : Colour). of side prey.kind) (sym c.opponent-colour.ensures) prey.stands in
           c.has.ensures.inside.1 (in_both men (bit_not w64 king) q ((c.by_colour.ensures.squares q).1 (prey.kind, stands))
-          (in_others king q (omega arith) on (λ one. prey.no_king (ap (λ (p : Piece). p.kind) (same_Some _ _ (sym stands ∙ (c.by_piece.ensures q).0 one)))))),
+          (in_others king q (omega arith) on (λ one. prey.no_king (ap (λ (p : Piece). p.kind) (same_Some _ _ (sym stands ∙ (c.squares_of-king.ensures q).0 one)))))),
     )

@@ -6,26 +6,26 @@ use Rattle.pb_points.specs.Blocks.{rows_in}
 use Rattle.pb_points.proofs.BlockRows.{Block, total_block, total_both, total_within}
 use Rattle.pb_points.proofs.blocks.held_in_blocks.Goals as goal
 
--- a part of the rows of the last block, and of those of the full blocks, which are gone along
-module _ (part : Row → ℕ) (full : List Block) (last : List Row) (k c : ℕ) where
-  last_fits : (rows : List Row) → rows ≡ last → total part (rows_in full ++ last) k c ≤ 2 ^ 63 → total part rows k c ≤ 2 ^ 63
-  last_fits rows is fit = omega (arith, total_both part full last k c, ap (λ l. total part l k c) is, fit)
+-- a field of the rows of the last block, and of those of the full blocks, which are gone along
+module _ (field : Row → ℕ) (full : List Block) (last : List Row) (k c : ℕ) where
+  last_fits : (rows : List Row) → rows ≡ last → total field (rows_in full ++ last) k c ≤ 2 ^ 63 → total field rows k c ≤ 2 ^ 63
+  last_fits rows is fit = omega (arith, total_both field full last k c, ap (λ l. total field l k c) is, fit)
 
   block_fits : (blocks : List Block) → blocks ≡ full → (i n : ℕ) (block : Block) (rows : List Row) → i < length blocks → block ≡ get_or blocks i block → rows ≡ block.items
-      → n ≡ total part last k c + total part (rows_in (take i blocks)) k c → total part (rows_in full ++ last) k c ≤ 2 ^ 63 → n + total part rows k c ≤ 2 ^ 63
+      → n ≡ total field last k c + total field (rows_in (take i blocks)) k c → total field (rows_in full ++ last) k c ≤ 2 ^ 63 → n + total field rows k c ≤ 2 ^ 63
   block_fits blocks are i n block rows lt at is sum fit = omega (
     arith,
     sum,
-    total_block part blocks i block k c lt at,
-    total_within part blocks (i + 1) k c,
-    ap (λ l. total part (rows_in l) k c) are,
-    ap (λ l. total part l k c) is,
-    total_both part full last k c,
+    total_block field blocks i block k c lt at,
+    total_within field blocks (i + 1) k c,
+    ap (λ l. total field (rows_in l) k c) are,
+    ap (λ l. total field l k c) is,
+    total_both field full last k c,
     fit,
   )
 
-  all_blocks : (blocks : List Block) → blocks ≡ full → (i n : ℕ) → length blocks ≤ i → n ≡ total part last k c + total part (rows_in (take i blocks)) k c → total part (rows_in full ++ last) k c ≡ n
-  all_blocks blocks are i n end sum = omega (arith, sum, ap (λ l. total part (rows_in l) k c) (take_all i blocks end ∙ are), total_both part full last k c)
+  all_blocks : (blocks : List Block) → blocks ≡ full → (i n : ℕ) → length blocks ≤ i → n ≡ total field last k c + total field (rows_in (take i blocks)) k c → total field (rows_in full ++ last) k c ≡ n
+  all_blocks blocks are i n end sum = omega (arith, sum, ap (λ l. total field (rows_in l) k c) (take_all i blocks end ∙ are), total_both field full last k c)
 
 pub held_in-points-requires-clause-points_fit : goal.held_in-points-requires-clause-points_fit
 held_in-points-requires-clause-points_fit c =

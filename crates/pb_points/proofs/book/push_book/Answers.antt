@@ -1,20 +1,20 @@
-use Rattle.std.proofs.Common.{rules, arith, AllPairs, [], ◌≡◌, sym, ap, subst, ◌∙◌}
+use Rattle.std.proofs.Common.{rules, ◌≡◌, nat_le, ap, ◌∙◌}
 use Rattle.std.specs.Slice.Iter.{chunk_by_rest}
+use Rattle.std.proofs.lemmas.Fn.{filter_same}
+use Rattle.std.proofs.lemmas.List.Kept.{AllPairs-filter}
 use Rattle.std.proofs.lemmas.List.Sorted.{answers_always}
-use Rattle.pb_points.specs.Rows.{IsBelow}
+use Rattle.pb_points.specs.Rows.{IsBelow, frequent, from}
 use Rattle.pb_points.specs.TallyBook.{AddsSome}
-use Rattle.pb_points.proofs.Groups.{IsCut, adds_more, adds_nothing, cut_group, keys_equal, so_far_all, so_far_more}
+use Rattle.pb_points.proofs.Elements.{filter_both}
+use Rattle.pb_points.proofs.Groups.{IsCut, adds_both, adds_more, adds_nothing, cut_group, keys_equal, keys_rise, so_far_all, so_far_more, so_far_starts}
 use Rattle.pb_points.proofs.book.push_book.Goals as goal
 
 pub loop-group-init : goal.loop-group-init
 loop-group-init c =
-    let same = ap (λ i. chunk_by_rest i) c.into_iter-group-iterator.ensures.into_iter_gives ∙ c.chunk_by-group-items.ensures.rest in record {
-      done = [];
-      split = sym same;
-      below = λ r s a b. absurd (omega (arith, a.1));
-      rise = subst (AllPairs IsBelow) (sym same) c.requires;
-      adds = adds_nothing c.args.entries.now.items;
-    }
+    let kept : c.retain.new.self.items ≡ frequent c.args.least (from c.args.first c.args.rows.items) =
+    filter_same _ _ _ (λ x b f' k. search rules) _ _ c.retain.ensures.filtered ∙ filter_both (λ r. nat_le c.args.first r.key) (λ r. nat_le c.args.least r.times) c.args.rows.items in
+    let same = ap (λ i. chunk_by_rest i) c.into_iter-group-iterator.ensures.into_iter_gives ∙ c.chunk_by-group-items.ensures.rest ∙ c.deref.ensures.value ∙ kept in
+    so_far_starts _ _ c.args.entries.now.items same (AllPairs-filter IsBelow _ _ (AllPairs-filter IsBelow _ _ c.requires)) (adds_nothing c.args.entries.now.items)
 
 pub push_group-requires : goal.push_group-requires
 push_group-requires c =
@@ -22,7 +22,7 @@ push_group-requires c =
     let steps = c.in-Some.ensures.steps in
     let cut : IsCut rest c.in-Some.group.now (chunk_by_rest c.next.new.self) =
     record { split = steps.0; some = steps.1; prefix = (steps.2 keys_equal (answers_always _ (λ a r. r ≡ keys_equal a.0.now a.1.0.now) _ (λ f a r g q. search rules))).1 } in
-    cut_group rest c.in-Some.group.now (chunk_by_rest c.next.new.self) cut c.loop-group.invariant.rise
+    cut_group IsBelow keys_rise rest c.in-Some.group.now (chunk_by_rest c.next.new.self) cut c.loop-group.invariant.ordered
 
 pub loop-group-preserved : goal.loop-group-preserved
 loop-group-preserved c =
@@ -30,7 +30,7 @@ loop-group-preserved c =
     let steps = c.in-Some.ensures.steps in
     let cut : IsCut rest c.in-Some.group.now (chunk_by_rest c.next.new.self) =
     record { split = steps.0; some = steps.1; prefix = (steps.2 keys_equal (answers_always _ (λ a r. r ≡ keys_equal a.0.now a.1.0.now) _ (λ f a r g q. search rules))).1 } in
-    so_far_more c.args.rows.now rest c.in-Some.group.now (chunk_by_rest c.next.new.self) c.args.entries.now.items c.loop-group.entries.items c.push_group.new.entries.items c.loop-group.invariant cut c.in_ok-push_group.ensures.ok
+    so_far_more IsBelow keys_rise rest c.in-Some.group.now (chunk_by_rest c.next.new.self) cut c.loop-group.invariant.ordered adds_both _ _ _ _ c.loop-group.invariant c.in_ok-push_group.ensures.ok
 
 pub returns-in_err-push_group-clause-err : goal.returns-in_err-push_group-clause-err
 returns-in_err-push_group-clause-err c =
@@ -38,4 +38,4 @@ returns-in_err-push_group-clause-err c =
     search rules
 
 pub returns-clause-ok : goal.returns-clause-ok
-returns-clause-ok c = so_far_all c.args.rows.now _ _ _ c.in-None.ensures.steps.0 c.loop-group.invariant
+returns-clause-ok c = so_far_all _ _ _ _ c.in-None.ensures.steps.0 c.loop-group.invariant

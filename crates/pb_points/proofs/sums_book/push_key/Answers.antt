@@ -2,7 +2,7 @@ use Rattle.std.proofs.Common.{◌≡◌, ◌++◌, ◌∙◌, AllPairs, List, ap
 use Rattle.pb_points.specs.declared.row.Row.{Row}
 use Rattle.pb_points.specs.Bag.{IsAddedUp, SumsFit}
 use Rattle.pb_points.specs.Group.{IsGroup}
-use Rattle.pb_points.specs.Rows.{IsUpTo}
+use Rattle.pb_points.specs.Rows.{IsBelow, IsUpTo}
 use Rattle.pb_points.proofs.SumsBook.{sums_group}
 use Rattle.pb_points.proofs.sums_book.push_key.Goals as goal
 
@@ -20,4 +20,4 @@ pub push_group-requires : goal.push_group-requires
 push_group-requires c =
     let listed : c.add_rows.new.rows.items ≡ c.args.group.now = c.in_ok-add_rows.ensures ∙ ap (λ l. l ++ c.args.group.now) c.clear.ensures.items in
     let added : IsAddedUp c.args.group.now c.add_up.new.rows.items = subst (λ l. IsAddedUp l c.add_up.new.rows.items) listed c.add_up.ensures in
-    subst (λ (x : List Row). IsGroup x) (sym c.deref.ensures.value) (sums_group c.args.group.now c.add_up.new.rows.items c.requires.group added)
+    subst (λ (x : List Row). IsGroup IsBelow x) (sym c.deref.ensures.value) (sums_group c.args.group.now c.add_up.new.rows.items c.requires.group added)

@@ -13,7 +13,7 @@ pub returns-clause-ok : goal.returns-clause-ok
 returns-clause-ok g c =
     let inside = c.self.inside in
     let games = inside.games.entries in
-    let T : Basis = record { words = inside.recorder.table; rules = inside.rules } in
+    let T : Basis = record { randoms = inside.recorder.table; rules = inside.rules } in
     let content = g.T.Tally.content inside.tally in
     let least = c.from-least.ensures ∙ c.least.ensures.value in
     rw (← c.self.view_is)

@@ -1,32 +1,30 @@
-use Rattle.std.proofs.Common.{sym, subst, ◌∙◌}
-use Rattle.pb_games.specs.Ids.{IsId}
+use Rattle.std.proofs.Common.{Some, refl, sym, ap, subst, ◌∙◌, true≢false}
 use Rattle.pb_accepted.specs.Replying.{IsNewId}
-use Rattle.pb_accepted.proofs.Arrivals.{first_is_id, other_held, submission_at}
+use Rattle.pb_accepted.proofs.Arrivals.{submission_at}
 use Rattle.pb_accepted.proofs.Places.{IsNewId-absent, key_found}
 use Rattle.pb_accepted.proofs.ledger.Ledger.arrival.Goals as goal
 
 pub returns-in_default-clause-arrives : goal.returns-in_default-clause-arrives
-returns-in_default-clause-arrives g c = λ s lawful.
-    absurd (c.in_default.ensures (subst IsId (sym (c.first_field.ensures ∙ first_is_id c.args.line.now s lawful)) lawful.id))
-
-pub returns-in_default-get_full-clause-arrives : goal.returns-in_default-get_full-clause-arrives
-returns-in_default-get_full-clause-arrives g c =
+returns-in_default-clause-arrives g c =
     let A = c.self.inside.games.entries in
-    let id = c.in-Some.id in
-    let line = c.args.line.now in
-    rw (← c.self.view_is)
-    (λ s lawful. subst (λ x. IsNewId x A) (c.in-Some.ensures.1 ∙ c.first_field.ensures ∙ first_is_id line s lawful) (IsNewId-absent A id (sym c.in_default-get_full.ensures.value)))
+    rw (← c.self.view_is) (subst (λ x. IsNewId x A) c.requires (IsNewId-absent A c.args.id.now (sym c.in_default.ensures.value)))
 
 pub repeats-requires : goal.repeats-requires
 repeats-requires g c =
-    submission_at c.self.inside.games.entries c.in-Some-get_full.index (c.in-Some-get_full.held.now, c.in-Some-get_full.game.now) c.self.invariant.rules.games c.in-Some-get_full.ensures.entry
+    let found = c.in-Some in
+    (submission_at c.self.inside.games.entries found.index _ c.self.invariant.rules.games found.ensures.entry).game.moves
+
+pub returns-then-repeats-clause-arrives : goal.returns-then-repeats-clause-arrives
+returns-then-repeats-clause-arrives g c =
+    let A = c.self.inside.games.entries in
+    let found = c.in-Some in
+    let id = key_found A c.args.id.now _ found.ensures.key ∙ c.requires in
+    rw (← c.self.view_is) (found.game.now, (found.index, refl, found.ensures.entry ∙ ap (λ x. Some (x, found.game.now)) id), c.repeats.ensures.0 c.if-repeats.true)
 
 pub returns-else-repeats-clause-arrives : goal.returns-else-repeats-clause-arrives
 returns-else-repeats-clause-arrives g c =
     let A = c.self.inside.games.entries in
-    let found = c.in-Some-get_full in
-    let line = c.args.line.now in
+    let found = c.in-Some in
+    let id = key_found A c.args.id.now _ found.ensures.key ∙ c.requires in
     rw (← c.self.view_is)
-    (λ s lawful. other_held A line s found.held.now found.index found.game.now c.repeats.result found.ensures.entry
-    (key_found A c.in-Some.id found.held.now found.ensures.key ∙ c.in-Some.ensures.1 ∙ c.first_field.ensures ∙ first_is_id line s lawful)
-    lawful c.repeats.ensures.1 c.if-repeats.false)
+    (found.game.now, (found.index, refl, found.ensures.entry ∙ ap (λ x. Some (x, found.game.now)) id), λ are. true≢false (sym (c.repeats.ensures.1 are) ∙ c.if-repeats.false))

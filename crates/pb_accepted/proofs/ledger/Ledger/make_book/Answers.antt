@@ -24,7 +24,7 @@ pub returns-clause-book : goal.returns-clause-book
 returns-clause-book g c =
     let inside = c.self.inside in
     let games = inside.games.entries in
-    let T : Basis = record { words = inside.recorder.table; rules = inside.rules } in
+    let T : Basis = record { randoms = inside.recorder.table; rules = inside.rules } in
     let adds = c.in_ok-add_book.ensures.ok in
     let entries = c.add_book.new.entries.items in
     let are : entries ≡ adds.book = adds.added ∙ ap (λ l. l ++ adds.book) c.new-entries.ensures.items in

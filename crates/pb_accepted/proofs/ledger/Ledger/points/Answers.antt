@@ -8,6 +8,6 @@ use Rattle.pb_accepted.proofs.ledger.Ledger.points.Goals as goal
 pub returns : goal.returns
 returns g c =
     let inside = c.self.inside in
-    let T : Basis = record { words = inside.recorder.table; rules = inside.rules } in
+    let T : Basis = record { randoms = inside.recorder.table; rules = inside.rules } in
     rw (← c.self.view_is)
     (c.points.ensures ∙ ap (λ (h : Held). h.points) (c.self.invariant.counts c.args.key c.args.code) ∙ rowed_count inside.rules.least (counted T inside.games.entries) c.args.key c.args.code)

@@ -9,7 +9,7 @@ use Rattle.pb_accepted.proofs.ledger.Ledger.times.Goals as goal
 pub overflow_add-result : goal.overflow_add-result
 overflow_add-result g c =
     let inside = c.self.inside in
-    let T : Basis = record { words = inside.recorder.table; rules = inside.rules } in
+    let T : Basis = record { randoms = inside.recorder.table; rules = inside.rules } in
     let G = counted T inside.games.entries in
     let k = c.args.key in
     let d = c.args.code in
@@ -21,7 +21,7 @@ overflow_add-result g c =
 pub returns : goal.returns
 returns g c =
     let inside = c.self.inside in
-    let T : Basis = record { words = inside.recorder.table; rules = inside.rules } in
+    let T : Basis = record { randoms = inside.recorder.table; rules = inside.rules } in
     let G = counted T inside.games.entries in
     let k = c.args.key in
     let d = c.args.code in

@@ -8,10 +8,10 @@ use Rattle.pb_accepted.proofs.GivenPoints.{moves_back}
 use Rattle.pb_accepted.proofs.recorder.Recorder.judge.Goals as goal
 
 noted : (words : List ℕ) (white black k : ℕ) (log : PlyLog) (r : Result Submission Refusal) → IfOk r (λ s. Holds words white black k log s.1.outcome (plies s.1) (last_setup s.1)) → IfOk r (λ s. HasNoted words log s.1)
-noted words white black k log (Ok s) told = record { ply_points = told.ply_points; moves = told.moves ∙ moves_back s.1.start.setup s.1.moves }
-noted words white black k log (Err e) told = _
+noted words white black k log (Ok s) held = record { ply_points = held.ply_points; moves = held.moves ∙ moves_back s.1.start.setup s.1.moves }
+noted words white black k log (Err e) held = _
 
 pub returns-clause-noted : goal.returns-clause-noted
 returns-clause-noted c =
-    let visitor = c.judge_line.new.visitor in
-    noted visitor.table visitor.white visitor.black visitor.key visitor.log c.judge_line.result c.judge_line.ensures.told
+    let visitor = c.judge_fields.new.visitor in
+    noted visitor.table visitor.white visitor.black visitor.key visitor.log c.judge_fields.result c.judge_fields.ensures.holds

@@ -9,16 +9,16 @@ use Rattle.pb_collecting.proofs.check.CheckerLineAnswer.answer.Goals as goal
 pub refuse-requires : goal.refuse-requires
 refuse-requires g c = named_short _ _ c.in-Err.ensures.refused
 
-pub returns-in_err-put_parts-in-Ok-clause-puts : goal.returns-in_err-put_parts-in-Ok-clause-puts
-returns-in_err-put_parts-in-Ok-clause-puts g c =
+pub returns-in_err-put_pieces-in-Ok-clause-puts : goal.returns-in_err-put_pieces-in-Ok-clause-puts
+returns-in_err-put_pieces-in-Ok-clause-puts g c =
     let p = err_from_is_err_and c.from_residual.result c.from_residual.ensures.1 in
     rw (p.1, p.2) (stops_as (CheckShown c.args.line.now) _ _ true _
-    (legal_put c.args.line.now c.id_bytes.result.now c.in-Ok.game c.in-Ok.ensures.found c.id_bytes.ensures) _ c.in_err-put_parts-in-Ok.ensures)
+    (legal_put c.args.line.now c.id_bytes.result.now c.in-Ok.game c.in-Ok.ensures.found c.id_bytes.ensures) _ c.in_err-put_pieces-in-Ok.ensures)
 
-pub returns-in_ok-put_parts-in-Ok-clause-puts : goal.returns-in_ok-put_parts-in-Ok-clause-puts
-returns-in_ok-put_parts-in-Ok-clause-puts g c =
+pub returns-in_ok-put_pieces-in-Ok-clause-puts : goal.returns-in_ok-put_pieces-in-Ok-clause-puts
+returns-in_ok-put_pieces-in-Ok-clause-puts g c =
     put_as (CheckShown c.args.line.now) _ _ true _
-    (legal_put c.args.line.now c.id_bytes.result.now c.in-Ok.game c.in-Ok.ensures.found c.id_bytes.ensures) _ c.in_ok-put_parts-in-Ok.ensures
+    (legal_put c.args.line.now c.id_bytes.result.now c.in-Ok.game c.in-Ok.ensures.found c.id_bytes.ensures) _ c.in_ok-put_pieces-in-Ok.ensures
 
 pub returns-in-Err-clause-puts : goal.returns-in-Err-clause-puts
 returns-in-Err-clause-puts g c =

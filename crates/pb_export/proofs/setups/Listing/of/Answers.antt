@@ -27,7 +27,7 @@ begun words book moves listed no_moves no_setups =
 
 pub loop-index-init : goal.loop-index-init
 loop-index-init g c =
-    let words = c.args.ledger.now.basis.words in
+    let words = c.args.ledger.now.basis.randoms in
     let book = c.args.book.now in
     begun words book c.new-2.result.items c.new.result.items c.new-2.ensures.items c.new.ensures.items
 
@@ -37,13 +37,13 @@ loop-index-preserved g c =
     let book = c.args.book.now in
     let number = rw c.unwrap.ensures at c.get.ensures in
     let added = rw c.table.ensures at (c.in_ok-add_game.ensures (all_setups (take c.loop-index.index games))) in
-    subst (λ (known : List Position). ListsSetups c.args.ledger.now.basis.words book known c.add_game.new.self.moves.items c.add_game.new.self.setups.items) (all_setups-more games c.loop-index.index _ number)
+    subst (λ (known : List Position). ListsSetups c.args.ledger.now.basis.randoms book known c.add_game.new.self.moves.items c.add_game.new.self.setups.items) (all_setups-more games c.loop-index.index _ number)
     (added c.loop-index.invariant)
 
 pub returns-clause-setups : goal.returns-clause-setups
 returns-clause-setups g c =
     let games = c.args.ledger.now.accepted in
-    let words = c.args.ledger.now.basis.words in
+    let words = c.args.ledger.now.basis.randoms in
     let book = c.args.book.now in
     let moves = c.loop-index.listing.moves.items in
     let listed = c.loop-index.listing.setups.items in

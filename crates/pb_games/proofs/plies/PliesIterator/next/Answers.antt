@@ -1,5 +1,5 @@
 use Rattle.std.proofs.Common.{sym}
-use Rattle.pb_games.proofs.WordLemmas.{next_move, spelt_left}
+use Rattle.pb_games.proofs.TokenLemmas.{next_move, spelt_left}
 use Rattle.pb_games.proofs.plies.PliesIterator.next.Goals as goal
 
 pub invariant_of-self-2 : goal.invariant_of-self-2

@@ -21,7 +21,7 @@ use types.ByLocal.{alloc_all, free_all, get, look_at, pass_all, sets}
 use types.Kit.{‵, raw, ◌⊛◌, ◌$◌, ◌∵◌, !, by, fjoin, fsplit, join, keep, move, qed, split, use0}
 use types.Part.{agg}
 use types.Run.{and_then, enter, no_more, returns}
-use Rattle.pb_io.specs.Sink.{told_or_none}
+use Rattle.pb_io.specs.Sink.{known_or_none}
 use Rattle.pb_io.specs.contracts.history.History.{the_row as R}
 use Rattle.pb_io.specs.contracts.history.History.of as f
 use Rattle.pb_io.specs.declared.history.History.{History}
@@ -39,7 +39,7 @@ of_spec 𝓤 𝓛 𝓜 𝓡 wired A _ g d _ =
     let hs : Stays T.signature.params T.kept = (stay_dropped P yes, tt) in
     proved 𝓛 T hs c 𝓜 𝓡 (Goes-dropped 𝓛 2 P yes (λ κs x f. refl), tt) (f.Key.name inst) fn (code.unfolded 𝓤 𝓛.H 𝓜 𝓡 wired (A, tt) d)
     (λ κs. (shr_vals, tt)) (λ κs. (shr_Tells (named 0) κs.0 (param 0 A), tt)) (λ κs qs bounds a gh are.
-    let told : List ℕ = told_or_none (g.contents a.0.now) in let made : History = record { marker = record {}; bytes = told } in
+    let told : List ℕ = known_or_none (g.contents a.0.now) in let made : History = record { marker = record {}; bytes = told } in
     let y : (walk_of 𝓛 T hs c).Ghost = ((κs, qs, bounds, a, (vptr a.0.ref_ptr.0 a.0.ref_ptr.1 ∷ [], tt)), gh) in
     qed 𝓛 (((‵ (flft κs.0 qs.0) ⊛ ‵ (fsep (flft κs.1.0 qs.1.0) ftrue)) ⊛ ‵ (owns (types_at T.signature.params κs) a y.0.4)) ∷ raw (fact 𝓤 _) ∷ ‵ ftrue ∷ []) ∵
     keep ! (0 ∷ []) $ split ! $ split ! $ move ! (2 ∷ []) $ fsplit ! $ fsplit ! $ keep ! (1 ∷ 3 ∷ 4 ∷ []) $

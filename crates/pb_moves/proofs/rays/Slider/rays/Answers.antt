@@ -1,6 +1,6 @@
 use Rattle.std.proofs.Common.{ℕ, ◌↔◌, subst, sym, get_or}
 use Rattle.pb_board.specs.declared.piece.Colour.TheVariants.{White}
-use Rattle.pb_moves.specs.declared.piece_targets.TheConstants.{BISHOP, ROOK}
+use Rattle.pb_moves.specs.declared.target_tables.TheConstants.{BISHOP, ROOK}
 use Rattle.pb_moves.specs.declared.rays.Slider.{Slider}
 use Rattle.pb_moves.specs.Reach.{IsDiagonal, IsOrthogonal}
 use Rattle.pb_moves.specs.Attackers.{Along, In}

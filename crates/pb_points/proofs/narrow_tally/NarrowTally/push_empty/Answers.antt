@@ -2,10 +2,10 @@ use Rattle.std.proofs.Common.{◌≡◌, ◌++◌, ◌∷◌, [], ◌∙◌, len
 use Rattle.std.proofs.Math.ListN.{length-append}
 use Rattle.pb_points.specs.Bag.{bag_content}
 use Rattle.pb_points.specs.Blocks.{rows_in, rows_of}
-use Rattle.pb_points.specs.NarrowTally.{Keeps}
+use Rattle.pb_points.specs.NarrowTally.{AreSound}
 use Rattle.pb_points.specs.Tally.{MakesRow}
 use Rattle.pb_points.proofs.BagRows.{new_row}
-use Rattle.pb_points.proofs.NarrowSums.{keeps_beside, makes_beside}
+use Rattle.pb_points.proofs.NarrowSums.{sound_beside, makes_beside}
 use Rattle.pb_points.proofs.narrow_tally.NarrowTally.push_empty.Goals as goal
 
 pub invariant_of-self : goal.invariant_of-self
@@ -17,7 +17,7 @@ invariant_of-self c =
     let is : full ++ c.push_reserved.new.self.items ≡ rows_of was.rows ++ row ∷ [] =
     ap (λ l. full ++ l) (c.push_reserved.ensures.items ∙ ap (λ r. last ++ r ∷ []) c.empty.ensures) ∙ sym (append_assoc full last (row ∷ [])) in
     record {
-      keeps = subst (λ l. Keeps l was.wide.items) (sym is) (keeps_beside (rows_of was.rows) was.wide.items c.args.key c.args.code was.keeps);
+      sound = subst (λ l. AreSound l was.wide.items) (sym is) (sound_beside (rows_of was.rows) was.wide.items c.args.key c.args.code was.sound);
       counted = omega (arith, was.counted, ap length is, length-append (rows_of was.rows) (row ∷ []), c.push_reserved.ensures.len);
       room = omega (arith, was.room, c.push_reserved.ensures.capacity);
     }

@@ -1,4 +1,4 @@
-use Rattle.std.proofs.Common.{◌≡◌, ◌++◌, ◌∙◌, AllPairs, IsPermutation, List, [], ap, sym, subst, arith}
+use Rattle.std.proofs.Common.{◌≡◌, ◌++◌, ◌∙◌, IsPermutation, List, [], ap, sym, subst, arith}
 use Rattle.std.proofs.lemmas.Grind.{common_steps}
 use Rattle.std.proofs.lemmas.List.{append-nil, nil_from_length}
 use Rattle.std.proofs.lemmas.List.Sorted.{IsPermutation-append_left, IsPermutation-trans}
@@ -6,7 +6,6 @@ use Rattle.pb_points.specs.declared.row.Row.{Row}
 use Rattle.pb_points.specs.Bag.{HoldsSame}
 use Rattle.pb_points.specs.Blocks.{rows_of}
 use Rattle.pb_points.specs.NarrowTally.{all_of}
-use Rattle.pb_points.specs.Rows.{IsUpTo}
 use Rattle.pb_points.proofs.BagRows.{fit_same, same_permuted}
 use Rattle.pb_points.proofs.narrow_tally.NarrowTally.sums.Goals as goal
 use Rattle.pb_points.proofs.narrow_tally.NarrowTally.sums.Goals.{then-not-is_empty+in_ok-extend_from_slice, else-not-is_empty}
@@ -43,7 +42,7 @@ add_up-requires-clause-fit c =
       | else-not-is_empty w ↦ rw (w.rows-is, narrow)
           (alone (rows_of was.rows) c.order_rows.new.rows.items was.wide.items ordered (nil_from_length was.wide.items (grind (arith, common_steps, w.if-not-is_empty.false))))
     ] in
-    fit_same all rows (same_permuted all rows permuted) was.keeps.fit
+    fit_same all rows (same_permuted all rows permuted) was.sound.fit
 
 pub returns : goal.returns
 returns c =

@@ -1,16 +1,16 @@
 use Rattle.std.proofs.Common.{◌++◌, length, sym, ap, subst, arith}
 use Rattle.pb_points.specs.Bag.{bag_content}
 use Rattle.pb_points.specs.Blocks.{rows_of}
-use Rattle.pb_points.specs.NarrowTally.{Keeps}
+use Rattle.pb_points.specs.NarrowTally.{AreSound}
 use Rattle.pb_points.specs.Tally.{AddsPly}
-use Rattle.pb_points.proofs.NarrowSums.{adds_there, all_narrow, keeps_added, narrow_counted, room_for, spills_narrow, there_length, wide_adds, wide_room, wide_spills}
+use Rattle.pb_points.proofs.NarrowSums.{adds_there, all_narrow, sound_added, narrow_counted, room_for, spills_narrow, there_length, wide_adds, wide_room, wide_spills}
 use Rattle.pb_points.proofs.narrow_tally.NarrowTallyTally.add.Goals as goal
 
 pub add_wide-requires-clause-room : goal.add_wide-requires-clause-room
 add_wide-requires-clause-room c = λ none.
     let was = c.args.self.now in
     let rows = rows_of was.rows in
-    let few = room_for rows was.wide.items c.args.key c.args.code none (narrow_counted rows was.wide.items c.args.key c.args.code c.requires.row none) was.keeps.spills in
+    let few = room_for rows was.wide.items c.args.key c.args.code none (narrow_counted rows was.wide.items c.args.key c.args.code c.requires.row none) was.sound.spills in
     omega (arith, few, was.counted, was.room, was.wide.ok, was.rows.last.ok)
 
 pub add_wide-requires-clause-fits : goal.add_wide-requires-clause-fits
@@ -30,9 +30,9 @@ invariant_of-self-else-not-add_ply c =
     let wide = was.wide.items in
     let h = c.add_ply.ensures.added c.if-not-add_ply.false in
     record {
-      keeps = keeps_added rows wide new wide c.args.key c.args.code c.args.points
+      sound = sound_added rows wide new wide c.args.key c.args.code c.args.points
           (adds_there (rows ++ wide) (new ++ wide) c.args.key c.args.code c.args.points (all_narrow rows new wide c.args.key c.args.code c.args.points h))
-          c.requires.fits (spills_narrow rows new wide c.args.key c.args.code c.args.points h was.keeps.spills) was.keeps;
+          c.requires.fits (spills_narrow rows new wide c.args.key c.args.code c.args.points h was.sound.spills) was.sound;
       counted = omega (arith, was.counted, c.add_ply.ensures.len, there_length rows new c.args.key c.args.code c.args.points h);
       room = omega (arith, was.room, c.add_ply.ensures.room);
     }
@@ -53,10 +53,10 @@ invariant_of-self c =
     let new = c.add_wide.new.wide.items in
     let same = c.add_ply.ensures.full c.if-not-add_ply.true in
     record {
-      keeps = subst (λ l. Keeps l new) (sym same)
-          (keeps_added rows wide rows new c.args.key c.args.code c.args.points
+      sound = subst (λ l. AreSound l new) (sym same)
+          (sound_added rows wide rows new c.args.key c.args.code c.args.points
           (wide_adds rows wide new c.args.key c.args.code c.args.points c.add_wide.ensures.adds) c.requires.fits
-          (wide_spills rows wide new c.args.key c.args.code c.args.points c.add_wide.ensures.adds c.requires.row was.keeps.spills) was.keeps);
+          (wide_spills rows wide new c.args.key c.args.code c.args.points c.add_wide.ensures.adds c.requires.row was.sound.spills) was.sound);
       counted = omega (arith, was.counted, c.add_ply.ensures.len, ap length same);
       room = omega (arith, was.room, c.add_ply.ensures.room, c.add_wide.ensures.capacity);
     }

@@ -22,7 +22,7 @@ pub returns-then-least-gt1-clause-ok : goal.returns-then-least-gt1-clause-ok
 returns-then-least-gt1-clause-ok c =
     adds_of_rows _ c.args.least _ _ _
     (stretch_rows (bag_content (all_of c.args.self.now.rows c.args.self.now.wide)) c.args.first c.in_ok-rows.field-0.items (record { rise = c.in_ok-rows.ensures.order; each = c.in_ok-rows.ensures.each }))
-    c.in_ok-push_stretch.ensures.ok
+    c.in_ok-push_book.ensures.ok
 
 pub push_sums-requires-clause-fit : goal.push_sums-requires-clause-fit
 push_sums-requires-clause-fit c =
@@ -34,7 +34,7 @@ push_sums-requires-clause-fit c =
     let is = kept ∙ ap (λ l. pointed (from c.args.first l)) (alone (rows_of was.rows) was.wide.items none) in
     fit_same (pointed rows) c.deref.result.now
     (same_sorted is c.order_rows.ensures.permutation c.deref.ensures.value)
-    (fit_pointed rows (fit_from (all_of was.rows was.wide) c.args.first was.keeps.fit))
+    (fit_pointed rows (fit_from (all_of was.rows was.wide) c.args.first was.sound.fit))
 
 pub returns-clause-ok : goal.returns-clause-ok
 returns-clause-ok c =
@@ -49,5 +49,5 @@ returns-clause-ok c =
     same_sorted is c.order_rows.ensures.permutation c.deref.ensures.value in
     let adds = c.in_ok-push_sums.ensures.ok in
     same_content _ _ c.args.least _ _ (bag_from all c.args.first)
-    (pointed_book rows adds.0 c.args.least _ _ (plied_from all c.args.first was.keeps.plied) (search rules)
+    (pointed_book rows adds.0 c.args.least _ _ (plied_from all c.args.first was.sound.plied) (search rules)
     (record { rise = adds.1.rise; same = λ k c. adds.1.same k c ∙ same k c }) adds.2)

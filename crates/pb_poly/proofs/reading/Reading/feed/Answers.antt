@@ -11,7 +11,7 @@ returns-in_err-count-clause-err c came h =
 
 pub loop-rest-preserved : goal.loop-rest-preserved
 loop-rest-preserved c = record {
-  taken = IsTaken-more c.args.self.now c.loop-rest.self c.take_part.new.self c.args.chunk.now c.loop-rest.rest.now c.in_ok-count.count c.loop-rest.invariant.taken c.in_ok-count.ensures.ok;
+  taken = IsTaken-more c.args.self.now c.loop-rest.self c.take_piece.new.self c.args.chunk.now c.loop-rest.rest.now c.in_ok-count.count c.loop-rest.invariant.taken c.in_ok-count.ensures.ok;
   partial = c.in_ok-count.ensures.partial;
 }
 

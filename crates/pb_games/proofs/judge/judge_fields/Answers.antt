@@ -1,0 +1,60 @@
+use Rattle.std.proofs.Common.{refl, sym, subst, arith}
+use Rattle.pb_moves.specs.Attacks.{IsPlayable}
+use Rattle.pb_moves.specs.Played.{plies_from}
+use Rattle.pb_games.specs.Reading.{AreRead, AreRefused}
+use Rattle.pb_games.specs.Submissions.{setup_after}
+use Rattle.pb_games.specs.Tokens.{moves_spelt}
+use Rattle.pb_games.proofs.Headers.{result_refused, fen_refused}
+use Rattle.pb_games.proofs.Judging.{start_refused, moves_refused, moves_lawful, moves_checked}
+use Rattle.pb_games.proofs.Refused.{only_one}
+use Rattle.pb_games.proofs.judge.judge_fields.Goals as goal
+
+pub returns-in_default-clause-refused : goal.returns-in_default-clause-refused
+returns-in_default-clause-refused g c = λ line cut. result_refused line cut.short _ _ _ _ cut.cut cut.id_is c.in_default.ensures
+
+pub returns-in_default-clause-only : goal.returns-in_default-clause-only
+returns-in_default-clause-only g c = λ line cut. only_one _ _ tt (returns-in_default-clause-refused g c line cut)
+
+pub returns-in-Err-clause-refused : goal.returns-in-Err-clause-refused
+returns-in-Err-clause-refused g c = λ line cut.
+    fen_refused line cut.short _ _ _ _ cut.cut cut.id_is c.in-Some.outcome c.in-Some.ensures c.in-Err.error c.in-Err.ensures.refused
+
+pub returns-in-Err-clause-only : goal.returns-in-Err-clause-only
+returns-in-Err-clause-only g c = λ line cut. only_one _ _ tt (returns-in-Err-clause-refused g c line cut)
+
+pub returns-then-not-playable-clause-refused : goal.returns-then-not-playable-clause-refused
+returns-then-not-playable-clause-refused g c = λ line cut.
+    start_refused line _ cut _ c.in-Some.ensures _ c.in-Ok.ensures.found
+    (λ playable. absurd (let never = c.if-not-playable.ensures.1 (subst IsPlayable (sym c.setup-setup.ensures.value) playable) in cc))
+
+pub returns-then-not-playable-clause-only : goal.returns-then-not-playable-clause-only
+returns-then-not-playable-clause-only g c = λ line cut. only_one _ _ tt (returns-then-not-playable-clause-refused g c line cut)
+
+pub invariant_of-result : goal.invariant_of-result
+invariant_of-result g c =
+    moves_checked c.requires.0 _ c.requires.1 _ c.in-Some.ensures _ c.in-Ok.ensures.found (subst IsPlayable c.setup-setup.ensures.value (c.if-not-playable.ensures.0 refl))
+    c.in-Ok-read_moves.plies (subst (λ t. AreRead t c.args.fields.moves.now c.in-Ok-read_moves.plies) c.setup-setup.ensures.value c.in-Ok-read_moves.ensures.read)
+
+pub returns-in-Ok-read_moves-clause-found : goal.returns-in-Ok-read_moves-clause-found
+returns-in-Ok-read_moves-clause-found g c = λ line cut.
+    moves_lawful line _ cut _ c.in-Some.ensures _ c.in-Ok.ensures.found (subst IsPlayable c.setup-setup.ensures.value (c.if-not-playable.ensures.0 refl))
+    c.in-Ok-read_moves.plies (subst (λ t. AreRead t c.args.fields.moves.now c.in-Ok-read_moves.plies) c.setup-setup.ensures.value c.in-Ok-read_moves.ensures.read)
+
+pub returns-in-Ok-read_moves-clause-only : goal.returns-in-Ok-read_moves-clause-only
+returns-in-Ok-read_moves-clause-only g c = λ line cut. only_one _ _ (returns-in-Ok-read_moves-clause-found g c line cut) tt
+
+pub returns-in-Ok-read_moves-clause-holds : goal.returns-in-Ok-read_moves-clause-holds
+returns-in-Ok-read_moves-clause-holds g c =
+    let moves = moves_spelt c.args.fields.moves.now in
+    subst (λ t. g.P.MoveVisitor.holds c.read_moves.new.visitor c.in-Some.outcome (plies_from t moves) (setup_after t moves)) c.setup-setup.ensures.value c.in-Ok-read_moves.ensures.holds
+
+pub returns-in-Err-read_moves-clause-refused : goal.returns-in-Err-read_moves-clause-refused
+returns-in-Err-read_moves-clause-refused g c = λ line cut.
+    moves_refused line _ cut _ c.in-Some.ensures _ c.in-Ok.ensures.found (subst IsPlayable c.setup-setup.ensures.value (c.if-not-playable.ensures.0 refl)) _
+    (subst (λ t. AreRefused t c.args.fields.moves.now c.in-Err-read_moves.refusal) c.setup-setup.ensures.value c.in-Err-read_moves.ensures.read)
+
+pub returns-in-Err-read_moves-clause-only : goal.returns-in-Err-read_moves-clause-only
+returns-in-Err-read_moves-clause-only g c = λ line cut. only_one _ _ tt (returns-in-Err-read_moves-clause-refused g c line cut)
+
+pub read_moves-requires : goal.read_moves-requires
+read_moves-requires g c = omega (arith, c.requires.1.short, c.requires.1.room)

@@ -1,6 +1,0 @@
-use Rattle.pb_points.specs.Blocks.{rows_of}
-use Rattle.pb_points.proofs.PartedRows.{Parting}
-use Rattle.pb_points.proofs.narrow_tally.parted.Given as goal
-
-abbrev pub invariant-loop-sum : goal.invariant-loop-sum
-invariant-loop-sum l = Parting l.sums (rows_of l.rows) l.wide.items l.sum-index
