@@ -42,7 +42,7 @@ fn program<'a>(alloc: Global) -> Result<Command<'a>, AllocError>
 {
     let unnamed = Command::new(alloc, "pbook")
         .about("Makes PolyGlot opening books")
-        .version("0.2.0")
+        .version("0.3.0")
         .subcommand_required(true)
         .arg_required_else_help(true);
     let named = unnamed.bin_name("pbook")?;
