@@ -101,6 +101,7 @@ pub fn what_a_sync_may_pass_over()
     ensures { (disk : Disk) → disk.lost ≡ true → disk.kept ≤ length disk.found → Syncs disk disk }
 {}
 
+/// A sink of the first mode syncs each line, and one of the second none.
 pub fn modes()
     ensures synced { syncs SYNCED ≡ true }
     ensures written { syncs WRITTEN ≡ false }

@@ -24,6 +24,7 @@ pub struct FuseSink {
 }
 
 impl FuseSink {
+    /// Makes a sink without bytes, of which so many puts and flushes pass.
     pub fn new(alloc: Global, good: u32) -> FuseSink
         ensures state { ⟦<FuseSink as Sink>⟧.state result ≡ new_sink (Some []) (Some []) }
         ensures good { result.good ≡ good }
@@ -37,7 +38,7 @@ impl FuseSink {
         }
     }
 
-    /// The bytes taken so far.
+    /// Gives the bytes taken so far.
     pub fn as_bytes(&self) -> &[u8]
         ensures { (⟦<FuseSink as Sink>⟧.state self.now).bytes ≡ Some result.now }
     {

@@ -20,6 +20,7 @@ pub struct FuseSource<'a> {
 }
 
 impl<'a> FuseSource<'a> {
+    /// Makes a source of these bytes, at most `piece` at a fill, of which so many pass.
     pub fn new(bytes: &'a [u8], piece: usize, good: u32) -> FuseSource<'a>
         requires { 1 ≤ piece }
         ensures state { ⟦<FuseSource<'a> as Source>⟧.state result ≡ new_source (Some bytes.now) }

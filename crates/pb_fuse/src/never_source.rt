@@ -15,6 +15,7 @@ pub struct NeverSource {
 }
 
 impl NeverSource {
+    /// Makes a source of this byte over and over.
     pub fn new(byte: u8) -> NeverSource
         ensures state { ⟦<NeverSource as Source>⟧.state result ≡ new_source None }
         ensures byte { result.byte ≡ byte }

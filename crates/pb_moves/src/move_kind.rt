@@ -3,7 +3,7 @@
 use pb_board::{MovedPiece, Piece};
 
 /// Which pieces a move puts elsewhere.
-#[derive(Clone, Copy)]
+#[derive(Clone, Copy, Debug)]
 pub enum MoveKind {
     /// This piece arrives where the move goes, in the place of what stood there.
     One(Piece),

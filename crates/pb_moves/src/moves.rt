@@ -67,7 +67,7 @@ impl Move {
         }
     }
 
-    /// The square that the move leaves.
+    /// Gives the square that the move leaves.
     #[inline]
     pub fn from(self) -> Square
         ensures value { result ≡ self.from }
@@ -77,7 +77,7 @@ impl Move {
         Square::from_index((self.bits / 64 % 64) as u8).unwrap()
     }
 
-    /// The square that the move reaches.
+    /// Gives the square that the move reaches.
     #[inline]
     pub fn to(self) -> Square
         ensures value { result ≡ self.to }
@@ -86,8 +86,8 @@ impl Move {
         Square::from_index((self.bits % 64) as u8).unwrap()
     }
 
-    /// The move as a number below 2^15: the square that it reaches, 64 times the square that it
-    /// leaves, and 4,096 times the promotion (none, knight, bishop, rook, queen from 0).
+    /// Gives the move as a number below 2^15: the square that it reaches, 64 times the square that
+    /// it leaves, and 4,096 times the promotion (none, knight, bishop, rook, queen from 0).
     #[inline]
     pub fn bits(self) -> u16
         ensures { result ≡ self.to + 64 * self.from + 4096 * promotion_number self.promo }
@@ -95,7 +95,7 @@ impl Move {
         self.bits
     }
 
-    /// What the pawn becomes, where the move promotes.
+    /// Gives what the pawn becomes, where the move promotes.
     #[inline]
     pub fn promo(self) -> Option<Kind>
         ensures { result ≡ self.promo }
