@@ -262,7 +262,7 @@ function is_unkept(kind, text, k, saved,    keep) {
     if (kind == "journaled-into") return has_journal(text, keep, k - saved)
     if (kind != "continued-into") return 0
     if (same(text, "Err(Ledger(Memory))\nnothing is kept\nno ledger is kept")) return 1
-    return same(text, "Err(Book(Memory))\nnothing is kept\n" form(k))
+    return same(text, "Err(Keep(Memory))\nnothing is kept\n" form(k))
 }
 
 # Whether a text is this one, and then a journal that has gained the lines of so many games, and of
