@@ -179,21 +179,38 @@ has_open() {
     return 1
 }
 
-# Nor is a table that another run reads.
+# Nor is the TABLE of another collector.
 table_of_another() {
-    for command in collect export; do
-        with_old
-        cp "$table" .book.bin.pbook-0
-        set -- "$PROGRAM" "$command" "$place/.book.bin.pbook-0"
-        [ "$command" = export ] || set -- "$@" other.bin
-        begin "$@"
-        holds awaits has_open "$collector" "$place/.book.bin.pbook-0"
-        games_of 1 >&3
-        holds collects 0 "$book"
+    with_old
+    cp "$table" .book.bin.pbook-0
+    begin "$PROGRAM" collect "$place/.book.bin.pbook-0" other.bin
+    holds awaits has_open "$collector" "$place/.book.bin.pbook-0"
+    games_of 1 >&3
+    holds collects 0 "$book"
+    holds is_new "$book"
+    holds cmp .book.bin.pbook-0 "$table"
+    holds end 0
+}
+
+# What a command only reads may become the FILE of a collector that starts meanwhile. The command
+# has opened both, and waits for a pipe.
+read_meanwhile() {
+    games_of 1 > games.journal
+    cp games.journal games.ledger
+    mkfifo pipe
+    "$PROGRAM" games games.journal games.ledger pipe > printed 2> told &
+    reader=$!
+    trap 'kill -9 "$reader" 2> /dev/null || true' EXIT
+    holds awaits has_open "$reader" "$place/games.ledger"
+    for option in --journal --ledger; do
+        holds collects 0 "$book" "$work/games" "$option" "games.${option#--}"
         holds is_new "$book"
-        holds cmp .book.bin.pbook-0 "$table"
-        holds end 0
     done
+    games_of 2 > pipe
+    holds wait "$reader"
+    trap - EXIT
+    holds test ! -s told
+    holds test "$(tail -n 1 printed)" = "$(games_of 2)"
 }
 
 # The draft of FILE, too, could take the name of another file of the run.
@@ -535,7 +552,7 @@ changed_ledger() {
 if [ $# -eq 0 ]; then
     choose true '' held_journal held_ledger held_new_ledger left_draft table_like_draft \
         ledger_like_draft journal_like_draft table_like_ledger_draft input_like_draft \
-        output_like_draft table_of_another book_is_held kept_is_output closed_input closed_output \
+        output_like_draft table_of_another read_meanwhile book_is_held kept_is_output closed_input closed_output \
         closed_both unread_input changed_journals journal_gone_at_end changed_ledger
     choose 'has flock' 'flock is wanted' held_draft
     choose can_trace 'strace is wanted' new_ledger_under_way two_drafts left_draft_replaced \

@@ -23,7 +23,7 @@ pub use file_journal::FileJournal;
 pub use journal_file::JournalFile;
 pub use journal_guard::{Guarded, JournalGuard};
 pub use journal_sink::{JournalSink, SYNCED, WRITTEN};
-pub use reading::open;
+pub use reading::{open, open_locked};
 pub use replies::{Replies, Submissions};
 pub use starting::{Started, start_journal, whole_reader};
 pub use stop::Stop;

@@ -46,10 +46,9 @@ impl SystemFile {
         SystemFile { file, path, notes }
     }
 
-    /// Opens a pipe or a device, to be read. The lock keeps runs from taking it for a draft.
+    /// Opens a pipe or a device, to be read. No run takes it for a draft.
     pub(crate) fn open_stream(rt: &HostRuntime, path: &str) -> io::Result<SystemFile> {
         let file = File::open(rt, path)?;
-        let _ = file.try_lock_shared();
         let notes = FileNotes::opened(Entry::Target, false);
         Ok(SystemFile::new(file, None, notes))
     }

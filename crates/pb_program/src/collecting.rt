@@ -4,13 +4,13 @@ ghost use Rattle.std.specs.Prelude.{◌≡◌, [], IfOk};
 ghost use Rattle.pb_files.specs.JournalSink.{syncs};
 ghost use Rattle.pb_program.specs.Ordered.{is_synced};
 
-use crate::command::{FileSource, input, source};
+use crate::command::{FileSource, input};
 use crate::ordered;
 use crate::outcome::tell_made;
 use pb_cli::{CollectOrder, Ends, Fault, JournalEnds, Keeping, LedgerEnds, Made, NoBook, Watcher};
 use pb_files::{
     FileJournal, JournalFile, JournalGuard, JournalSink, Replies, SYNCED, Started, Stop,
-    Submissions, WRITTEN, keep_apart, start_journal,
+    Submissions, WRITTEN, keep_apart, open_locked, start_journal,
 };
 use pb_folder::{Folder, KeptFile, SavedLedger, System, book_store};
 use pb_io::{FromRead, Sink, Source, ToWrite};
@@ -29,13 +29,18 @@ pub(crate) fn collect<'a>(
     let progress = Progress::new(messages, true);
     let path = kept_apart(messages, order)?;
     let mut ends = Ends {
-        table: source(messages, order.table)?,
+        table: locked_table(messages, order.table)?,
         lines: Submissions::new(input(messages), &output, &progress),
         replies: ToWrite::new(Replies(&output)),
         watcher: Watching::new(&progress, path),
     };
     let made = run(messages, guard, order, &mut ends)?;
     Ok(tell_made(&progress, made, order.table, path, Some(order.book)))
+}
+
+fn locked_table<'a>(messages: Messages<'a>, name: &'a str) -> Result<FileSource<'a>, Stop> {
+    let named = Named::new(messages, name);
+    Ok(FromRead::new(Told::new(named, open_locked(named)?)))
 }
 
 /// A saved ledger is made anew after the run and before the book.
