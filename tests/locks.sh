@@ -192,6 +192,17 @@ table_of_another() {
     holds end 0
 }
 
+# FILE is opened by a link of the system that leads nowhere any more. Its file has no name, and no
+# other run holds it.
+nameless_file() {
+    exec 9<> gone
+    rm gone
+    for option in --journal --ledger; do
+        holds is_refused '/dev/fd/9: no such file or directory' "$option" /dev/fd/9
+    done
+    exec 9>&-
+}
+
 # What a command only reads may become the FILE of a collector that starts meanwhile. The command
 # has opened both, and waits for a pipe.
 read_meanwhile() {
@@ -552,7 +563,7 @@ changed_ledger() {
 if [ $# -eq 0 ]; then
     choose true '' held_journal held_ledger held_new_ledger left_draft table_like_draft \
         ledger_like_draft journal_like_draft table_like_ledger_draft input_like_draft \
-        output_like_draft table_of_another read_meanwhile book_is_held kept_is_output closed_input closed_output \
+        output_like_draft table_of_another read_meanwhile nameless_file book_is_held kept_is_output closed_input closed_output \
         closed_both unread_input changed_journals journal_gone_at_end changed_ledger
     choose 'has flock' 'flock is wanted' held_draft
     choose can_trace 'strace is wanted' new_ledger_under_way two_drafts left_draft_replaced \

@@ -38,7 +38,10 @@ pub fn hold<F: Folder>(folder: &mut F, label: &Label<'_>) -> Result<Opened<F::Fi
             Lock::Held | Lock::Unsupported => {}
             Lock::InUse => break,
         }
-        if folder.follow().is_ok() && folder.is_named(&mut file) {
+        if let Err(error) = folder.follow() {
+            return Err(label.fail(Left::All, &error));
+        }
+        if folder.is_named(&mut file) {
             // Another run may have added to it before.
             return match folder.tell(&mut file) {
                 Ok(status) => Ok(Opened { file, status }),
