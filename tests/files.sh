@@ -309,6 +309,43 @@ device_faults() {
     where flock:error=ENOLCK 0 is_new
 }
 
+# unremoved ERROR STATUS [OPTION..]: no draft can be removed, which fails so. A run that has none to
+# rename ends with this status.
+unremoved() {
+    error=$1 due=$2 status=0
+    shift 2
+    with_old
+    strace -f -o /dev/null -e trace=unlink,rename -e "inject=unlink:error=$error" \
+        -e inject=rename:error=EIO "$PROGRAM" collect "$@" "$table" "$book" \
+        < "$work/games" > "$work/replies" 2> told || status=$?
+    holds test "$status" -eq "$due"
+    holds is_old "$book"
+}
+
+# That a draft of this run stays is told, also of the one by which FILE is tried, but not where it
+# is gone, of a draft of another run, or with -q.
+draft_stays() {
+    fault="pbook: $book: input/output error; the old book is unchanged"
+    stays="pbook: $place/.book.bin.pbook-%s can't be removed: operation not permitted\n"
+    unremoved EPERM 3
+    # shellcheck disable=SC2059 # the format is the text
+    { echo "$fault" && printf "$stays" 0; } > due
+    holds cmp told due
+    unremoved EPERM 3
+    # shellcheck disable=SC2059
+    { echo "$fault" && printf "$stays" 1; } > due
+    holds cmp told due
+    unremoved EPERM 3 -q
+    echo "$fault" > due
+    holds cmp told due
+    rm .book.bin.pbook-*
+    unremoved ENOENT 3
+    holds cmp told due
+    : > kept
+    unremoved EPERM 3 --ledger "$place/kept"
+    holds grep -qx "pbook: $place/.kept.pbook-0 can't be removed: operation not permitted" told
+}
+
 # BOOK is opened at first and can't be at the end, where the system has no room for one more open
 # file. That is a fault, and nothing is written in place.
 full_of_files() {
@@ -939,7 +976,7 @@ if [ $# -eq 0 ]; then
         ledger_of_long_name ledger_without_book rules two_journals
     choose 'test -c /dev/full' '/dev/full is wanted' torn_at_full_output
     choose 'has flock' 'flock is wanted' draft_in_use live_journal
-    choose can_trace 'strace is wanted' device_faults full_of_files unset_mode \
+    choose can_trace 'strace is wanted' device_faults draft_stays full_of_files unset_mode \
         unopened_folder killed_behind_links
     choose can_be_other 'setpriv is wanted' no_permission folder_without_drafts unread_folder \
         closed_ledger ledger_without_drafts

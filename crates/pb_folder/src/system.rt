@@ -11,7 +11,7 @@ use crate::notes::FileNotes;
 use crate::place::Place;
 use crate::status::{Status, is_one_file};
 use crate::system_file::SystemFile;
-use pb_messages::{Left, Messages, Named, Part};
+use pb_messages::{Cause, Left, Message, Messages, Named, Part};
 use std::fs::{self, File, OpenOptions};
 use std::io::{self, ErrorKind};
 use std::os::unix::fs::OpenOptionsExt;
@@ -257,10 +257,16 @@ impl<'a> Folder for System<'a> {
     }
 
     fn remove(&mut self, draft: SystemFile) {
-        if let Some(path) = draft.path() {
-            let _ = fs::remove_file(self.messages.rt, path);
+        let is_own = draft.notes.is_made();
+        if let Some(path) = draft.path()
+            && let Err(error) = fs::remove_file(self.messages.rt, path)
+            && is_own
+            && error.kind() != ErrorKind::NotFound
+        {
+            let message = Message::NotRemoved(path, Cause::of(&error));
+            self.messages.warn(&message);
         }
-        if draft.notes.is_made() {
+        if is_own {
             self.drafts = self.drafts.saturating_sub(1);
         }
     }

@@ -119,6 +119,9 @@ pub enum Message<'m> {
     CannotBeMade(&'m str, Cause),
     #[error("{0} can't be replaced by a new ledger: {1}")]
     CannotBeReplaced(&'m str, Unreplaceable),
+    /// Of a draft of this run.
+    #[error("{0} can't be removed: {1}")]
+    NotRemoved(&'m str, Cause),
     #[error("{0}: {1}")]
     Changed(&'m str, Change),
     #[error("{}: a {} has to be an ordinary file", .0, .1.noun())]
