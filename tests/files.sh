@@ -94,6 +94,18 @@ pipe() {
     holds test -p pipe
 }
 
+# The reader of a pipe leaves it, before the book is written that doesn't fit into it. The run has
+# no end of it to read.
+closed_pipe() {
+    mkfifo pipe
+    long_games 40 > lines
+    (: < pipe) &
+    runner="timeout $patience"
+    holds collects 3 "$place/pipe" lines
+    holds tells "$place/pipe: broken pipe"
+    wait
+}
+
 standard_output() {
     "$PROGRAM" collect "$table" /dev/stdout < "$work/games" > output 2> errors
     holds is_new output
@@ -168,6 +180,22 @@ no_permission() {
     runner=as_other
     holds stops_unread "$book" "$book"
     holds is_old "$book"
+    holds no_draft
+}
+
+# A BOOK that its user may write and not read is made anew all the same.
+unreadable_book() {
+    with_old
+    ! is_root || chown 65534:65534 "$book"
+    chmod 200 "$book"
+    chmod 777 "$place"
+    before=$(node "$book")
+    runner=as_other
+    holds collects 0 "$book"
+    holds has_mode 200 "$book"
+    holds not has_node "$before" "$book"
+    chmod 644 "$book"
+    holds is_new "$book"
     holds no_draft
 }
 
@@ -968,8 +996,8 @@ killed_behind_links() {
 }
 
 if [ $# -eq 0 ]; then
-    choose true '' new_book here old_book full_device null_device pipe standard_output symlink \
-        dangling_symlink hard_link linked_hard_link folder missing_folder no_name long_name \
+    choose true '' new_book here old_book full_device null_device pipe closed_pipe \
+        standard_output symlink dangling_symlink hard_link linked_hard_link folder missing_folder no_name long_name \
         own_umask all_names_taken no_book_made limit draft_left draft_is_a_link \
         draft_has_another_name special_journal side_by_side cut_in_three old_list one_file \
         broken_ledger cut_ledger missing_ledger linked_ledger ledger_of_two_names \
@@ -978,8 +1006,8 @@ if [ $# -eq 0 ]; then
     choose 'has flock' 'flock is wanted' draft_in_use live_journal
     choose can_trace 'strace is wanted' device_faults draft_stays full_of_files unset_mode \
         unopened_folder killed_behind_links
-    choose can_be_other 'setpriv is wanted' no_permission folder_without_drafts unread_folder \
-        closed_ledger ledger_without_drafts
+    choose can_be_other 'setpriv is wanted' no_permission unreadable_book \
+        folder_without_drafts unread_folder closed_ledger ledger_without_drafts
     choose can_own 'root and setpriv are wanted' other_owner other_group ledger_of_another
     choose can_mount 'nothing can be mounted' full_disk full_of_names mount_point \
         full_disk_of_ledger mounted_ledger

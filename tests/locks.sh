@@ -8,6 +8,7 @@
 # none is given).
 set -eu
 PROGRAM=${PROGRAM:-build/pbook}
+source=$PWD
 . tests/lib/harness.sh
 . tests/lib/places.sh
 . tests/lib/collector.sh
@@ -276,6 +277,34 @@ book_is_held() {
     holds end 0
     { echo 'pbook-ledger 1' && games_of 1; } > whole
     holds cmp whole games.ledger
+    holds no_draft
+}
+
+# with_locks HOW COMMAND..: runs the command with locks as tests/fail_io.c makes them so
+with_locks() {
+    [ -e "$work/locks.so" ] ||
+        cc -std=c11 -O1 -Wall -Wextra -shared -fPIC -o "$work/locks.so" "$source/tests/fail_io.c"
+    how=$1
+    shift
+    LOCKS=$how LD_PRELOAD=$work/locks.so "$@"
+}
+
+# So does one over a network, where a shared lock is for files alone that are open to be read, and a
+# BOOK that nobody holds is made there.
+book_over_network() {
+    games_of 1 > games.journal
+    cp games.journal before
+    begin "$PROGRAM" collect --journal games.journal "$table" "$book"
+    runner='with_locks network'
+    holds collects 3 games.journal
+    holds says 'fault open'
+    holds tells 'games.journal is in use by another run'
+    holds cmp games.journal before
+    with_old
+    holds collects 0 "$book"
+    holds is_new "$book"
+    runner=
+    holds end 0
     holds no_draft
 }
 
@@ -563,9 +592,11 @@ changed_ledger() {
 if [ $# -eq 0 ]; then
     choose true '' held_journal held_ledger held_new_ledger left_draft table_like_draft \
         ledger_like_draft journal_like_draft table_like_ledger_draft input_like_draft \
-        output_like_draft table_of_another read_meanwhile nameless_file book_is_held kept_is_output closed_input closed_output \
-        closed_both unread_input changed_journals journal_gone_at_end changed_ledger
+        output_like_draft table_of_another read_meanwhile nameless_file book_is_held \
+        kept_is_output closed_input closed_output closed_both unread_input changed_journals \
+        journal_gone_at_end changed_ledger
     choose 'has flock' 'flock is wanted' held_draft
+    choose 'has cc' 'cc is wanted' book_over_network
     choose can_trace 'strace is wanted' new_ledger_under_way two_drafts left_draft_replaced \
         waiting_replies replaced_when_reopened
     choose can_be_other 'setpriv is wanted' unwritable_ledger unwritable_book

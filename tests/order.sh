@@ -273,6 +273,7 @@ open games.ledger rw
 open .games.ledger.pbook-0 new 0600
 fchmod .games.ledger.pbook-0 0100640
 unlink .games.ledger.pbook-0
+open book.bin rw
 read games
 read games
 open .games.ledger.pbook-0 new 0600
@@ -280,6 +281,7 @@ fchmod .games.ledger.pbook-0 0100640
 fsync .games.ledger.pbook-0
 rename .games.ledger.pbook-0 to games.ledger
 fsync .
+open book.bin rw
 open .book.bin.pbook-0 new 0600
 fchmod .book.bin.pbook-0 0100644
 fsync .book.bin.pbook-0

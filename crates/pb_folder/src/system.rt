@@ -108,6 +108,24 @@ impl<'a> System<'a> {
         Ok(SystemFile::new(file, Some(path), notes))
     }
 
+    /// Opens the file of the name, an ordinary one of a book to be read too where it may be: over a
+    /// network a shared lock is for such files alone. A pipe that is open for both never breaks,
+    /// since the run that writes it could read it.
+    fn open_target(&self) -> io::Result<File> {
+        let rt = self.messages.rt;
+        let mut options = OpenOptions::new();
+        options.write(true).append(self.is_journal());
+        let is_book = matches!(self.part, Part::Book);
+        if is_book && fs::metadata(rt, self.path).is_ok_and(|told| told.is_file()) {
+            match options.read(true).open(rt, self.path) {
+                Ok(file) if file.metadata()?.is_file() => return Ok(file),
+                Err(error) if error.kind() != ErrorKind::PermissionDenied => return Err(error),
+                _ => {}
+            }
+        }
+        options.read(self.is_read).open(rt, self.path)
+    }
+
     fn named(&self, left: Left) -> Named<'a> {
         Named {
             messages: self.messages,
@@ -167,12 +185,7 @@ impl<'a> Folder for System<'a> {
         if let Entry::Draft(number) = entry {
             return self.open_draft(number);
         }
-        let mut options = OpenOptions::new();
-        options
-            .read(self.is_read)
-            .write(true)
-            .append(self.is_journal());
-        let file = options.open(self.messages.rt, self.path)?;
+        let file = self.open_target()?;
         let notes = FileNotes::opened(Entry::Target, self.is_journal());
         Ok(SystemFile::new(file, None, notes))
     }
