@@ -308,6 +308,38 @@ book_over_network() {
     holds no_draft
 }
 
+# A run that can't know whether another one holds its FILE or BOOK doesn't go on; it does where there
+# are no locks, and after a signal. 5 is EIO, 22 EINVAL, 37 ENOLCK, 38 ENOSYS, 95 EOPNOTSUPP.
+failed_locks() {
+    games_of 1 > games.journal
+    cp games.journal before
+    runner='with_locks 5'
+    for option in --journal --ledger; do
+        holds is_refused 'games.journal: input/output error' "$option" games.journal
+        holds cmp games.journal before
+    done
+    with_old
+    holds collects 3 "$book"
+    holds says 'fault open'
+    holds tells "$book: input/output error; the old book is unchanged"
+    holds is_old "$book"
+    holds collects 3 "$place/new.bin"
+    holds says 'fault open'
+    holds tells "$place/new.bin: input/output error; there is no book"
+    holds not test -e new.bin
+    for error in 22 37 38 95; do
+        runner="with_locks $error"
+        with_old
+        holds collects 0 "$book" "$work/games" --journal games.journal
+        holds is_new "$book"
+        cp before games.journal
+        with_old
+        holds collects 0 "$book" "$work/games" --ledger games.journal
+        holds is_new "$book"
+        cp before games.journal
+    done
+}
+
 # with_kept OPTION: the file of this option, `kept`, has the first games, and a copy is `before`;
 # BOOK is an old one
 with_kept() {
@@ -596,7 +628,7 @@ if [ $# -eq 0 ]; then
         kept_is_output closed_input closed_output closed_both unread_input changed_journals \
         journal_gone_at_end changed_ledger
     choose 'has flock' 'flock is wanted' held_draft
-    choose 'has cc' 'cc is wanted' book_over_network
+    choose 'has cc' 'cc is wanted' book_over_network failed_locks
     choose can_trace 'strace is wanted' new_ledger_under_way two_drafts left_draft_replaced \
         waiting_replies replaced_when_reopened
     choose can_be_other 'setpriv is wanted' unwritable_ledger unwritable_book

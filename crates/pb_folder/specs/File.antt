@@ -8,7 +8,7 @@ use Rattle.pb_folder.specs.declared.folder.Entry.TheVariants.{Target, Draft}
 use Rattle.pb_folder.specs.declared.folder.Hold.{Hold}
 use Rattle.pb_folder.specs.declared.folder.Hold.TheVariants.{Nothing, Shared, Alone, Unlockable}
 use Rattle.pb_folder.specs.declared.folder.Lock.{Lock}
-use Rattle.pb_folder.specs.declared.folder.Lock.TheVariants.{Held, InUse, Unsupported}
+use Rattle.pb_folder.specs.declared.folder.Lock.TheVariants.{Held, InUse, Unsupported, Failed}
 use Rattle.pb_folder.specs.declared.folder.Seen.{Seen}
 use Rattle.pb_folder.specs.declared.status.Status.{Status}
 use Rattle.pb_messages.specs.declared.message.Unreplaceable.{Unreplaceable}
@@ -95,6 +95,7 @@ abbrev pub hold_by : Hold → Lock → Hold
 hold_by hold Held = hold
 hold_by hold InUse = Nothing
 hold_by hold Unsupported = Unlockable
+hold_by hold (Failed error) = Nothing
 
 -- Whether the entry leads to the file is known only once that was locked.
 abbrev pub locked : Hold → Lock → FileState → FileState

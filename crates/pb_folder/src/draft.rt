@@ -25,7 +25,7 @@ pub fn remove_left_over<F: Folder>(folder: &mut F, number: u32)
     };
     match folder.lock(&mut file) {
         Lock::Held => {}
-        Lock::InUse | Lock::Unsupported => return,
+        Lock::InUse | Lock::Unsupported | Lock::Failed(_) => return,
     }
     if folder.is_named(&mut file) {
         folder.remove(file);
@@ -77,19 +77,21 @@ pub(crate) fn try_draft<F: Folder>(
         Err(error) if error.kind() == ErrorKind::AlreadyExists => return Ok(None),
         Err(error) => return Err(error),
     };
-    if lock_draft(folder, &mut file, is_ledger) && folder.is_named(&mut file) {
+    let locked = lock_draft(folder, &mut file, is_ledger);
+    if matches!(locked, Ok(true)) && folder.is_named(&mut file) {
         return Ok(Some(file));
     }
     folder.leave(file);
+    locked?;
     Ok(None)
 }
 
 /// Whether no other run has a lock that keeps this one out.
-fn lock_draft<F: Folder>(folder: &F, file: &mut F::File, is_ledger: bool) -> bool
+fn lock_draft<F: Folder>(folder: &F, file: &mut F::File, is_ledger: bool) -> io::Result<bool>
     requires { (F.file file.old).made ≡ true }
-    ensures held { result ≡ true → is_held (F.file file.new).hold ≡ true }
-    ensures alone { result ≡ true → is_ledger ≡ true
-        → is_alone (F.file file.new).hold ≡ true }
+    ensures held { IfOk result (λ ours. ours ≡ true → is_held (F.file file.new).hold ≡ true) }
+    ensures alone { IfOk result (λ ours. ours ≡ true → is_ledger ≡ true
+        → is_alone (F.file file.new).hold ≡ true) }
     ensures same { F.file file.new ≡ record (F.file file.old) {
       hold = (F.file file.new).hold;
       named = false;
@@ -100,7 +102,11 @@ fn lock_draft<F: Folder>(folder: &F, file: &mut F::File, is_ledger: bool) -> boo
     } else {
         folder.lock_shared(file)
     };
-    !matches!(lock, Lock::InUse)
+    match lock {
+        Lock::Held | Lock::Unsupported => Ok(true),
+        Lock::InUse => Ok(false),
+        Lock::Failed(error) => Err(io::Error::from_raw_os_error(error)),
+    }
 }
 
 /// Gives the draft the mode of a file of this status, or answers why it can't take its place.

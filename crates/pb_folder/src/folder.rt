@@ -36,6 +36,8 @@ pub enum Lock {
     InUse,
     /// The file system has no locks: it is left to the user to start one run alone.
     Unsupported,
+    /// By this error of the system it isn't known whether another run has one.
+    Failed(i32),
 }
 
 /// Says which lock a run has of an open file.

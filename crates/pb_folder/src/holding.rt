@@ -37,6 +37,7 @@ pub fn hold<F: Folder>(folder: &mut F, label: &Label<'_>) -> Result<Opened<F::Fi
         match folder.lock(&mut file) {
             Lock::Held | Lock::Unsupported => {}
             Lock::InUse => break,
+            Lock::Failed(error) => return Err(label.fail_lock(Left::All, error)),
         }
         if let Err(error) = folder.follow() {
             return Err(label.fail(Left::All, &error));

@@ -31,4 +31,9 @@ impl<'a> Label<'a> {
         self.named(left).fail(error);
         StoreError::Open
     }
+
+    /// Tells that a lock failed by this error of the system.
+    pub fn fail_lock(&self, left: Left, error: i32) -> StoreError {
+        self.fail(left, &io::Error::from_raw_os_error(error))
+    }
 }

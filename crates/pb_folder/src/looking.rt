@@ -153,6 +153,7 @@ fn expect_free<F: Folder>(
             label.messages.tell(&Message::InUse(label.path));
             Err(StoreError::Open)
         }
+        Lock::Failed(error) => Err(label.fail_lock(Left::Old(label.part), error)),
     }
 }
 

@@ -109,7 +109,7 @@ impl FileNotes {
         self.named = false;
         self.hold = match lock {
             Lock::Held => hold,
-            Lock::InUse => Hold::Nothing,
+            Lock::InUse | Lock::Failed(_) => Hold::Nothing,
             Lock::Unsupported => Hold::Unlockable,
         };
     }

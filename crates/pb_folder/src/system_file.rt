@@ -19,6 +19,12 @@ use std::path::PathBuf;
 /// How often a write is tried that a signal interrupts.
 const TRIES: u32 = 100;
 
+/// ENOLCK.
+const NO_LOCKS: i32 = 37;
+
+/// EIO.
+const DEVICE_FAULT: i32 = 5;
+
 /// How many bytes are written over themselves at a time.
 const PIECE: usize = 16_384;
 
@@ -247,6 +253,18 @@ fn lock_by(locked: Result<(), TryLockError>) -> Lock {
     match locked {
         Ok(()) => Lock::Held,
         Err(TryLockError::WouldBlock) => Lock::InUse,
-        Err(TryLockError::Error(_)) => Lock::Unsupported,
+        Err(TryLockError::Error(error)) if has_no_locks(&error) => Lock::Unsupported,
+        Err(TryLockError::Error(error)) => Lock::Failed(
+            error.raw_os_error().unwrap_or(DEVICE_FAULT),
+        ),
     }
+}
+
+/// Whether the error of a lock says that the file system has none.
+fn has_no_locks(error: &io::Error) -> bool {
+    error.raw_os_error() == Some(NO_LOCKS)
+        || matches!(
+            error.kind(),
+            ErrorKind::Unsupported | ErrorKind::InvalidInput
+        )
 }
