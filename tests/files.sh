@@ -997,8 +997,8 @@ killed_behind_links() {
 
 if [ $# -eq 0 ]; then
     choose true '' new_book here old_book full_device null_device pipe closed_pipe \
-        standard_output symlink dangling_symlink hard_link linked_hard_link folder missing_folder no_name long_name \
-        own_umask all_names_taken no_book_made limit draft_left draft_is_a_link \
+        standard_output symlink dangling_symlink hard_link linked_hard_link folder \
+        missing_folder no_name long_name own_umask all_names_taken no_book_made limit draft_left draft_is_a_link \
         draft_has_another_name special_journal side_by_side cut_in_three old_list one_file \
         broken_ledger cut_ledger missing_ledger linked_ledger ledger_of_two_names \
         ledger_of_long_name ledger_without_book rules two_journals

@@ -308,8 +308,8 @@ book_over_network() {
     holds no_draft
 }
 
-# A run that can't know whether another one holds its FILE or BOOK doesn't go on; it does where there
-# are no locks, and after a signal. 5 is EIO, 22 EINVAL, 37 ENOLCK, 38 ENOSYS, 95 EOPNOTSUPP.
+# A run that can't know whether another one holds its FILE or BOOK doesn't go on. It does where
+# there are no locks. 5 is EIO, 22 EINVAL, 37 ENOLCK, 38 ENOSYS, 95 EOPNOTSUPP.
 failed_locks() {
     games_of 1 > games.journal
     cp games.journal before
@@ -378,6 +378,30 @@ kept_is_output() {
         holds stops "$option" "the $option is standard output"
         holds test ! -s kept
     done
+}
+
+# Nor is BOOK or FILE made of the file that the games come from, by whatever names.
+written_is_input() {
+    for option in journal ledger; do
+        with_kept "$option"
+        holds collects 3 "$book" kept "--$option" kept
+        holds says_only 'fault open'
+        holds tells "the $option is standard input"
+        holds cmp kept before
+        holds is_old "$book"
+    done
+    cp "$work/games" games
+    ln games second
+    ln -s games link
+    for name in games second link /dev/stdin; do
+        holds collects 3 "$name" games
+        holds says_only 'fault open'
+        holds tells 'BOOK is standard input'
+        holds cmp games "$work/games"
+    done
+    holds test -L link
+    holds collects 0 /dev/null /dev/null
+    holds no_draft
 }
 
 # each_input_run TRY: calls TRY with the words of each command that reads standard input
@@ -625,8 +649,8 @@ if [ $# -eq 0 ]; then
     choose true '' held_journal held_ledger held_new_ledger left_draft table_like_draft \
         ledger_like_draft journal_like_draft table_like_ledger_draft input_like_draft \
         output_like_draft table_of_another read_meanwhile nameless_file book_is_held \
-        kept_is_output closed_input closed_output closed_both unread_input changed_journals \
-        journal_gone_at_end changed_ledger
+        kept_is_output written_is_input closed_input closed_output closed_both unread_input \
+        changed_journals journal_gone_at_end changed_ledger
     choose 'has flock' 'flock is wanted' held_draft
     choose 'has cc' 'cc is wanted' book_over_network failed_locks
     choose can_trace 'strace is wanted' new_ledger_under_way two_drafts left_draft_replaced \

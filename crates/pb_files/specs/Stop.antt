@@ -27,4 +27,5 @@ stop_of_book (NoBook.Keep why) = stop_of_store why
 -- the files can't be those of one run
 abbrev pub stop_of_clash : Clash → Stop
 stop_of_clash (Clash.OneFile one other) = Stop.NotOpened
+stop_of_clash (Clash.IsInput part) = Stop.NotOpened
 stop_of_clash (Clash.IsOutput part) = Stop.Fault Fault.Write

@@ -2,7 +2,7 @@
 
 ghost use Rattle.std.specs.Prelude.{◌≡◌, ◌≢◌, ℕ, All, AllPairs, IfNone, IfSome, List};
 ghost use Rattle.std.specs.Prelude.{false, true, ⊤};
-ghost use Rattle.pb_files.specs.Apart.{Clashes, IsAmong, output};
+ghost use Rattle.pb_files.specs.Apart.{Clashes, IsAmong, input, is_written, output};
 ghost use Rattle.pb_messages.specs.declared.part.Part.TheVariants.{Book};
 
 use crate::stop::Stop;
@@ -10,7 +10,10 @@ use pb_folder::is_one_file;
 use pb_messages::{Messages, Part};
 use thiserror::Error;
 
-/// Where the file of standard output is found.
+/// Where the file of standard input is found.
+const INPUT: &str = "/dev/stdin";
+
+/// Where that of standard output is.
 const OUTPUT: &str = "/dev/stdout";
 
 /// Knows which paths lead to one file.
@@ -37,19 +40,28 @@ pub enum Clash {
     /// no line can tell of it there.
     #[error("{0} is standard output")]
     IsOutput(Part),
+    /// A file that is written is standard input: its games would be gone once it is made anew.
+    #[error("{0} is standard input")]
+    IsInput(Part),
 }
 
-/// Finds two of these paths that lead to one file, or one that is read and is standard output.
+/// Finds two of these paths that lead to one file, or one that is read and is standard output, or
+/// one that is written and is standard input.
 pub fn clash_among<P: Places>(places: &P, files: &[(Part, &str)]) -> Option<Clash>
     ensures apart { IfNone result
         (AllPairs (λ a b. P.apart places.now a.1.now b.1.now) files.now) }
     ensures no_output { IfNone result (All (λ file. file.0 ≢ Book
         → P.apart places.now file.1.now output) files.now) }
+    ensures no_input { IfNone result (All (λ file. is_written file.0 ≡ true
+        → P.apart places.now file.1.now input) files.now) }
     ensures clash { IfSome result (Clashes (P.one places.now) files.now) }
 {
     let ((part, path), rest) = files.split_first()?;
     if !matches!(part, Part::Book) && places.are_one(path, OUTPUT) {
         return Some(Clash::IsOutput(*part));
+    }
+    if !matches!(part, Part::Table | Part::Games) && places.are_one(path, INPUT) {
+        return Some(Clash::IsInput(*part));
     }
     if let Some(other) = same_among(places, path, rest) {
         return Some(Clash::OneFile { one: *part, other });

@@ -67,7 +67,7 @@ impl From<Clash> for Stop {
 
     fn from(clash: Clash) -> Stop {
         match clash {
-            Clash::OneFile { .. } => Stop::NotOpened,
+            Clash::OneFile { .. } | Clash::IsInput(_) => Stop::NotOpened,
             Clash::IsOutput(_) => Stop::Fault(Fault::Write),
         }
     }
