@@ -335,6 +335,8 @@ device_faults() {
     where fsync:error=EINVAL:when=2 0 is_new
     where rename:error=EBUSY 0 is_new
     where flock:error=ENOLCK 0 is_new
+    # A signal interrupts the lock of BOOK, which is tried again.
+    where flock:error=EINTR:when=2 0 is_new
 }
 
 # unremoved ERROR STATUS [OPTION..]: no draft can be removed, which fails so. A run that has none to
