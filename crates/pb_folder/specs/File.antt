@@ -178,17 +178,19 @@ ToldOfBoth R one other = IsSomeAnd one.status (λ status. IsSomeAnd other.status
 abbrev pub MayReplace : Bool → FileState → Type 0
 MayReplace ledger s = HasName s × (ledger ≡ false → is_held s.hold ≡ true)
 
--- this draft can
-abbrev pub CanReplace : Bool → FileState → FileState → Type 0
-CanReplace ledger old draft = MayReplace ledger old × ToldOfBoth TakesAfter old draft
-
 -- an ordinary file of one name
 abbrev pub IsPlain : Status → Type 0
 IsPlain status = (status.is_file ≡ true) × (status.names ≤ 1)
 
+-- this draft can, and the old one is such a file
+abbrev pub CanReplace : Bool → FileState → FileState → Type 0
+CanReplace ledger old draft = MayReplace ledger old × IsSomeAnd old.status IsPlain
+    × ToldOfBoth TakesAfter old draft
+
 -- what stands under the name, which a draft may replace as far as that is known before there is one
 abbrev pub IsOld : Bool → Status → FileState → Type 0
-IsOld ledger status s = MayReplace ledger s × (s.status ≡ Some status) × IsUntouched s
+IsOld ledger status s =
+    MayReplace ledger s × (s.status ≡ Some status) × IsPlain status × IsUntouched s
 
 -- both tell of one ordinary file
 abbrev pub IsOfOne : Status → Status → Type 0

@@ -2,7 +2,7 @@
 
 ghost use Rattle.std.specs.Prelude.{◌≡◌, ◌≤◌, IfErr, IfOk, IfSome, IsNone, OnOk, false, true};
 ghost use Rattle.std.specs.Option.{is_some, option_map};
-ghost use Rattle.pb_folder.specs.File.{IsHolder, IsOfHolder, IsOfOne, IsOld, IsPlain, IsUntouched};
+ghost use Rattle.pb_folder.specs.File.{IsHolder, IsOfHolder, IsOfOne, IsOld, IsUntouched};
 ghost use Rattle.pb_folder.specs.File.{MayEmpty, ToldOfBoth, is_held};
 ghost use Rattle.pb_folder.specs.Parts.{is_ledger};
 ghost use Rattle.pb_folder.specs.Saving.{IfRefused};
@@ -45,7 +45,6 @@ pub fn look_at<F: Folder>(
     requires holder { IfSome ledger (λ l. IsHolder (F.file l.now.file) l.now.status) }
     ensures old { IfOk result (λ old. IfSome old (λ o.
         IsOld (is_ledger (F.part folder.new)) o.status (F.file o.file))) }
-    ensures plain { IfOk result (λ old. IfSome old (λ o. IsPlain o.status)) }
     ensures free { IfOk result (λ old. is_some old ≡ false → F.free folder.new ≡ true) }
     ensures held { IfOk result (λ old. is_ledger (F.part folder.new) ≡ true
         → IsOfHolder (option_map (λ l. F.file l.now.file) ledger.entry)
@@ -91,7 +90,6 @@ fn look_at_file<F: Folder>(
     requires untouched { IsUntouched (F.file file) }
     ensures old { IfOk result (λ old. IfSome old (λ o.
         IsOld (is_ledger (F.part folder.new)) o.status (F.file o.file))) }
-    ensures plain { IfOk result (λ old. IfSome old (λ o. IsPlain o.status)) }
     ensures some { IfOk result (λ old. is_some old ≡ true) }
     ensures held { IfOk result (λ old. is_ledger (F.part folder.new) ≡ true
         → IsOfHolder (option_map (λ l. F.file l.now.file) ledger.entry)
