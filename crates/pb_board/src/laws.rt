@@ -15,6 +15,7 @@ ghost use Rattle.pb_board.specs.declared.setup.Rights.{Rights};
 
 use crate::fen::Fen;
 use crate::piece::{Colour, Kind, Piece};
+use crate::refusal::FenError;
 use crate::setup::{Rights, Setup};
 use crate::square::Square;
 
@@ -56,6 +57,11 @@ pub fn equal_pieces()
     ensures colours { (a b : Colour) → Decides (⟦<Colour as PartialEq>⟧.eq a b) (a ≡ b) }
     ensures kinds { (a b : Kind) → Decides (⟦<Kind as PartialEq>⟧.eq a b) (a ≡ b) }
     ensures pieces { (a b : Piece) → Decides (⟦<Piece as PartialEq>⟧.eq a b) (a ≡ b) }
+{}
+
+/// Refusals are equal exactly where they are the same.
+pub fn equal_errors()
+    ensures { (d e : FenError) → Decides (⟦<FenError as PartialEq>⟧.eq d e) (d ≡ e) }
 {}
 
 /// The initial array before the first move is a record, and has the text that players know.

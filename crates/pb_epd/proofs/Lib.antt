@@ -11,5 +11,6 @@ pub mod Writing
 pub mod Reader
 pub mod Groups
 pub mod Texts
+pub mod OneRefused
 pub mod Order
 pub mod Forms

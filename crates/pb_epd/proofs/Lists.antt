@@ -1,10 +1,11 @@
 -- What a list contains, and what holds of its pairs.
-use Rattle.std.proofs.Common.{◌≡◌, ℕ, zero, suc, ◌<◌, ◌⊎◌, List, [], ◌∷◌, ◌++◌, length, get_or, refl, ap, ◌∙◌, subst, inl, inr, arith}
+use Rattle.std.proofs.Common.{◌≡◌, ℕ, zero, suc, ◌<◌, ◌⊎◌, List, [], ◌∷◌, ◌++◌, length, get_or, take, refl, ap, ◌∙◌, subst, inl, inr, arith}
 use Rattle.std.specs.Prelude.{All, AllPairs, Contains, map}
+use Rattle.std.proofs.Math.Seq.{take-append_seam}
 use Rattle.std.proofs.lemmas.List.{get_or-take, length-take}
 use Rattle.std.proofs.lemmas.List.Elements.{Contains-get_or}
 use Rattle.pb_board.specs.Refusal.{BreaksAt}
-use Rattle.pb_board.proofs.Breaks.{all_middle}
+use Rattle.pb_board.proofs.Breaks.{KeepsFronts, all_middle, one_break, unbroken}
 
 module _ {A : Type 0} where
   pub contains_head : (x : A) (xs : List A) → Contains (x ∷ xs) x
@@ -78,8 +79,17 @@ module _ {A : Type 0} (R : A → A → Type 0) where
         | inr there ↦ pairs_split front x back y (pairs_tail R w (front ++ x ∷ back) h) there
       ]
 
-  -- a list that keeps the rule breaks it nowhere
-  pub pairs_unbroken : (xs : List A) (n : ℕ) → AllPairs R xs → ¬ BreaksAt (AllPairs R) xs n
-  pairs_unbroken xs n h k = k.1 (λ i j d less lt.
+  pairs_take : (xs : List A) (n : ℕ) → AllPairs R xs → AllPairs R (take n xs)
+  pairs_take xs n h i j d less lt =
       let within : (j < n) × (j < length xs) = (omega (arith, lt, length-take n xs), omega (arith, lt, length-take n xs)) in
-      rw (get_or-take n xs i d (omega (arith, less, within.0)), get_or-take n xs j d within.0) (h i j d less within.1))
+      rw (get_or-take n xs i d (omega (arith, less, within.0)), get_or-take n xs j d within.0) (h i j d less within.1)
+
+  pairs_fronts : KeepsFronts (AllPairs R)
+  pairs_fronts front back h = subst (AllPairs R) (take-append_seam front back) (pairs_take (front ++ back) (length front) h)
+
+  -- a list that keeps the rule breaks it nowhere, and one that breaks it does so at one place
+  pub pairs_unbroken : (xs : List A) (n : ℕ) → AllPairs R xs → ¬ BreaksAt (AllPairs R) xs n
+  pairs_unbroken = unbroken (AllPairs R) pairs_fronts
+
+  pub one_pairs_break : (xs : List A) (m n : ℕ) → BreaksAt (AllPairs R) xs m → BreaksAt (AllPairs R) xs n → m ≡ n
+  one_pairs_break = one_break (AllPairs R) pairs_fronts

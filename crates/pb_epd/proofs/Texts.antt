@@ -1,6 +1,6 @@
 -- The texts of a record, and the one refusal that is due first.
 use Rattle.std.proofs.Common.{◌≡◌, ◌≢◌, ℕ, ◌<◌, List, [], ◌∷◌, ◌++◌, length, refl, sym, ap, subst, ◌∙◌, arith}
-use Rattle.std.specs.Prelude.{All, AllPairs, map, flat_map}
+use Rattle.std.specs.Prelude.{All, AllPairs, Contains, map, flat_map}
 use Rattle.std.specs.List.{slice_split}
 use Rattle.std.proofs.lemmas.List.{append-nil, same_from_push}
 use Rattle.pb_board.specs.Position.{Position, IsSetup}
@@ -13,11 +13,12 @@ use Rattle.pb_board.proofs.Fens.{setup_never_due}
 use Rattle.pb_epd.specs.declared.refusal.EpdError.{EpdError}
 use Rattle.pb_epd.specs.declared.refusal.EpdError.TheVariants as epd
 use Rattle.pb_epd.specs.Token.{Token, word, end_mark, Tokens, TokensAfter, IsBadAt}
-use Rattle.pb_epd.specs.Operation.{operation_tokens}
+use Rattle.pb_epd.specs.Laws.{BareIsFourWords}
+use Rattle.pb_epd.specs.Operation.{Operation, operation_tokens}
 use Rattle.pb_epd.specs.Epd.{EpdRecord, IsEpd, EpdText}
 use Rattle.pb_epd.specs.Refusal.{BeginOtherwise, Cut, IsDueEpd, IsFirstDueEpd, IsNamed, is_end}
 use Rattle.pb_epd.specs.Reading.{HasTokens, FourFollow, AreOperations, AreNamed, IsRefused}
-use Rattle.pb_epd.proofs.Lists.{pairs_unbroken}
+use Rattle.pb_epd.proofs.Lists.{contains_head, contains_none, pairs_unbroken}
 use Rattle.pb_epd.proofs.Dues.{epd_place, first_epd, memory_first}
 use Rattle.pb_epd.proofs.TokenLists.{tokens_one}
 use Rattle.pb_epd.proofs.Bad.{bad_none}
@@ -181,6 +182,17 @@ module _ (e : EpdRecord) (bytes : List ℕ) (lawful : IsEpd e) (h : EpdText e by
 pub text_memory : (e : EpdRecord) (bytes : List ℕ) → IsEpd e → EpdText e bytes → IsFirstDueEpd epd.Memory bytes
 text_memory e bytes lawful h = memory_first bytes (some_cut bytes _ _ _ _ _ h.tokens)
     (e.setup, lawful.setup, refl)
+
+-- ---- the text of a record without operations
+
+none_from_none : (held : List Operation) (operations : List Operation) → ((o : Operation) → Contains operations o → Contains held o) → held ≡ [] → operations ≡ []
+none_from_none held [] there none = refl
+none_from_none held (o ∷ operations) there none = absurd (contains_none o (subst (λ w. Contains w o) none (there o (contains_head o operations))))
+
+pub bare_is_four_words : BareIsFourWords
+bare_is_four_words e bytes h none =
+    let bare = none_from_none e.operations h.operations (λ o. (h.same o).0) none in
+    (setup_fields e.setup, refl, subst (λ w. Tokens (map word (setup_fields e.setup) ++ flat_map operation_tokens w) bytes) bare h.tokens)
 
 -- ---- what the reader answers
 

@@ -1,6 +1,7 @@
 //! Laws of EPD records and their texts.
 
-ghost use Rattle.pb_epd.specs.Laws.{FormIsText, RecordIsOne, BadIsOne, NoneDue};
+ghost use Rattle.pb_epd.specs.Laws.{BadIsOne, BareIsFourWords, FormIsText, NoneDue};
+ghost use Rattle.pb_epd.specs.Laws.{OneRefusal, RecordIsOne};
 
 /// The form of a record is a text of it.
 pub fn form_is_text()
@@ -20,4 +21,14 @@ pub fn one_bad_token()
 /// No refusal but want of memory is due for a text of a record.
 pub fn none_due()
     ensures { NoneDue }
+{}
+
+/// No text is refused in two ways, want of memory aside.
+pub fn one_refusal()
+    ensures { OneRefusal }
+{}
+
+/// A text of a record without operations is four words, so it is read without taking memory.
+pub fn bare_is_four_words()
+    ensures { BareIsFourWords }
 {}

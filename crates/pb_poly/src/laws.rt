@@ -9,6 +9,7 @@ ghost use Rattle.pb_poly.specs.Found.{FoundIsOne};
 ghost use Rattle.pb_poly.specs.Key.{KeyIsOne, KeyIsParity};
 ghost use Rattle.pb_poly.specs.Reading.{Tells};
 ghost use Rattle.pb_poly.specs.declared.entry.Entry.{Entry};
+ghost use Rattle.pb_poly.specs.declared.entry.TheConstants.{ENTRIES_AT_ONCE};
 ghost use Rattle.pb_poly.specs.declared.table.TableError.{TableError};
 ghost use Rattle.pb_poly.specs.declared.table_file.TableFault.{TableFault};
 
@@ -16,6 +17,11 @@ use crate::entry::Entry;
 use crate::table::TableError;
 use crate::table_file::TableFault;
 pub use pb_io::laws::{lines_begin, lines_few, pieces_join};
+
+/// The limit is the number that `write_entries` asks for.
+pub fn limits()
+    ensures { ENTRIES_AT_ONCE ≡ 64 }
+{}
 
 /// No two legal moves share a code.
 pub fn code_is_one()

@@ -1,0 +1,5 @@
+use Rattle.pb_epd.proofs.OneRefused as refused
+use Rattle.pb_epd.proofs.laws.one_refusal.Goals as goal
+
+pub returns : goal.returns
+returns c = refused.one_refusal
