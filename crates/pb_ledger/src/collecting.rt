@@ -1,9 +1,8 @@
 //! Submissions in, replies out.
 
 ghost use Rattle.std.specs.Prelude.{IfErr, IfOk};
-ghost use Rattle.pb_io.specs.LineTask.{IfKnown};
-ghost use Rattle.pb_ledger.specs.Change.{across, between};
-ghost use Rattle.pb_ledger.specs.Collecting.{CollectsCounted, CollectsStream, CollectsUntil};
+ghost use Rattle.pb_ledger.specs.Change.{between};
+ghost use Rattle.pb_ledger.specs.Collecting.{CollectsStream, CollectsUntil};
 
 use crate::journaling::{JournalFault, collect_journaled};
 use crate::totals::Totals;
@@ -31,9 +30,6 @@ pub fn collect<T: Tally, In: Source, Out: Sink>(
 ) -> Result<Totals, CollectFault>
     ensures ok { IfOk result (CollectsStream fills (between In.state source.old source.new)
         (between Out.state sink.old sink.new) (record { old = ledger.old; new = ledger.new })) }
-    ensures told { IfOk result (λ totals. across IfKnown (between In.state source.old source.new)
-        (CollectsCounted (between Out.state sink.old sink.new)
-        (record { old = ledger.old; new = ledger.new }) totals)) }
     ensures fault { IfErr result (CollectsUntil fills (between In.state source.old source.new)
         (between Out.state sink.old sink.new) (record { old = ledger.old; new = ledger.new })) }
 {
@@ -55,9 +51,6 @@ pub fn collect_watched<T: Tally, In: Source, Out: Sink, Watch: Watcher>(
 ) -> Result<Totals, CollectFault>
     ensures ok { IfOk result (CollectsStream fills (between In.state source.old source.new)
         (between Out.state sink.old sink.new) (record { old = ledger.old; new = ledger.new })) }
-    ensures told { IfOk result (λ totals. across IfKnown (between In.state source.old source.new)
-        (CollectsCounted (between Out.state sink.old sink.new)
-        (record { old = ledger.old; new = ledger.new }) totals)) }
     ensures fault { IfErr result (CollectsUntil fills (between In.state source.old source.new)
         (between Out.state sink.old sink.new) (record { old = ledger.old; new = ledger.new })) }
 {
