@@ -1,6 +1,6 @@
 -- From the lines that the loader took, of bytes whose line feeds were counted as they passed, to what
 -- was loaded whole or cut.
-use Rattle.std.proofs.Common.{◌≡◌, ◌∙◌, ℕ, ◌*◌, ◌^◌, ◌<◌, ◌≤◌, ◌⊎◌, Bool, true, false, ◌&&◌, List, ◌++◌, All, length, nat_lt, refl, sym, ap, subst, inl, inr, arith}
+use Rattle.std.proofs.Common.{◌≡◌, ◌∙◌, ℕ, ◌*◌, ◌^◌, ◌<◌, ◌≤◌, ◌⊎◌, Bool, true, false, ◌&&◌, List, ◌++◌, length, nat_lt, refl, sym, ap, subst, inl, inr, arith}
 use Rattle.std.proofs.Math.Bool.{and-false}
 use Rattle.std.proofs.lemmas.Bool.{ltb-false, ltb-true}
 use Rattle.std.proofs.lemmas.List.{append_cancel_left, length-append}
@@ -18,15 +18,10 @@ use Rattle.pb_ledger.specs.Lending.{SameLedger}
 use Rattle.pb_ledger.specs.Loader.{LoadsLine, load_error, not_whole_by}
 use Rattle.pb_ledger.specs.Streams.{AllCame}
 use Rattle.pb_ledger.specs.Loading.{Breaks, LoadsUntil, has_header}
-use Rattle.pb_ledger.specs.Whole.{LoadsWhole, LoadsWholeUntil, is_cut, load_error_of}
+use Rattle.pb_ledger.specs.Whole.{LoadsWhole, LoadsWholeUntil, is_cut}
 use Rattle.pb_ledger.proofs.Changes.{from_to}
 use Rattle.pb_ledger.proofs.Loaded.{IsFresh, LastLine, Whole, last_line, stopped, whole}
-use Rattle.pb_poly.specs.Reading.{Tells}
-use Rattle.pb_poly.proofs.ToldReads.{all_came}
-use Rattle.pb_games.specs.Submissions.{IsSubmission, Submission}
 use Rattle.pb_accepted.specs.Ledger.{LedgerState}
-use Rattle.pb_ledger.specs.Saving.{Saved}
-use Rattle.pb_ledger.proofs.WholeForms.{saved_is_whole}
 use Rattle.pb_ledger.proofs.Passed.{all_of, count_is, feeds-append, few_feeds, is_ended, is_left, length-ended, lines_torn, passed}
 
 -- bytes that are cut are torn
@@ -41,17 +36,6 @@ CutAt fills source source' n = AllCame fills (from_to source source') (λ bytes.
 -- and what its lines made
 abbrev pub CutSo : ℕ → SourceState → SourceState → LedgerState → LedgerState → ℕ → Type 0
 CutSo fills source source' old new n = LoadsWholeUntil fills (from_to source source') (from_to old new) (Cut n)
-
-pub cut_of : (fills : ℕ) (source source' : SourceState) (old new : LedgerState) (n : ℕ) → CutSo fills source source' old new n → CutAt fills source source' n
-cut_of fills source source' old new n h = record { came = h.came; reads = h.reads; done = (h.done.0, h.done.1) }
-
--- it stands for the error of loading
-pub stands_for : (e : LoadError) (is_cut : Bool) → load_error_of (not_whole_by e is_cut) ≡ e
-stands_for (Line n) true = refl
-stands_for (Line n) false = refl
-stands_for Read is_cut = refl
-stands_for Endless is_cut = refl
-stands_for Memory is_cut = refl
 
 -- ---- from the bytes that came
 
@@ -208,11 +192,3 @@ module _ {T : Type 0} (fills name name' count : ℕ) (source source' : SourceSta
   until_so Read is_cut until loads is = loads
   until_so Endless is_cut until loads is = loads
   until_so Memory is_cut until loads is = loads
-
--- what was saved isn't cut
-pub saved_not_cut : (fills : ℕ) (source source' : SourceState) (A : List Submission) (bytes : List ℕ) → All IsSubmission A → Saved A bytes
-    → Tells fills source source' bytes → (n : ℕ) → CutAt fills source source' n → ⊥
-saved_not_cut fills source source' A bytes games saved tells n h =
-    let told = all_came 65536 fills source source' bytes tells.told h.came h.reads in
-    let no : true ≡ false = sym h.done.0 ∙ ap is_cut (sym told) ∙ saved_is_whole A bytes games saved in
-    cc

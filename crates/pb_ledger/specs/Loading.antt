@@ -1,22 +1,20 @@
 -- What the lines of a saved ledger, or of an old list of submission lines, make of a ledger without
 -- games.
-use Rattle.std.specs.Prelude.{◌≡◌, ℕ, ◌≤◌, ◌⊎◌, Bool, false, if◌then◌else◌, List, [], ◌∷◌}
-use Rattle.std.specs.Prelude.{length, All, IsOk, IsTrue, Result, MatchResult}
+use Rattle.std.specs.Prelude.{◌≡◌, ℕ, ◌⊎◌, Bool, false, if◌then◌else◌, List, [], ◌∷◌}
+use Rattle.std.specs.Prelude.{length, All, IsOk, IsTrue}
 use Rattle.std.specs.Str.{bytes_eq}
 use Rattle.std.specs.Str.Lines.{strip_carriage_return}
 use Rattle.pb_io.specs.LineTask.{AtFault, AtLine, AtNoEnd}
 use Rattle.pb_io.specs.Source.{SourceState}
-use Rattle.pb_poly.specs.Reading.{Tells}
-use Rattle.pb_games.specs.Submissions.{Submission, IsSubmission}
+use Rattle.pb_games.specs.Submissions.{Submission}
 use Rattle.pb_accepted.specs.Accepting.{Answer, Run}
-use Rattle.pb_accepted.specs.Holding.{HaveOwnIds}
 use Rattle.pb_accepted.specs.Ledger.{LedgerState}
 use Rattle.pb_ledger.specs.Change.{Change, IsSame, across}
 use Rattle.pb_ledger.specs.Streams.{AtLast}
 use Rattle.pb_ledger.specs.Making.{Makes, Wants}
 use Rattle.pb_ledger.specs.declared.loading.LoadError.{LoadError}
 use Rattle.pb_ledger.specs.declared.loading.LoadError.TheVariants.{Line, Read, Endless, Memory}
-use Rattle.pb_ledger.specs.Saving.{Saved, header}
+use Rattle.pb_ledger.specs.Saving.{header}
 
 -- the line is the header, maybe with a CR
 abbrev pub is_header : List ℕ → Bool
@@ -53,11 +51,3 @@ LoadsUntil fills source ledger Read = across (AtFault fills) source (Makes Loads
 LoadsUntil fills source ledger Endless = across (AtNoEnd fills) source (Makes Loads ledger)
 LoadsUntil fills source ledger Memory = (IsSame source × IsSame ledger)
     ⊎ across (AtLine fills) source (Wants Loads ledger)
-
--- where the source tells a saved ledger that fits, doesn't fail and ends within the fills, its
--- games are held, want of memory aside
-abbrev pub LoadsSaved : ℕ → Change SourceState → Change LedgerState → Result ℕ LoadError → Type 0
-LoadsSaved fills source ledger answer = (A : List Submission) (bytes : List ℕ)
-    → All IsSubmission A → HaveOwnIds A → length A ≤ ledger.old.cap → Saved A bytes
-    → across (Tells fills) source bytes
-    → MatchResult answer (λ n. ledger.new.accepted ≡ A) (λ e. e ≡ Memory)

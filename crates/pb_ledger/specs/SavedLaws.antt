@@ -9,7 +9,9 @@ use Rattle.pb_ledger.specs.Saving.{Saved, header}
 use Rattle.pb_ledger.specs.Loading.{Loads}
 use Rattle.pb_ledger.specs.Whole.{is_cut}
 
--- the lines of a saved form make the list that was saved, where it fits, and no other
+-- The lines of a saved form make the list that was saved, where it fits, and no other. Up to any of
+-- its lines it is the saved form of the first games: so no line of it is refused, and what loads it
+-- gives the list back, if it can read it all and memory is there.
 abbrev pub SavedLoads : Type 0
 SavedLoads = (cap : ℕ) (A B : List Submission) (bytes : List ℕ) → All IsSubmission A → HaveOwnIds A
     → length A ≤ cap → Saved A bytes → (Loads cap (lines bytes) B ↔ (B ≡ A))

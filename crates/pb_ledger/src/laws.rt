@@ -11,8 +11,9 @@ ghost use Rattle.pb_ledger.specs.SavedLaws.{SavedIsWhole, SavedLoads};
 pub use pb_accepted::laws::{books, distinct, numbers, one_game, one_line, runs};
 pub use pb_export::laws::exports;
 
-/// What is saved of games loads as these games and as no others. It isn't cut, and a front of it is
-/// that has the header and ends within a line.
+/// What is saved of games loads as these games and as no others, where there is room; so `load`
+/// refuses no line of it. It isn't cut, and a front of it is that has the header and ends within a
+/// line.
 pub fn saved()
     ensures loads { SavedLoads }
     ensures whole { SavedIsWhole }

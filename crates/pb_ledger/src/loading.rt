@@ -4,7 +4,7 @@ ghost use Rattle.std.specs.Prelude.{◌≡◌, [], IfErr, IfOk, length};
 ghost use Rattle.pb_io.specs.LineTask.{AtEnd};
 ghost use Rattle.pb_ledger.specs.Change.{across, between};
 ghost use Rattle.pb_ledger.specs.Loader.{Submits, error_at, load_error};
-ghost use Rattle.pb_ledger.specs.Loading.{Loads, LoadsSaved, LoadsUntil};
+ghost use Rattle.pb_ledger.specs.Loading.{Loads, LoadsUntil};
 ghost use Rattle.pb_ledger.specs.Making.{Makes};
 
 use crate::saving::HEADER;
@@ -117,8 +117,6 @@ pub fn load<T: Tally, S: Source>(
         × (n ≡ length ledger.new.accepted)) }
     ensures fault { IfErr result (LoadsUntil fills (between S.state source.old source.new)
         (record { old = ledger.old; new = ledger.new })) }
-    ensures saved { LoadsSaved fills (between S.state source.old source.new)
-        (record { old = ledger.old; new = ledger.new }) result }
     ensures basis { ledger.new.basis ≡ ledger.old.basis }
     ensures cap { ledger.new.cap ≡ ledger.old.cap }
 {

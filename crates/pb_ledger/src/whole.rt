@@ -1,11 +1,9 @@
 //! A ledger from the lines of a file that wasn't cut short.
 
 ghost use Rattle.std.specs.Prelude.{◌≡◌, ◌&&◌, [], IfErr, IfOk, length, nat_lt};
-ghost use Rattle.std.specs.Result.{result_map_both};
 ghost use Rattle.pb_ledger.specs.Change.{between};
 ghost use Rattle.pb_ledger.specs.Loader.{not_whole_by};
-ghost use Rattle.pb_ledger.specs.Loading.{LoadsSaved};
-ghost use Rattle.pb_ledger.specs.Whole.{LoadsWhole, LoadsWholeUntil, load_error_of};
+ghost use Rattle.pb_ledger.specs.Whole.{LoadsWhole, LoadsWholeUntil};
 
 use crate::ending::Ending;
 use crate::loading::{LoadError, Loader};
@@ -46,9 +44,6 @@ pub fn load_whole<T: Tally, S: Source>(
         (record { old = ledger.old; new = ledger.new }) × (n ≡ length ledger.new.accepted)) }
     ensures fault { IfErr result (LoadsWholeUntil fills (between S.state source.old source.new)
         (record { old = ledger.old; new = ledger.new })) }
-    ensures saved { LoadsSaved fills (between S.state source.old source.new)
-        (record { old = ledger.old; new = ledger.new })
-        (result_map_both (λ n. n) load_error_of result) }
     ensures basis { ledger.new.basis ≡ ledger.old.basis }
     ensures cap { ledger.new.cap ≡ ledger.old.cap }
 {

@@ -1,11 +1,9 @@
-use Rattle.std.proofs.Common.{◌≡◌, ◌∙◌, rules, refl, ap, sym, subst, Err}
-use Rattle.pb_poly.specs.Reading.{Tells}
-use Rattle.pb_ledger.specs.Whole.{LoadsWholeUntil, load_error_of}
+use Rattle.std.proofs.Common.{◌∙◌, rules, refl, sym, subst, Err}
+use Rattle.pb_ledger.specs.Whole.{LoadsWholeUntil}
 use Rattle.pb_ledger.proofs.Changes.{from_to}
 use Rattle.pb_ledger.proofs.Loaded.{ends_of}
 use Rattle.pb_ledger.proofs.Passed.{until_of, until_same}
-use Rattle.pb_ledger.proofs.SavedLoading.{loaded_whole, only_memory}
-use Rattle.pb_ledger.proofs.WholeLoaded.{cut_at, cut_of, is_cut_so, is_whole_so, loader_keeps, loads_bytes, same_source, saved_not_cut, stands_for, until_so}
+use Rattle.pb_ledger.proofs.WholeLoaded.{cut_at, is_cut_so, is_whole_so, loader_keeps, loads_bytes, same_source, until_so}
 use Rattle.pb_ledger.proofs.whole.load_whole.Goals as goal
 
 pub returns-in-Ok : goal.returns-in-Ok
@@ -20,20 +18,15 @@ returns-in-Ok g c =
     let same = same_source _ _ name end.ends (state c.args.source.now) (state end.source.now) _ made (refl, refl, c.requires) fits end.small stream in
     let keeps = loader_keeps _ _ name end.ends (state c.args.source.now) (state end.source.now) _ made (refl, refl, c.requires) fits end.small stream in
     let cut = cut_at _ _ name end.ends (state c.args.source.now) (state end.source.now) _ made (refl, refl, c.requires) fits end.small stream so.0 so.1 in
-    let at = cut_of _ _ _ c.args.ledger.now made.ledger.now made.lines cut in
     record {
       ok = tt;
       fault = search rules;
-      saved = λ A bytes games own room saved tells.
-          let told : Tells c.args.fills (state c.args.source.now) (state end.source.now) bytes = search (rules, tells) in
-          absurd (saved_not_cut _ _ _ A bytes games saved told made.lines at);
       basis = search rules;
       cap = search rules;
     }
 
 pub returns-in-Ok-2 : goal.returns-in-Ok-2
 returns-in-Ok-2 g c =
-    let old = c.args.ledger.now in
     let made = c.take_lines-taken.new.task in
     let end = c.take_lines-taken.new.source in
     let state = g.S.Source.state in
@@ -47,10 +40,6 @@ returns-in-Ok-2 g c =
     record {
       ok = (search rules, search rules);
       fault = tt;
-      saved = λ A bytes games own room saved tells.
-          let told : Tells c.args.fills (state c.args.source.now) (state end.source.now) bytes = search (rules, tells) in
-          let whole = loaded_whole _ A bytes games own room saved _ _ _ told old made.ledger.now refl (record { came = loads.came; reads = loads.reads; done = loads.done.1 }) in
-          search rules;
       basis = search rules;
       cap = search rules;
     }
@@ -68,16 +57,12 @@ returns-in-Err g c =
     let ends = ends_of _ _ _ _ made (refl, refl, c.requires) fits (Err error) tt stops in
     let same = until_same _ name end.ends (state c.args.source.now) (state end.source.now) _ _ _ error ends.1 in
     let until = until_of _ name end.ends (state c.args.source.now) (state end.source.now) _ _ _ error ends.1 in
-    let means : load_error_of c.not_whole.result ≡ error = ap load_error_of c.not_whole.ensures ∙ stands_for error c.is_cut-is_cut.result in
     let so = until_so _ _ name end.ends (state c.args.source.now) (state end.source.now) _ made (refl, refl, c.requires) fits end.small error c.is_cut-is_cut.result stops until c.is_cut-is_cut.ensures in
     let whole_end : LoadsWholeUntil c.args.fills (from_to (state c.args.source.now) (state end.source.now)) (from_to old made.ledger.now) c.not_whole.result =
     subst (LoadsWholeUntil c.args.fills (from_to (state c.args.source.now) (state end.source.now)) (from_to old made.ledger.now)) (sym c.not_whole.ensures) so in
     record {
       ok = tt;
       fault = search rules;
-      saved = λ A bytes games own room saved tells.
-          let told : Tells c.args.fills (state c.args.source.now) (state end.source.now) bytes = search (rules, tells) in
-          means ∙ only_memory _ A bytes games own room saved _ _ _ told old made.ledger.now refl error until;
       basis = search rules;
       cap = search rules;
     }
