@@ -53,7 +53,7 @@ pub record EndBytes (e : EndStates) : Type 0 where
   pub lines : HandsOut e.lines.old e.lines.new bytes
   pub replies : Appends e.replies.old.bytes e.replies.new.bytes put
 
--- It is so of these bytes.
+-- the theorem, of all that the ends of a run handed out and took
 abbrev pub HasHeadline : CountingRules → EndStates → List Entry → List ℕ → Type 0
 HasHeadline rules e entries book =
     (at : EndBytes e) × Headline rules at.file at.bytes at.put entries book
