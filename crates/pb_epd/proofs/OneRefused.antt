@@ -1,4 +1,4 @@
--- No text is refused in two ways, want of memory aside.
+-- No text is refused in two ways, want of memory aside, and no operation.
 use Rattle.std.proofs.Common.{◌≡◌, ◌≢◌, ℕ, ◌<◌, ◌≤◌, List, [], ◌∷◌, ◌++◌, length, map, inl, inr, refl, ap, subst, sym, ◌∙◌, arith}
 use Rattle.std.specs.Prelude.{All, AllPairs}
 use Rattle.std.specs.List.{slice_split}
@@ -9,18 +9,23 @@ use Rattle.pb_board.specs.declared.refusal.FenError.TheVariants as fen
 use Rattle.pb_board.specs.Refusal.{BreaksAt, IsDueFen, IsFirstOf, of_setup}
 use Rattle.pb_board.proofs.Breaks.{one_all_break}
 use Rattle.pb_board.proofs.Dues.{one_first}
+use Rattle.pb_epd.specs.declared.operand.Operand.{Operand}
 use Rattle.pb_epd.specs.declared.refusal.EpdError.{EpdError}
 use Rattle.pb_epd.specs.declared.refusal.EpdError.TheVariants as epd
-use Rattle.pb_epd.specs.Laws.{OneRefusal}
-use Rattle.pb_epd.specs.Refusal.{BeginOtherwise, Cut, IsDueEpd, IsFirstDueEpd, IsNamed, is_end}
+use Rattle.pb_epd.specs.declared.refusal.PutError.{PutError}
+use Rattle.pb_epd.specs.declared.refusal.PutError.TheVariants as put
+use Rattle.pb_epd.specs.Epd.{EpdRecord}
+use Rattle.pb_epd.specs.Laws.{OnePutRefusal, OneRefusal}
+use Rattle.pb_epd.specs.Operation.{IsOperand}
+use Rattle.pb_epd.specs.Refusal.{BeginOtherwise, Cut, IsDueEpd, IsDuePut, IsFirstDueEpd, IsFirstDuePut, IsNamed, is_end}
 use Rattle.pb_epd.specs.Token.{Token, end_mark, word}
 use Rattle.pb_epd.proofs.Bad.{bad_one}
-use Rattle.pb_epd.proofs.Dues.{epd_place}
+use Rattle.pb_epd.proofs.Dues.{epd_place, put_place}
 use Rattle.pb_epd.proofs.Lists.{one_pairs_break}
 use Rattle.pb_epd.proofs.Texts.{four_are}
 use Rattle.pb_epd.proofs.TokenLists.{tokens_one}
 
--- ---- what comes before
+-- ---- a text: what comes before
 
 abbrev NotDue : List ℕ → EpdError → Type 0
 NotDue bytes x = ¬ IsDueEpd x bytes
@@ -60,7 +65,7 @@ none_before bytes (epd.Repeated m) (epd.Opcode n) h some less = before_repeated 
 none_before bytes (epd.Repeated m) epd.Unended h some less = before_repeated bytes m h 0 fen.Fields 0 4 epd.Fields (omega arith)
 none_before bytes x y h some less = absurd (omega (arith, some, less, first_place y))
 
--- ---- one cause
+-- ---- a text: one cause
 
 one_four : (four other : List (List ℕ)) (us vs : List Token) → length four ≡ 4 → length other ≡ 4 → map word four ++ us ≡ map word other ++ vs → (four ≡ other) × (us ≡ vs)
 one_four four (a ∷ b ∷ c ∷ d ∷ []) us vs l m e = four_are a b c d vs four us l e
@@ -103,5 +108,35 @@ one_refusal bytes x y some other h k =
       | inr le ↦ elim (cases_lt (epd_place y) (epd_place x)) [
         | inl less ↦ absurd (none_before bytes x y h (not_memory x some) less k.due)
         | inr ge ↦ one_cause bytes x y (not_memory x some) (omega (arith, le, ge)) h.due k.due
+      ]
+    ]
+
+-- ---- an operation
+
+module _ (e : EpdRecord) (opcode : List ℕ) (operands : List Operand) where
+  put_before : (x y : PutError) → IsFirstDuePut x e opcode operands → put_place y < put_place x → ¬ IsDuePut y e opcode operands
+  put_before (put.Operand n) put.Opcode h less = h.first n (put.Opcode ∷ []) (put.Repeated ∷ put.Memory ∷ []) refl 0 put.Opcode (omega arith)
+  put_before put.Repeated put.Opcode h less = h.first 0 (put.Opcode ∷ put.Operand 0 ∷ []) (put.Memory ∷ []) refl 0 put.Opcode (omega arith)
+  put_before put.Repeated (put.Operand n) h less = h.first n (put.Opcode ∷ put.Operand n ∷ []) (put.Memory ∷ []) refl 1 put.Opcode (omega arith)
+  put_before put.Memory put.Opcode h less = h.first 0 (put.Opcode ∷ put.Operand 0 ∷ put.Repeated ∷ []) [] refl 0 put.Opcode (omega arith)
+  put_before put.Memory (put.Operand n) h less = h.first n (put.Opcode ∷ put.Operand n ∷ put.Repeated ∷ []) [] refl 1 put.Opcode (omega arith)
+  put_before put.Memory put.Repeated h less = h.first 0 (put.Opcode ∷ put.Operand 0 ∷ put.Repeated ∷ []) [] refl 2 put.Opcode (omega arith)
+  put_before put.Opcode put.Opcode h less = absurd (omega (arith, less))
+  put_before _ _ h less = absurd (omega (arith, less))
+
+  one_put_cause : (x y : PutError) → put_place x ≡ put_place y → IsDuePut x e opcode operands → IsDuePut y e opcode operands → x ≡ y
+  one_put_cause put.Opcode put.Opcode same h k = refl
+  one_put_cause (put.Operand m) (put.Operand n) same h k = ap (λ i. put.Operand i) (one_all_break IsOperand operands m n h k)
+  one_put_cause put.Repeated put.Repeated same h k = refl
+  one_put_cause put.Memory put.Memory same h k = refl
+  one_put_cause _ _ same h k = absurd (omega (arith, same))
+
+pub one_put_refusal : OnePutRefusal
+one_put_refusal e opcode operands x y h k =
+    elim (cases_lt (put_place x) (put_place y)) [
+      | inl less ↦ absurd (put_before e opcode operands y x k less h.due)
+      | inr le ↦ elim (cases_lt (put_place y) (put_place x)) [
+        | inl less ↦ absurd (put_before e opcode operands x y h less k.due)
+        | inr ge ↦ one_put_cause e opcode operands x y (omega (arith, le, ge)) h.due k.due
       ]
     ]

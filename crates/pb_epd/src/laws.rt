@@ -1,7 +1,7 @@
 //! Laws of EPD records and their texts.
 
 ghost use Rattle.pb_epd.specs.Laws.{BadIsOne, BareIsFourWords, FormIsText, NoneDue};
-ghost use Rattle.pb_epd.specs.Laws.{OneRefusal, RecordIsOne};
+ghost use Rattle.pb_epd.specs.Laws.{OnePutRefusal, OneRefusal, RecordIsOne};
 
 /// The form of a record is a text of it.
 pub fn form_is_text()
@@ -23,9 +23,10 @@ pub fn none_due()
     ensures { NoneDue }
 {}
 
-/// No text is refused in two ways, want of memory aside.
+/// No text is refused in two ways, want of memory aside, and no operation.
 pub fn one_refusal()
-    ensures { OneRefusal }
+    ensures text { OneRefusal }
+    ensures operation { OnePutRefusal }
 {}
 
 /// A text of a record without operations is four words, so it is read without taking memory.
