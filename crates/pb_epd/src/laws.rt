@@ -29,7 +29,7 @@ pub fn one_refusal()
     ensures operation { OnePutRefusal }
 {}
 
-/// A text of a record without operations is four words, so it is read without taking memory.
+/// A text of a record without operations is four words, for which no memory is wanted.
 pub fn bare_is_four_words()
     ensures { BareIsFourWords }
 {}
