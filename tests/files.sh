@@ -110,6 +110,17 @@ standard_output() {
     "$PROGRAM" collect "$table" /dev/stdout < "$work/games" > output 2> errors
     holds is_new output
     holds test ! -s errors
+    # So it is by each other link, which stays one, and leads to the file that was opened.
+    ln -s /dev/stdout link
+    for name in /dev/fd/1 /proc/self/fd/1 link; do
+        : > output
+        before=$(node output)
+        "$PROGRAM" collect "$table" "$name" < "$work/games" >> output 2> errors
+        holds has_node "$before" output
+        holds is_new output
+        holds test ! -s errors
+    done
+    holds test -L link
 }
 
 # A link stays one. The file that it leads to is replaced, by a draft beside it.
@@ -374,6 +385,36 @@ draft_stays() {
     : > kept
     unremoved EPERM 3 --ledger "$place/kept"
     holds grep -qx "pbook: $place/.kept.pbook-0 can't be removed: operation not permitted" told
+}
+
+# interrupted_at NUMBER WORD..: whether a run whose write of this number a signal interrupts makes
+# the new book, and answers all
+interrupted_at() {
+    runner="strace -f -o calls -e trace=write -e inject=write:error=EINTR:when=$1"
+    shift
+    with_old
+    : > kept
+    collects 0 "$book" "$work/games" "$@" && is_new "$book" && no_draft &&
+        [ "$(wc -l < "$work/replies")" -eq "$(wc -l < "$work/games")" ]
+}
+
+# A write that a signal interrupts has written nothing, and is made again: of replies, of a draft, of
+# lines of a journal.
+interrupted() {
+    at=1
+    while
+        holds interrupted_at "$at"
+        grep -q EINTR calls
+    do
+        at=$((at + 1))
+    done
+    note "$((at - 1)) writes were interrupted"
+    holds test "$at" -gt 2
+    for at in 1 2 300 301; do
+        holds interrupted_at "$at" --journal kept
+        holds grep -q EINTR calls
+        holds test "$(wc -l < kept)" -eq 300
+    done
 }
 
 # BOOK is opened at first and can't be at the end, where the system has no room for one more open
@@ -1007,7 +1048,7 @@ if [ $# -eq 0 ]; then
     choose 'test -c /dev/full' '/dev/full is wanted' torn_at_full_output
     choose 'has flock' 'flock is wanted' draft_in_use live_journal
     choose can_trace 'strace is wanted' device_faults draft_stays full_of_files unset_mode \
-        unopened_folder killed_behind_links
+        unopened_folder interrupted killed_behind_links
     choose can_be_other 'setpriv is wanted' no_permission unreadable_book \
         folder_without_drafts unread_folder closed_ledger ledger_without_drafts
     choose can_own 'root and setpriv are wanted' other_owner other_group ledger_of_another

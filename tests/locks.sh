@@ -44,6 +44,8 @@ held_ledger() {
     holds say 1 "ok $(id_of 1) 1"
     holds is_refused 'games.ledger is in use by another run' --ledger games.ledger
     holds is_refused 'games.ledger is in use by another run' --journal games.ledger
+    ln -s games.ledger link
+    holds is_refused 'link is in use by another run' --ledger link
     holds say 2 "ok $(id_of 2) 2"
     holds end 0
     { echo 'pbook-ledger 1' && games_of 1,2; } > whole
@@ -593,6 +595,24 @@ waiting_replies() {
     done
 }
 
+# What another program adds in the midst of a run is written over by none of its lines. The run is
+# held once it has added the first of three games.
+added_meanwhile() {
+    games_of 1,3 > games
+    for option in '' --sync; do
+        games_of 4 > games.journal
+        # shellcheck disable=SC2086 # no option is no word
+        holds begin_held write "-P $journal" \
+            "$PROGRAM" collect --journal "$journal" $option "$table" book.bin
+        games_of 5 >> games.journal
+        holds go_on 3
+        cp replies rest
+        holds has_stopped "$journal"
+        { games_of 4 && games_of 1 && games_of 5 && games_of 2,3; } > whole
+        holds cmp whole games.journal
+    done
+}
+
 # With --sync a journal is opened once more, to be written over itself. It is held right before. A
 # file that has got its name by then isn't written over in its place, and the run ends.
 replaced_when_reopened() {
@@ -654,7 +674,7 @@ if [ $# -eq 0 ]; then
     choose 'has flock' 'flock is wanted' held_draft
     choose 'has cc' 'cc is wanted' book_over_network failed_locks
     choose can_trace 'strace is wanted' new_ledger_under_way two_drafts left_draft_replaced \
-        waiting_replies replaced_when_reopened
+        waiting_replies added_meanwhile replaced_when_reopened
     choose can_be_other 'setpriv is wanted' unwritable_ledger unwritable_book
     # shellcheck disable=SC2086 # each name is a word
     set -- $chosen

@@ -380,6 +380,9 @@ wrong_use() {
         holds tells_of 2 "$first" "$PROGRAM" $words
         holds cmp "$work/replies" due.put
     done
+    # Of a word that isn't UTF-8 the status alone tells.
+    holds tells_of 2 '' "$PROGRAM" show "$(printf 'book\377.bin')"
+    holds test ! -s "$work/replies"
 }
 
 # A file that is named where lines come on standard input is told how it comes there, behind what
@@ -475,6 +478,11 @@ $empty" "$PROGRAM" collect table.txt book.bin
     for input in pgn packed; do
         holds tells_of 0 '' "$PROGRAM" collect -q table.txt book.bin
     done
+    # A byte order mark and empty lines may stand before it.
+    { printf '\357\273\277\n\n' && cat pgn; } > marked
+    input=marked
+    holds tells_of 0 "standard input looks like PGN, not like submissions
+$empty" "$PROGRAM" collect table.txt book.bin
 }
 
 # The last line of submissions is taken without an LF, and told of.
@@ -566,6 +574,15 @@ bad_journal_line() {
     holds tells_of 0 '' "$PROGRAM" collect -q --journal kept table.txt book.bin
     { echo 'pbook-ledger 1' && cat games; } > kept
     holds tells_of 0 '' "$PROGRAM" collect --journal kept table.txt book.bin
+    # Ten are named, and of more it is told once that they are there.
+    seq -f "kept: line %g can't be taken; it is skipped" 10 19 > ten
+    for more in 10 11 15; do
+        { cat games && yes 'no game' | head -n "$more"; } > kept
+        [ "$more" -eq 10 ] || text="$(cat ten)
+kept: more lines can't be taken"
+        holds tells_of 0 "${text-$(cat ten)}" \
+            "$PROGRAM" collect --journal kept table.txt book.bin
+    done
 }
 
 # What `games` leaves out is told, but for the first line of a saved ledger and for sealed lines.
@@ -581,6 +598,11 @@ left_out_lines() {
 kept: its last line has no end; it is left out" "$PROGRAM" games kept
     holds cmp "$work/replies" games
     holds tells_of 0 '' "$PROGRAM" games games
+    # Each line is told of its own file.
+    { head -n 1 games && echo 'no game'; } > other
+    holds tells_of 0 "other: line 2 can't be taken; it is skipped
+kept: line 12 can't be taken; it is skipped
+kept: its last line has no end; it is left out" "$PROGRAM" games games other kept
 }
 
 # to_itself: prints the games behind those that are read, up to a limit
@@ -740,6 +762,58 @@ summaries() {
 }
 again='322 lines: 320 ok (0 new, 320 again), 2 refused (1 illegal, 1 conflict)'
 
+# numbered COUNT FORMAT: so many lines of this format of `printf`, with the number of each as its word
+numbered() { for time in $(seq "$1"); do printf "$2\n" "$time"; done; }
+
+# Lines are told by the reason that refused them, whose answer has that word, in the order in which
+# reasons are looked for.
+reasons() {
+    prepare
+    knights=$(yes 'g1f3 g8f6 f3g1 f6g8' | head -n 257 | tr '\n' ' ' | sed 's/ $//')
+    {
+        printf 'one\t1-0\t%s\te2e4\n' "$start"
+        numbered 1 "long%s$(head -c 8192 /dev/zero | tr '\0' ' ')"
+        numbered 2 'no game %s'
+        numbered 3 "no %s\t1-0\t$start\te2e4"
+        numbered 4 "%s\t1-1\t$start\te2e4"
+        numbered 5 '%s\t1-0\tstartpos\te2e4'
+        numbered 6 '%s\t1-0\t4k3/8/8/8/8/8/8/4RK2 w - - 0 1\te1e2'
+        numbered 7 "%s\t1-0\t$start\te4"
+        numbered 8 "%s\t1-0\t$start\t$knights"
+        numbered 9 "%s\t1-0\t$start\te2e5"
+        numbered 10 "one\t1-0\t$start\te2e4 e7e5"
+    } > refused
+    for reason in long shape id result fen start spelling plies illegal conflict; do
+        number=$((${number-0} + 1))
+        counted="${counted+$counted, }$number $reason"
+        yes "$reason" | head -n "$number"
+    done > due.reasons
+    input=refused
+    holds tells_of 0 "56 lines: 1 ok (1 new, 0 again), 55 refused ($counted); book.bin: 1 entry" \
+        "$PROGRAM" collect --summary table.txt book.bin
+    sed -n 's/^refused //p' "$work/replies" | cut -d ' ' -f 2 > reasons
+    holds cmp reasons due.reasons
+    holds tells_of 0 "56 lines: 1 ok (1 new, 0 again), 55 refused ($counted)" \
+        "$PROGRAM" export --summary table.txt
+}
+
+# One line is a line, and thousands have a comma before the zeros.
+counted() {
+    prepare
+    head -n 1 games > one
+    input=one
+    holds tells_of 0 '1 line: 1 ok (1 new, 0 again), 0 refused' \
+        "$PROGRAM" export --summary table.txt
+    for lines in 999 1000 1005 12030; do
+        yes 'no game' | head -n "$lines" > many
+        told=$(echo "$lines" | sed 's/\(.\)\(...\)$/\1,\2/')
+        input=many
+        holds tells_of 0 "no game was accepted
+$told lines: 0 ok (0 new, 0 again), $told refused ($told shape)" \
+            "$PROGRAM" export --summary table.txt
+    done
+}
+
 # What FILE holds is told from new games, where no new one comes too.
 terminal_again() {
     prepare
@@ -798,10 +872,33 @@ terminal_progress() {
     done
     holds in_terminal "{ $slowly; } | '$PROGRAM' export -q table.txt > lines"
     holds test ! -s typescript
+    # A line that is refused is counted.
+    holds in_terminal "{ $slowly; echo 'no game'; } | '$PROGRAM' check > lines || true"
+    holds grep -qx 'pbook: 7 lines: 6 ok, 1 refused (1 shape)' shown
     # To a file goes none of it.
     holds in_terminal "{ $slowly; } | '$PROGRAM' collect table.txt book.bin > replies 2> told"
     holds test ! -s told
     holds test ! -s typescript
+}
+
+# In a terminal that shows replies too each of them is a line of its own.
+terminal_shared() {
+    prepare
+    slowly="for n in 1 2 3; do sed -n \${n}p '$work/games'; sleep 0.5; done"
+    holds in_terminal "{ $slowly; } | '$PROGRAM' collect table.txt book.bin"
+    sed -n 1,3p "$work/games" | "$PROGRAM" collect -q table.txt book.bin > due
+    grep '^ok' shown > seen
+    holds cmp due seen
+    holds grep -qE "$progress" shown
+}
+
+# A line that is typed isn't written over by a count.
+terminal_typed() {
+    prepare
+    { for n in 1 2 3; do sleep 0.7; sed -n "${n}p" "$work/games"; done; sleep 0.7; } |
+        script -qec "'$PROGRAM' collect table.txt book.bin > replies" /dev/null > typescript
+    holds grep -qF 'pbook: 3 lines: 3 ok (3 new, 0 again), 0 refused' typescript
+    holds not grep -Eq 'pbook: [0-9,]+ lines?, ' typescript
 }
 
 # Wrong use is told once where both outputs are one terminal.
@@ -815,14 +912,15 @@ if [ $# -eq 0 ]; then
     choose true '' missing_files one_file failed_reads closed_pipe refused_tables \
         refused_books refused_ledger \
         refused_words wrong_use words_too_many help_width asked_help no_game bad_journal_line \
-        no_place told_at_once left_out_lines games_to_themselves cut_ledger cut_input no_file
+        no_place told_at_once left_out_lines games_to_themselves cut_ledger cut_input no_file \
+        reasons counted
     choose 'test -c /dev/full' '/dev/full is wanted' full_output full_book quiet_faults \
         without_errors summaries
     choose 'has gzip' 'gzip is wanted' other_input
     choose can_be_other 'setpriv is wanted' no_permission
     choose can_mount 'nothing can be mounted' full_disk
     choose 'has script' 'script is wanted' terminal terminal_again terminal_some_new \
-        terminal_torn terminal_progress terminal_use
+        terminal_torn terminal_progress terminal_shared terminal_typed terminal_use
     # shellcheck disable=SC2086 # each name is a word
     set -- $chosen
 fi

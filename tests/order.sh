@@ -253,6 +253,8 @@ rename .book.bin.pbook-0 to book.bin
 fsync .
 END
     holds has_mode 640 book.bin
+    # Over a network a shared lock is for files alone that are open to be read.
+    holds grep -q '\.book\.bin\.pbook-0", O_RDWR|' calls
 }
 
 # Before a submission is read FILE is opened to be written, and a draft is made beside it and goes
