@@ -82,6 +82,14 @@ submissions.awk: no games came' "$shared/pgn_to_lines.sh" w1 empty.pgn
     holds ends 1 "$shared/pgn_to_lines.sh" w1 cut.pgn.gz > printed 2> told
     holds test "$(tail -n 1 told)" = 'pgn_to_lines.sh: a file was not read to its end'
     holds test "$(wc -l < printed)" -gt 1
+    # Nor is one where pgn-extract is killed.
+    mkdir bin
+    printf '%s\n' '#!/bin/sh' 'cat > /dev/null' 'echo e2e4 1-0' 'kill -9 $$' > bin/pgn-extract
+    chmod 755 bin/pgn-extract
+    cp "$shared/games.pgn" .
+    holds tells_of 1 'pgn_to_lines.sh: games.pgn: pgn-extract did not end
+pgn_to_lines.sh: a file was not read to its end' \
+        env PATH="$PWD/bin:$PATH" "$shared/pgn_to_lines.sh" w1 games.pgn
 }
 
 # The bundled games: 20, of which one has no result, and four begin elsewhere.
@@ -96,6 +104,32 @@ bundled_pgn() {
     holds test -s book.bin
 }
 in_shared() (cd "$shared" && exec "$@")
+
+# as_source FILE: the numbers of a table as PolyGlot's source file has them
+as_source() { sed 's/.*/   U64(0x&),/' "$1"; }
+
+# The numbers of the program that is installed are those of its source file. One of them that is
+# another one, one too few or one too many make no table.
+own_table() {
+    from=$shared/table_from_polyglot.sh
+    holds tells_of 0 '' "$from"
+    mv printed numbers
+    as_source numbers > random.c
+    holds tells_of 0 '' "$from" random.c
+    holds cmp printed numbers
+    { sed 780q random.c && sed -n 1p random.c; } > other.c
+    holds ends 1 "$from" other.c > printed 2> told
+    holds grep -q '^table_from_polyglot.sh: the numbers of other.c give the initial array' told
+    holds test ! -s printed
+    sed 780q random.c > few.c
+    { cat random.c && sed -n 1p random.c; } > many.c
+    for count in 780 782; do
+        [ "$count" -eq 780 ] && file=few.c || file=many.c
+        holds tells_of 1 "table_from_polyglot.sh: $file has $count such numbers, and not 781" \
+            "$from" "$file"
+        holds test ! -s printed
+    done
+}
 
 # client STATUS TEXT FILE..: whether the client so ends over the lines of these files
 client() {
@@ -128,6 +162,13 @@ client_faults() {
     asked=short
     client 1 'pbook: short: a table has 781 lines, and this one 9' "$work/games"
     holds test ! -s printed
+    # All games are answered, and there is no book.
+    asked=$table
+    book=$place/no/book.bin
+    head -n 9 "$work/games" > games
+    client 3 "pbook: $book can't be made: no such file or directory
+pbook: $book: no such file or directory" games
+    holds test "$(wc -l < printed)" -eq 9
 }
 
 # python COMMANDS: runs these over the module, as a caller does
@@ -166,6 +207,12 @@ print(*(" ".join(words) for words in answers), sep="\n")' > printed
     "$PROGRAM" collect -q "$table" other.bin < "$work/games" | tail -n +101 > replies
     holds cmp printed replies
     holds is_new "$book"
+    # The status of the script is then that by which a shell tells of the signal.
+    printf '%s\n' '#!/bin/sh' 'kill -9 $$' > killed
+    chmod 755 killed
+    PROGRAM=$place/killed
+    client 137 '' "$work/games"
+    holds test ! -s printed
 }
 
 # A refused game with the id `table` is no refused table, and a line is one line.
@@ -184,6 +231,15 @@ with collector() as it:
     except ValueError:
         pass
     assert it.submit(f"table\t1-0\t{start}\te2e4") == ["ok", "table", "1"]'
+    # A file may have any bytes. Only LF ends a line.
+    {
+        printf 'caf\351\t1-0\t%s\te2e4\n' "$start"
+        printf 'no\rgame\n'
+        printf 'w1\t1-0\t%s\te2e4\r\n' "$start"
+    } > bytes
+    : > "$journal"
+    client 0 '' bytes
+    holds test "$(cat printed)" = "$(printf 'refused - id\nrefused - shape\nok w1 1')"
 }
 
 # Each thread gets the answers to its own lines.
@@ -231,6 +287,8 @@ nights() {
     night 0 ''
     holds is_new srv/book.bin
     holds test "$(wc -l < srv/replies)" -eq "$(wc -l < srv/tonight.txt)"
+    # Others may look at the answers, as at any new file.
+    holds has_mode 644 srv/replies
     holds test ! -e srv/replies.failed
     # Options are handed on: the first plies alone are counted.
     night 0 '' --plies 2 --least 3
@@ -298,6 +356,7 @@ if [ $# -eq 0 ]; then
     choose 'has python3' 'python3 is wanted' client_answers client_faults client_killed \
         client_lines client_threads
     choose true '' nights cut_night
+    choose 'has polyglot' 'polyglot is wanted' own_table
     choose 'has flock' 'flock is wanted' bad_nights
     choose judges_crontabs 'a crontab that looks at files is wanted' crontab_line
     # shellcheck disable=SC2086 # each name is a word
