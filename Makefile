@@ -91,6 +91,7 @@ test:
 	@$(WANTS_TOOLCHAIN)
 	@sh scripts/named_mistakes.sh
 	@sh tests/theorem.sh
+	@sh tests/bodies.sh
 	@python3 -B scripts/theorem.py --check
 	@scripts/bodies.py --before-gate
 	rt ci

@@ -762,8 +762,12 @@ summaries() {
 }
 again='322 lines: 320 ok (0 new, 320 again), 2 refused (1 illegal, 1 conflict)'
 
-# numbered COUNT FORMAT: so many lines of this format of `printf`, with the number of each as its word
-numbered() { for time in $(seq "$1"); do printf "$2\n" "$time"; done; }
+# numbered COUNT FORMAT: so many lines of this format of `printf`, with the number of each as its
+# word
+numbered() {
+    # shellcheck disable=SC2059 # the format is the text
+    for nth in $(seq "$1"); do printf "$2\n" "$nth"; done
+}
 
 # Lines are told by the reason that refused them, whose answer has that word, in the order in which
 # reasons are looked for.

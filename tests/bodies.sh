@@ -1,0 +1,285 @@
+#!/bin/sh
+# Tries scripts/bodies.py, the judge of wrong bodies, on a made-up crate and by a prover that only
+# repeats what the real one said of it: no body passes that is proved, that can't be read, or whose
+# function isn't proved for another reason than the body's own. It tries scripts/named_mistakes.sh
+# on a made-up table too. The first check that doesn't hold ends it.
+# Usage: tests/bodies.sh (at the top of the repository; it needs no toolchain).
+# shellcheck disable=SC2016 # backquotes are what the prover and the table have
+set -eu
+. tests/lib/harness.sh
+top=$PWD
+
+# put FILE: writes a file below $work from standard input
+put() {
+    mkdir -p "$(dirname "$work/$1")"
+    cat > "$work/$1"
+}
+
+echo 'tiny:' | put crates.txt
+put scripts/bodies.py < "$top/scripts/bodies.py"
+put crates/tiny/src/lib.rt << 'END'
+//! Numbers.
+
+pub mod laws;
+pub mod least;
+END
+put crates/tiny/src/laws.rt << 'END'
+//! Laws.
+
+use crate::least::least;
+
+pub fn one() -> u32
+    ensures { result ≤ 1 }
+{
+    least(1, 7)
+}
+END
+put crates/tiny/src/least.rt << 'END'
+//! The least of numbers.
+
+/// Answers a number that is at most each of both.
+pub fn least(a: u32, b: u32) -> u32
+    ensures left { result ≤ a }
+    ensures right { result ≤ b }
+{
+    if a <= b { a } else { b }
+}
+
+/// Answers a number that is at most the third one.
+pub fn least_of_three(a: u32, b: u32, c: u32) -> u32
+    ensures { result ≤ c }
+{
+    least(least(a, b), c)
+}
+END
+
+# The toolchain's command, and its prover. It reports on each function that it is asked for by what
+# stands in the copy that it is run in.
+put path/rt << END
+#!/bin/sh
+case \$1 in
+    version) echo 'rattle-kit logic 1' ;;
+    doc) echo '$work/kit/START-HERE.md' ;;
+esac
+END
+put kit/bin/rattle << 'END'
+#!/bin/sh
+has() { grep -qF "$1" src/least.rt; }
+
+# not_proved FUNCTION GOAL LINE: what is said where a search finds no proof of this goal
+not_proved() {
+    echo "note: src/least.rt:$3:1: it is not proved that what the function ensures holds when it" \
+        "returns (\`$2\`); the facts known there allow values at which this goal is false"
+    echo "fn tiny::least::$1: no proof: expected answers in ./proofs/least/$1/Answers.antt;" \
+        "\`search\` did not prove \`$2\`$waits"
+}
+
+# answer_fails WHY: what is said where a written answer of the second function proves nothing
+answer_fails() {
+    echo "./proofs/least/least_of_three/Answers.antt:5:14: error: \`returns\`: $1"
+    echo "fn tiny::least::least_of_three: not proved$waits"
+}
+
+report_first() {
+    if has 'else { a }'; then
+        not_proved least returns-else-a-b-clause-right 4
+    elif ! has 'else { later }'; then
+        echo 'fn tiny::least::least: proved'
+    fi
+}
+
+report_second() {
+    has 'else { b }' || waits='; it calls `tiny::least::least`, which is not proved'
+    if has '    least(a, b)'; then
+        not_proved least_of_three returns 12
+    elif has '    least(c, b)'; then
+        answer_fails 'record `Rattle.tiny.proofs.least.least_of_three.Lts.After-least` has no field
+`least-2` (nearest: .least): note: that is a name of Rattle'"'"'s own'
+    elif has '    least(b, a)'; then
+        answer_fails '`c.least.ensures.right` proves another statement'
+    elif [ -n "$waits" ]; then
+        echo "note: \`search\` has not tried the goals of \`tiny::least::least_of_three\`, which" \
+            "wait for a callee's proof: some may be open after it"
+        echo "fn tiny::least::least_of_three: not proved$waits"
+    else
+        echo 'fn tiny::least::least_of_three: proved'
+    fi
+}
+
+echo run >> "$RUNS"
+waits=
+if has none_such; then
+    echo 'src/least.rt:15:5: error[unknown-name]: cannot find value `none_such` in this scope'
+    exit 1
+fi
+for word; do
+    case $word in
+        least::least) report_first ;;
+        least::least_of_three) report_second ;;
+        laws::one) echo 'fn tiny::laws::one: proved' ;;
+    esac
+done
+echo 'only=2 proved=0'
+END
+chmod 755 "$work/path/rt" "$work/kit/bin/rattle"
+
+both='if a <= b { a } else { b }'
+wrong='if a <= b { a } else { a }'
+three='    least(least(a, b), c)'
+
+# body NAME OLD NEW: gives the crate this wrong body
+body() {
+    printf 'file: src/least.rt\nold: %s\nnew: %s\n' "$2" "$3" > "$work/crates/tiny/bodies/$1.edit"
+}
+
+# anew: leaves the crate without wrong bodies, and nothing kept
+anew() {
+    rm -rf "$work/crates/tiny/bodies" "$work/cache"
+    mkdir -p "$work/crates/tiny/bodies"
+}
+
+# judges STATUS LAST: whether the script ends with this status and this last line. What it says is
+# in $work/said, and $runs is how often it had the prover run.
+judges() {
+    due=$1 status=0
+    : > "$work/runs"
+    (
+        cd "$work"
+        export PATH="$work/path:$PATH" XDG_CACHE_HOME="$work/cache" RUNS="$work/runs" RT_JOBS=1
+        python3 -B scripts/bodies.py
+    ) > "$work/said" 2>&1 || status=$?
+    runs=$(wc -l < "$work/runs")
+    is_status "$due" || return 1
+    if [ "$(tail -n 1 "$work/said")" = "$2" ]; then return; fi
+    cat "$work/said"
+    return 1
+}
+
+# is_status DUE: whether the script has ended with this status, which is in $status
+is_status() {
+    if [ "$status" -eq "$1" ]; then return; fi
+    echo "    the status is $status, and this is said:"
+    cat "$work/said"
+    return 1
+}
+
+# says LINE: whether this line was said of a body
+says() { grep -qxF "tiny/$1" "$work/said"; }
+
+refused() {
+    anew
+    body least-first "$both" "$wrong"
+    body three-last "$three" '    least(a, b)'
+    body three-turned "$three" '    least(b, a)'
+    holds judges 0 '3 passed, 0 failed'
+    holds says 'least-first: refused at `returns-else-a-b-clause-right` of tiny::least::least'
+    holds says 'three-last: refused at `returns` of tiny::least::least_of_three'
+    holds says 'three-turned: refused at `returns` of tiny::least::least_of_three'
+}
+
+# A body that is proved fails, beside one that is refused too: then a function that calls the wrong
+# one isn't proved either, and the goal that is told is none of its own.
+proved() {
+    for passed in 0 1; do
+        anew
+        [ "$passed" -eq 0 ] || body least-first "$both" "$wrong"
+        body three-same "$three" '    least(c, least(a, b))'
+        holds judges 1 "$passed passed, 1 failed"
+        holds says 'three-same: FAILED: NOT REFUSED: its own function is proved'
+    done
+    anew
+    body least-same "$both" 'if a < b { a } else { b }'
+    body three-last "$three" '    least(a, b)'
+    holds judges 1 '1 passed, 1 failed'
+    holds says 'least-same: FAILED: NOT REFUSED: its own function is proved'
+}
+
+# That an answer names what the edit took away says nothing of the body.
+gone() {
+    anew
+    body three-other "$three" '    least(c, b)'
+    holds judges 1 '0 passed, 1 failed'
+    holds says 'three-other: FAILED: NOT REFUSED: its own function is proved'
+}
+
+# What can't be read isn't refused, nor what stands nowhere or twice, nor what no report tells of.
+unread() {
+    anew
+    body least-first "$both" "$wrong"
+    body three-unknown "$three" '    none_such'
+    body three-nowhere '    least(c)' '    least(b)'
+    body three-thrice 'result ≤ ' 'result < '
+    holds judges 1 '1 passed, 3 failed'
+    holds says 'least-first: refused at `returns-else-a-b-clause-right` of tiny::least::least'
+    twice='FAILED: a text stands %s times in src/least.rt, and not once: %s'
+    # shellcheck disable=SC2059 # the format is this text
+    holds says "three-nowhere: $(printf "$twice" 0 '    least(c)')"
+    # shellcheck disable=SC2059
+    holds says "three-thrice: $(printf "$twice" 3 'result ≤ ')"
+    holds grep -q "^tiny/three-unknown: FAILED: the prover can't read it: src/least.rt:15:5: " \
+        "$work/said"
+    anew
+    body least-unsaid "$both" 'if a <= b { a } else { later }'
+    holds judges 1 '0 passed, 1 failed'
+    holds says 'least-unsaid: FAILED: no report of tiny::least::least'
+    anew
+    holds judges 1 '0 passed, 0 failed'
+}
+
+# What has passed is kept until a body, the crate or the script changes. What has failed isn't.
+kept() {
+    anew
+    body least-first "$both" "$wrong"
+    holds judges 0 '1 passed, 0 failed'
+    holds test "$runs" -eq 1
+    holds judges 0 '1 passed, 0 failed'
+    holds test "$runs" -eq 0
+    body least-first "$both" 'if a < b { a } else { b }'
+    for _ in 1 2; do
+        holds judges 1 '0 passed, 1 failed'
+        holds test "$runs" -eq 1
+    done
+    body least-first "$both" "$wrong"
+    holds judges 0 '1 passed, 0 failed'
+    holds test "$runs" -eq 0
+    for changed in crates/tiny/src/laws.rt scripts/bodies.py; do
+        echo >> "$work/$changed"
+        holds judges 0 '1 passed, 0 failed'
+        holds test "$runs" -eq 1
+    done
+}
+
+# named STATUS LINE..: whether scripts/named_mistakes.sh ends so over a table of these lines
+named() {
+    due=$1 status=0
+    shift
+    {
+        printf '## What nobody may do\n\n| mistake | edit |\n|---|---|\n'
+        [ $# -eq 0 ] || printf '%s\n' "$@"
+        printf '\n## Something else\n\n| none | `crates/tiny/must-fail/nowhere.edit` |\n'
+    } > "$work/docs/WRONG_BODIES.md"
+    (cd "$work" && sh "$top/scripts/named_mistakes.sh") > "$work/said" 2>&1 || status=$?
+    is_status "$due"
+}
+
+# Each mistake of the table has an edit of its own, and each edit a line.
+table() {
+    mkdir -p "$work/docs" "$work/crates/tiny/must-fail"
+    for name in one two; do : > "$work/crates/tiny/must-fail/$name.edit"; done
+    one='| first | `crates/tiny/must-fail/one.edit` |'
+    two='| second | `crates/tiny/must-fail/two.edit` |'
+    holds named 0 "$one" "$two"
+    holds named 1 "$one"
+    holds named 1 "$one" "$two" "$two"
+    holds named 1 "$one" "$two" '| third | none |'
+    holds named 1 "$one" "$two" '| third | `crates/tiny/must-fail/three.edit` |'
+    holds named 1
+}
+
+check 'wrong bodies are refused at goals of their own functions' refused
+check 'a body that is proved is not' proved
+check 'an answer that names what is gone refuses no body' gone
+check 'what no prover has judged is not refused' unread
+check 'what has passed is kept as long as nothing changes' kept
+check 'each mistake that nobody may make has its edit' table
+finish
