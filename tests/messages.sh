@@ -478,11 +478,19 @@ $empty" "$PROGRAM" collect table.txt book.bin
     for input in pgn packed; do
         holds tells_of 0 '' "$PROGRAM" collect -q table.txt book.bin
     done
-    # A byte order mark and empty lines may stand before it.
+    # A byte order mark and empty lines may stand before it, and CRs in its lines.
     { printf '\357\273\277\n\n' && cat pgn; } > marked
-    input=marked
-    holds tells_of 0 "standard input looks like PGN, not like submissions
+    sed 's/$/\r/' pgn > with_crs
+    cp "$work/new" another_book
+    while IFS='|' read -r input looks; do
+        holds tells_of 0 "standard input looks like $looks, not like submissions
 $empty" "$PROGRAM" collect table.txt book.bin
+    done << 'END'
+marked|PGN
+with_crs|PGN
+table.txt|a table
+another_book|a book
+END
 }
 
 # The last line of submissions is taken without an LF, and told of.
@@ -515,6 +523,22 @@ cut_input() {
     echo "${start% 0 1} ce 1;" | head -c -1 > unended
     input=unended
     holds tells_of 0 '' "$PROGRAM" epd
+}
+
+# Where a run may have no more files open, an open stream isn't taken for a closed one, and the file
+# is told that can't be read.
+no_more_files() {
+    prepare
+    runner='strace -f -o /dev/null -e trace=fcntl -e inject=fcntl:error=EMFILE'
+    holds tells_of 0 '' "$PROGRAM" fen "$start"
+    holds tells_of 0 '' "$PROGRAM" check
+    for option in ledger journal; do
+        : > kept
+        holds tells_of 3 'kept: too many open files' \
+            "$PROGRAM" collect "--$option" kept table.txt book.bin
+        holds test ! -s kept
+    done
+    holds is_old book.bin
 }
 
 # told_yet TEXT: whether this line is on standard error
@@ -872,6 +896,8 @@ terminal_progress() {
         holds in_terminal "{ $slowly; } | '$PROGRAM' $command > lines"
         holds grep -Eq '^pbook: [0-9,]+ lines?' shown
         holds grep -qx "pbook: 6 lines: 6 ok$new, 0 refused" shown
+        holds not grep -q ', [^0 ]* refused' shown
+        ! grep -q 'making the book' shown || holds test -n "$new"
         new=
     done
     holds in_terminal "{ $slowly; } | '$PROGRAM' export -q table.txt > lines"
@@ -921,6 +947,7 @@ if [ $# -eq 0 ]; then
     choose 'test -c /dev/full' '/dev/full is wanted' full_output full_book quiet_faults \
         without_errors summaries
     choose 'has gzip' 'gzip is wanted' other_input
+    choose can_trace 'strace is wanted' no_more_files
     choose can_be_other 'setpriv is wanted' no_permission
     choose can_mount 'nothing can be mounted' full_disk
     choose 'has script' 'script is wanted' terminal terminal_again terminal_some_new \
