@@ -385,6 +385,16 @@ wrong_use() {
     holds test ! -s "$work/replies"
 }
 
+# What a usage error says before its usage is told whole.
+usage_cause() {
+    prepare
+    status=0
+    "$PROGRAM" collect table.txt < games > "$work/replies" 2> "$work/errors" || status=$?
+    holds test "$status" -eq 2
+    printf 'pbook: the following required arguments were not provided:\n  <BOOK>\n' > due
+    holds cmp "$work/errors" due
+}
+
 # A file that is named where lines come on standard input is told how it comes there, behind what
 # else is told of wrong use.
 words_too_many() {
@@ -939,7 +949,7 @@ terminal_use() {
 }
 
 if [ $# -eq 0 ]; then
-    choose true '' missing_files one_file failed_reads closed_pipe refused_tables \
+    choose true '' usage_cause missing_files one_file failed_reads closed_pipe refused_tables \
         refused_books refused_ledger \
         refused_words wrong_use words_too_many help_width asked_help no_game bad_journal_line \
         no_place told_at_once left_out_lines games_to_themselves cut_ledger cut_input no_file \

@@ -32,8 +32,8 @@ pub fn run(rt: &HostRuntime, arguments: &[&str]) -> u8
     }
 }
 
-/// Puts the text on standard output. The first line of a usage error is told too where that goes to
-/// a file. A text that was asked for is none.
+/// Puts the text on standard output. What a usage error says before its usage is told too where
+/// that goes to a file. A text that was asked for is none.
 fn show_usage(rt: &HostRuntime, arguments: &[&str], text: &str) {
     let messages = Messages::new(rt);
     if let Err(error) = print!(rt; "{text}")
@@ -44,10 +44,9 @@ fn show_usage(rt: &HostRuntime, arguments: &[&str], text: &str) {
     let Some(error) = text.strip_prefix("error: ") else {
         return;
     };
-    if let Some(text) = error.lines().next()
-        && !rt.stdout().is_terminal()
-    {
-        messages.tell(&Message::Usage(text));
+    if !rt.stdout().is_terminal() {
+        let (cause, _) = error.split_once("\n\n").unwrap_or((error, ""));
+        messages.tell(&Message::Usage(cause));
     }
     if let Some(message) = on_input(arguments, error) {
         messages.tell(&message);
