@@ -2,7 +2,8 @@
 # Tries scripts/bodies.py, the judge of wrong bodies, on a made-up crate and by a prover that only
 # repeats what the real one said of it: no body passes that is proved, that can't be read, or whose
 # function isn't proved for another reason than the body's own. It tries scripts/named_mistakes.sh
-# on a made-up table too. The first check that doesn't hold ends it.
+# on a made-up table too, and scripts/check.sh over a program that answers nothing. The first check
+# that doesn't hold ends it.
 # Usage: tests/bodies.sh (at the top of the repository; it needs no toolchain).
 # shellcheck disable=SC2016 # backquotes are what the prover and the table have
 set -eu
@@ -60,7 +61,13 @@ put path/rt << END
 case \$1 in
     version) echo 'rattle-kit logic 1' ;;
     doc) echo '$work/kit/START-HERE.md' ;;
+    # The last word is a folder, where the words of a program are that is to be built and run.
+    try) for word; do :; done && exec sh '$work/kit/program' "\$(tail -n 1 "\$word/waits.args")" ;;
 esac
+END
+put kit/program << 'END'
+#!/bin/sh
+[ -p "$1" ] && exec 3< "$1" && read -r _ <&3
 END
 put kit/bin/rattle << 'END'
 #!/bin/sh
@@ -121,7 +128,7 @@ for word; do
 done
 echo 'only=2 proved=0'
 END
-chmod 755 "$work/path/rt" "$work/kit/bin/rattle"
+chmod 755 "$work/path/rt" "$work/kit/bin/rattle" "$work/kit/program"
 
 both='if a <= b { a } else { b }'
 wrong='if a <= b { a } else { a }'
@@ -276,10 +283,32 @@ table() {
     holds named 1
 }
 
+# checks_nothing PART..: whether scripts/check.sh tells of each of these parts that it fails over such
+# a program, and ends so
+checks_nothing() {
+    status=0
+    (cd "$work/whole" && PATH=$work/path:$PATH sh scripts/check.sh "$@") > "$work/said" 2>&1 ||
+        status=$?
+    is_status 1 || return 1
+    for part; do
+        grep -q "^FAILED: $part, [0-9]* s$" "$work/said" || { echo "    $part" && return 1; }
+    done
+    grep -qx "FAILED: $*. Nothing was proved." "$work/said" && not grep -q 'All of it' "$work/said"
+}
+
+# A program that does nothing passes no part of `make check`.
+failing() {
+    mkdir -p "$work/whole/crates/pbook"
+    cp -R "$top/scripts" "$top/tests" "$top/examples" "$work/whole"
+    holds checks_nothing replies
+    holds checks_nothing files messages demo replies locks order
+}
+
 check 'wrong bodies are refused at goals of their own functions' refused
 check 'a body that is proved is not' proved
 check 'an answer that names what is gone refuses no body' gone
 check 'what no prover has judged is not refused' unread
 check 'what has passed is kept as long as nothing changes' kept
 check 'each mistake that nobody may make has its edit' table
+check 'a program that does nothing passes no part of make check' failing
 finish
