@@ -152,8 +152,8 @@ judges() {
     : > "$work/runs"
     (
         cd "$work"
-        export PATH="$work/path:$PATH" XDG_CACHE_HOME="$work/cache" RUNS="$work/runs" RT_JOBS=1
-        python3 -B scripts/bodies.py
+        env PATH="$work/path:$PATH" XDG_CACHE_HOME="$work/cache" RUNS="$work/runs" RT_JOBS=1 \
+            python3 -B scripts/bodies.py
     ) > "$work/said" 2>&1 || status=$?
     runs=$(wc -l < "$work/runs")
     is_status "$due" || return 1
@@ -287,8 +287,8 @@ table() {
 # a program, and ends so
 checks_nothing() {
     status=0
-    (cd "$work/whole" && PATH=$work/path:$PATH sh scripts/check.sh "$@") > "$work/said" 2>&1 ||
-        status=$?
+    (cd "$work/whole" && env PATH="$work/path:$PATH" sh scripts/check.sh "$@") \
+        > "$work/said" 2>&1 || status=$?
     is_status 1 || return 1
     for part; do
         grep -q "^FAILED: $part, [0-9]* s$" "$work/said" || { echo "    $part" && return 1; }
