@@ -187,10 +187,12 @@ test-crashes: $(PROGRAM)
 
 # Runs the definitions of chess, FEN, keys and codes in Python, and compares what they say of setups
 # with what Stockfish and the program say. It fails where a definition has changed that it follows.
+# Then it is tried that this fails over programs that answer wrong.
 # TIMES=number tries so many times as much, SEED=number other setups.
 test-definitions: $(PROGRAM)
 	@PROGRAM='$(PROGRAM)' python3 -B tests/definitions.py $(if $(TIMES),--times $(TIMES)) \
 	    $(if $(SEED),--seed $(SEED))
+	@PROGRAM='$(PROGRAM)' sh tests/wrong_answers.sh
 
 # Compares counts of sequences of moves with published ones, and legal moves, FENs and keys with
 # those of other programs; times playing moves and the commands, and compares a book with PolyGlot's
