@@ -600,6 +600,7 @@ waiting_replies() {
 added_meanwhile() {
     games_of 1,3 > games
     for option in '' --sync; do
+        rm -f held process
         games_of 4 > games.journal
         # shellcheck disable=SC2086 # no option is no word
         holds begin_held write "-P $journal" \
