@@ -35,9 +35,10 @@ input=games
 
 missing_files() {
     prepare
+    cp games kept
     for words in 'collect no.txt book.bin' 'export no.txt' 'probe no.txt no.bin x' \
         'lookup no.txt no.bin' 'games no.txt' 'games games no.txt' \
-        'collect --ledger games no.txt book.bin' 'collect --journal games no.txt book.bin'; do
+        'collect --ledger kept no.txt book.bin' 'collect --journal kept no.txt book.bin'; do
         # shellcheck disable=SC2086 # each word is one
         holds tells_of 3 'no.txt: no such file or directory' "$PROGRAM" $words
         holds says_only 'fault open'
