@@ -79,7 +79,8 @@ no_permission() {
 one_file() {
     prepare
     ln -s table.txt table.link
-    ln games games.link
+    cp games kept
+    ln kept kept.link
     for words in 'collect table.txt table.link' 'collect table.link table.txt'; do
         # shellcheck disable=SC2086
         holds tells_of 3 'TABLE and BOOK are one file' "$PROGRAM" $words
@@ -90,10 +91,10 @@ one_file() {
             "$PROGRAM" collect "--$option" table.link table.txt book.bin
         holds says_only 'fault open'
         holds tells_of 3 "the $option and BOOK are one file" \
-            "$PROGRAM" collect "--$option" games table.txt games.link
+            "$PROGRAM" collect "--$option" kept table.txt kept.link
         holds says_only 'fault open'
         holds tells_of 3 'TABLE and BOOK are one file' \
-            "$PROGRAM" collect "--$option" games table.txt table.link
+            "$PROGRAM" collect "--$option" kept table.txt table.link
         holds says_only 'fault open'
     done
     holds cmp table.txt "$work/table"
