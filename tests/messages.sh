@@ -372,8 +372,8 @@ END
 
 wrong_use() {
     input=/dev/null
-    for words in colect collect 'collect --plies x table.txt book.bin' 'show one two' \
-        'collect --later table.txt book.bin' 'games' 'probe t b f more'; do
+    for words in colect 'collect --plies x table.txt book.bin' 'show one two' \
+        'collect --later table.txt book.bin' 'probe t b f more'; do
         # shellcheck disable=SC2086
         "$PROGRAM" $words > due.put 2> /dev/null || true
         first=$(sed -n '1s/^error: //p' due.put)
@@ -387,14 +387,24 @@ wrong_use() {
     holds test ! -s "$work/replies"
 }
 
-# What a usage error says before its usage is told whole.
-usage_cause() {
-    prepare
-    status=0
-    "$PROGRAM" collect table.txt < games > "$work/replies" 2> "$work/errors" || status=$?
-    holds test "$status" -eq 2
-    printf 'pbook: the following required arguments were not provided:\n  <BOOK>\n' > due
-    holds cmp "$work/errors" due
+# Which arguments are wanted is told too.
+arguments_wanted() {
+    input=/dev/null
+    while IFS='|' read -r words wanted; do
+        # shellcheck disable=SC2086 # each word is one
+        "$PROGRAM" $words < "$input" > "$work/replies" 2> "$work/errors" || status=$?
+        holds test "$status" -eq 2
+        {
+            echo 'pbook: the following required arguments were not provided:'
+            # shellcheck disable=SC2086
+            printf '  %s\n' $wanted
+        } > due
+        holds cmp "$work/errors" due
+    done << 'END'
+collect|<TABLE> <BOOK>
+collect table.txt|<BOOK>
+games|<FILE>...
+END
 }
 
 # A file that is named where lines come on standard input is told how it comes there, behind what
@@ -951,9 +961,9 @@ terminal_use() {
 }
 
 if [ $# -eq 0 ]; then
-    choose true '' usage_cause missing_files one_file failed_reads closed_pipe refused_tables \
+    choose true '' missing_files one_file failed_reads closed_pipe refused_tables \
         refused_books refused_ledger \
-        refused_words wrong_use words_too_many help_width asked_help no_game bad_journal_line \
+        refused_words wrong_use arguments_wanted words_too_many help_width asked_help no_game bad_journal_line \
         no_place told_at_once left_out_lines games_to_themselves cut_ledger cut_input no_file \
         reasons counted
     choose 'test -c /dev/full' '/dev/full is wanted' full_output full_book quiet_faults \
