@@ -963,8 +963,8 @@ terminal_use() {
 if [ $# -eq 0 ]; then
     choose true '' missing_files one_file failed_reads closed_pipe refused_tables \
         refused_books refused_ledger \
-        refused_words wrong_use arguments_wanted words_too_many help_width asked_help no_game bad_journal_line \
-        no_place told_at_once left_out_lines games_to_themselves cut_ledger cut_input no_file \
+        refused_words wrong_use arguments_wanted words_too_many help_width asked_help no_game \
+        bad_journal_line no_place told_at_once left_out_lines games_to_themselves cut_ledger cut_input no_file \
         reasons counted
     choose 'test -c /dev/full' '/dev/full is wanted' full_output full_book quiet_faults \
         without_errors summaries
