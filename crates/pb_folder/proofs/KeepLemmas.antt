@@ -1,5 +1,6 @@
 -- Lemmas on texts that are kept by a draft.
-use Rattle.std.proofs.Common.{◌≡◌, ◌∙◌, Bool, true, false, ℕ, List, Option, None, Some, Ok, Err, ap, inr, length, refl, subst, sym}
+use Rattle.std.proofs.Common.{◌≡◌, ◌∙◌, ◌⊎◌, Bool, true, false, ℕ, List, Contains, Option, None, Some, Ok, Err, ap, inl, inr, length, refl, subst, sym}
+use Rattle.std.proofs.lemmas.List.Elements.{Contains-push_cases}
 use Rattle.std.specs.Option.{option_map}
 use Rattle.std.proofs.Math.Seq.{take-length}
 use Rattle.pb_io.specs.Sink.{SinkState}
@@ -7,7 +8,7 @@ use Rattle.pb_collecting.specs.declared.store.StoreError.TheVariants.{Write}
 use Rattle.pb_folder.specs.File.{FileState, IsPut}
 use Rattle.pb_folder.specs.Keeping.{KeepsAt}
 use Rattle.pb_folder.specs.Saving.{NamesBytes}
-use Rattle.pb_folder.specs.Shelf.{OldOrNew, Shelf, renamed, settled}
+use Rattle.pb_folder.specs.Shelf.{Content, MayGain, OldOrNew, Shelf, renamed, settled}
 use Rattle.pb_folder.specs.Steps.{Steps}
 
 settled_or_old : (bytes : List ℕ) (old : Option Shelf) → Steps (OldOrNew (Some bytes)) old (option_map settled (option_map (renamed (Some bytes)) old))
@@ -22,6 +23,15 @@ renamed_or_old bytes (Some old) = (inr refl, refl)
 old_or_new : (bytes : List ℕ) (settled : Bool) (old new : Option Shelf) → NamesBytes settled bytes old new → Steps (OldOrNew (Some bytes)) old new
 old_or_new bytes true old new names = subst (Steps (OldOrNew (Some bytes)) old) (sym names) (settled_or_old bytes old)
 old_or_new bytes false old new names = subst (Steps (OldOrNew (Some bytes)) old) (sym names) (renamed_or_old bytes old)
+
+-- what a crash may have left is one of the old contents, or this one
+gained : (content other : Content) (old new : List Content) → MayGain content old new → Contains new other → Contains old other ⊎ (other ≡ content)
+gained content other old new (inl same) has = inl (subst (λ (contents : List Content). Contains contents other) same has)
+gained content other old new (inr more) has =
+    elim (Contains-push_cases old content other (subst (λ (contents : List Content). Contains contents other) more has)) [ inl before ↦ inl before | inr is ↦ inr (sym is) ]
+
+pub may_be_left : (content other : Content) (old new : Shelf) → OldOrNew content old new → Contains new.left other → Contains old.left other ⊎ (other ≡ content)
+may_be_left content other old new step = gained content other old.left new.left step.0
 
 -- the file has the name, and no crash can undo it
 pub settled_keeps : (n : ℕ) (bytes : List ℕ) (ledger : Bool) (place : Option SinkState) (named : Option FileState) (file : FileState) (settled : Bool) (old new : Option Shelf)

@@ -1,20 +1,36 @@
 //! Laws of runs that make drafts by one name, each the contract of a function that does nothing.
 
-ghost use Rattle.std.specs.Prelude.{◌≡◌, ◌==◌, ◌++◌, ◌∷◌, [], List, None, Some, false, true, ℕ};
-ghost use Rattle.pb_folder.specs.File.{FileState, IsOwnDraft, MayRemove, locked};
+ghost use Rattle.std.specs.Prelude.{◌≡◌, ◌==◌, ◌++◌, ◌∷◌, ◌⊎◌, [], Contains, List, None, Some};
+ghost use Rattle.std.specs.Prelude.{false, true, ℕ};
+ghost use Rattle.pb_folder.specs.File.{CanReplace, FileState, IsHeldAlone, IsOwnDraft, MayEmpty};
+ghost use Rattle.pb_folder.specs.File.{MayRemove, MayWrite, is_held, locked};
 ghost use Rattle.pb_folder.specs.Runs.{Claims, IsLocked, NameState, OfOthers, Step, after, holder};
 ghost use Rattle.pb_folder.specs.Runs.Act.{Ends, Locks, Makes, Unnames};
 ghost use Rattle.pb_folder.specs.Shelf.{Content, NamesNot, OldOrNew, Shelf};
 ghost use Rattle.pb_folder.specs.declared.folder.Hold.{Hold};
 ghost use Rattle.pb_folder.specs.declared.folder.Lock.TheVariants.{Held, InUse, Unsupported};
+ghost use Rattle.pb_folder.specs.declared.status.Status.{Status};
 
 /// A name that a reader doesn't see given may be there after a crash. What is old or new is whole.
+#[tactic(auto, using(crate::proofs::KeepLemmas::may_be_left))]
 pub fn what_a_name_may_lead_to()
     ensures given { (content : Content) (old new : Shelf) → new.found ≡ old.found
         → new.leaves ≡ old.leaves ++ content ∷ [] → new.left ≡ old.left ++ content ∷ []
         → new.torn ≡ old.torn → NamesNot content old new }
     ensures whole { (content : Content) (old new : Shelf) → OldOrNew content old new
         → new.torn ≡ old.torn }
+    ensures left { (content other : Content) (old new : Shelf) → OldOrNew content old new
+        → Contains new.left other → Contains old.left other ⊎ (other ≡ content) }
+{}
+
+/// A file of the name that may be emptied, or that a book's draft replaces, is one that the run has
+/// locked. One that is added to, it holds alone.
+pub fn only_a_held_file_is_changed()
+    ensures emptied { (s : FileState) (status : Status) → MayEmpty s → s.status ≡ Some status
+        → status.is_file ≡ true → is_held s.hold ≡ true }
+    ensures replaced { (s draft : FileState) → CanReplace false s draft → is_held s.hold ≡ true }
+    ensures added_to { (s : FileState) → MayWrite s → s.made ≡ false → s.in_place ≡ false
+        → IsHeldAlone s }
 {}
 
 /// Two runs never hold the draft of one name, in a model of their steps.
