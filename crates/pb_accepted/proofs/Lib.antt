@@ -12,6 +12,7 @@ pub mod Held
 pub mod Members
 pub mod Naming
 pub mod Numbers
+pub mod OneReason
 pub mod Places
 pub mod RefusedTexts
 pub mod Replies

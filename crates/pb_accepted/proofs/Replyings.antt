@@ -1,5 +1,5 @@
 -- What is answered to lines, as the replies say it.
-use Rattle.std.proofs.Common.{◌≡◌, ℕ, zero, suc, ◌+◌, List, [], ◌∷◌, ◌++◌, ◌≤◌, length, drop, get_or, Some, None, Ok, Err, refl, sym, ap, subst, ◌∙◌, arith}
+use Rattle.std.proofs.Common.{◌≡◌, ◌⊎◌, inl, inr, ℕ, zero, suc, ◌+◌, List, [], ◌∷◌, ◌++◌, ◌≤◌, length, drop, get_or, Some, None, Ok, Err, refl, sym, ap, subst, ◌∙◌, arith}
 use Rattle.std.specs.Prelude.{codes, decimal, slice_get, slice_index_or}
 use Rattle.std.specs.List.{flat_map}
 use Rattle.std.proofs.lemmas.List.{append_assoc}
@@ -12,6 +12,7 @@ use Rattle.pb_games.specs.Submissions.{IsLawful, Submission}
 use Rattle.pb_games.proofs.Texts.{fields_back}
 use Rattle.pb_accepted.specs.Accepting.{Answer, Run, Step}
 use Rattle.pb_accepted.specs.Accepting as step
+use Rattle.pb_accepted.specs.Refusals.{IsRefused}
 use Rattle.pb_accepted.specs.Replies.{replies, reply, reply_text, reply_texts}
 use Rattle.pb_accepted.specs.Replying as replied
 use Rattle.pb_accepted.specs.Holding.{most_games}
@@ -47,6 +48,16 @@ step_to cap A line r B (step.memory s law fresh room e f) = replied.memory s (la
 step_to cap A line r B (step.repeat s n law at e f) = replied.repeat s n law at (ap (reply line) e ∙ ok_is line s law n) f
 step_to cap A line r B (step.conflict s g n law at differs e f) = replied.conflict s g n law at differs (ap (reply line) e ∙ conflict_is line s law n) f
 step_to cap A line r B (step.refused e why is f) = replied.refused_alone _ (refused_to line e why) (ap (reply line) is) f
+
+-- and back: a reply is that of an answer, or why the line is refused by itself
+pub reply_from : (cap : ℕ) (A : List Submission) (line r : List ℕ) (B : List Submission) → Reply cap A line r B → ((a : Answer) × Step cap A line a B × (r ≡ reply line a))
+    ⊎ ((why : List ℕ) × IsRefused line why × (r ≡ refused why) × (B ≡ A))
+reply_from cap A line r B (replied.new s fresh room e f) = inl (Ok (length A + 1), step.new s fresh.0 fresh.1 room refl f, e ∙ sym (ok_is line s fresh.0 (length A + 1)))
+reply_from cap A line r B (replied.full s fresh many e f) = inl (Err Full, step.full s fresh.0 fresh.1 many refl f, e ∙ sym (full_is line s fresh.0))
+reply_from cap A line r B (replied.memory s fresh room e f) = inl (Err Memory, step.memory s fresh.0 fresh.1 room refl f, e ∙ sym (memory_is line s fresh.0))
+reply_from cap A line r B (replied.repeat s n law at e f) = inl (Ok n, step.repeat s n law at refl f, e ∙ sym (ok_is line s law n))
+reply_from cap A line r B (replied.conflict s g n law at differs e f) = inl (Err (Conflict n), step.conflict s g n law at differs refl f, e ∙ sym (conflict_is line s law n))
+reply_from cap A line r B (replied.refused_alone why is e f) = inr (why, is, e, f)
 
 pub run_to : (cap : ℕ) (A : List Submission) (L : List (List ℕ)) (R : List Answer) (B : List Submission) → Run cap A L R B → Replies cap A L (reply_texts L R) B
 run_to cap A [] [] B h = h

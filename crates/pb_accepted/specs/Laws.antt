@@ -11,8 +11,10 @@ use Rattle.pb_accepted.specs.Accepting.{Answer, OneGame, Run, Step, Taken}
 use Rattle.pb_accepted.specs.Basis.{Basis}
 use Rattle.pb_accepted.specs.Counting.{count, counted, IsBook}
 use Rattle.pb_accepted.specs.Holding.{HaveOwnIds, most_games}
-use Rattle.pb_accepted.specs.Replies.{named, replies, reply_texts}
-use Rattle.pb_accepted.specs.Replying.{Arrives, AreNumbered, IsNewId, IsNumber, Replies, ok}
+use Rattle.pb_accepted.specs.Refusals.{IsRefused}
+use Rattle.pb_accepted.specs.Replies.{named, replies, reply, reply_texts}
+use Rattle.pb_accepted.specs.Replying.{Arrives, AreNumbered, IsNewId, IsNumber, Replies, Reply, ok}
+use Rattle.pb_accepted.specs.Replying.{refused}
 use Rattle.pb_accepted.specs.declared.ply_points.PlyPoints.{PlyPoints}
 
 -- ---- one line
@@ -67,6 +69,16 @@ RunsNumber = (cap : ℕ) (L : List (List ℕ)) (R : List Answer) (A : List Submi
 abbrev pub RunsAreReplied : Type 0
 RunsAreReplied = (cap : ℕ) (A : List Submission) (L : List (List ℕ)) (R : List Answer)
     (B : List Submission) → Run cap A L R B → Replies cap A L (reply_texts L R) B
+
+-- and a reply is that of an answer, or says why the line is refused by itself
+abbrev pub RepliesAreAnswers : Type 0
+RepliesAreAnswers = (cap : ℕ) (A : List Submission) (line r : List ℕ) (B : List Submission)
+    → Reply cap A line r B → ((a : Answer) × Step cap A line a B × (r ≡ reply line a))
+    ⊎ ((why : List ℕ) × IsRefused line why × (r ≡ refused why) × (B ≡ A))
+
+-- and one reason is said of a line that is refused by itself
+abbrev pub OneReason : Type 0
+OneReason = (line v w : List ℕ) → IsRefused line v → IsRefused line w → v ≡ w
 
 -- each reply is a line
 abbrev pub RepliesAreLines : Type 0

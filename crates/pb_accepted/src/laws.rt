@@ -1,6 +1,9 @@
-//! Laws of ledgers. Each is the contract of a function that does nothing.
+//! Laws of ledgers, and of equality (`==`) between rules and between answers. Each is the contract
+//! of a function that does nothing.
 
 ghost use Rattle.std.specs.Prelude.{◌≡◌, ◌↔◌, ℕ, Contains, List, [], ◌∷◌, codes};
+ghost use Rattle.std.specs.Bool.{Decides};
+ghost use Rattle.pb_accepted.specs.declared.ledger.Accepted.{Accepted};
 ghost use Rattle.pb_accepted.specs.declared.ledger.TheConstants.{MAX_CAP};
 ghost use Rattle.pb_accepted.specs.declared.rules.TheConstants.{MAX_LEAST};
 ghost use Rattle.pb_poly.specs.Book.{BookBytes};
@@ -11,12 +14,18 @@ ghost use Rattle.pb_accepted.specs.Accepting.{OneGame};
 ghost use Rattle.pb_accepted.specs.Counting.{IsBook, counted};
 ghost use Rattle.pb_accepted.specs.Holding.{most_games};
 ghost use Rattle.pb_accepted.specs.Laws.{BookByMembers, CountsByMembers, CountsOnce};
-ghost use Rattle.pb_accepted.specs.Laws.{HeldIsAnswered, NamesAreShort, OneBook, OneRun, OneStep};
-ghost use Rattle.pb_accepted.specs.Laws.{RefusalsChangeNothing, RepliesAreLines, RepliesNumber};
+ghost use Rattle.pb_accepted.specs.Laws.{HeldIsAnswered, NamesAreShort, OneBook, OneReason, OneRun};
+ghost use Rattle.pb_accepted.specs.Laws.{OneStep};
+ghost use Rattle.pb_accepted.specs.Laws.{RefusalsChangeNothing, RepliesAreAnswers, RepliesAreLines};
+ghost use Rattle.pb_accepted.specs.Laws.{RepliesNumber};
 ghost use Rattle.pb_accepted.specs.Laws.{RunsAreReplied, RunsJoin, RunsNumber, SameBooks};
 ghost use Rattle.pb_accepted.specs.Laws.{SameMembers, TakenHasNoRepeats, TakenIsOne};
 ghost use Rattle.pb_accepted.specs.Replying.{Replies};
+ghost use Rattle.pb_accepted.specs.Rules.{CountingRules};
 ghost use Rattle.pb_accepted.specs.Worked.{worked_basis, worked_book, worked_bytes};
+
+use crate::ledger::Accepted;
+use crate::rules::Rules;
 
 /// States that the limits of ledgers and of rules are the numbers of the definitions.
 pub fn limits()
@@ -39,10 +48,13 @@ pub fn runs()
     ensures join { RunsJoin }
 {}
 
-/// States that lines are replied to as they are answered, each by a line, and that the replies
-/// number what is held.
+/// States that lines are replied to as they are answered, and that each reply is the line of an
+/// answer, or gives the one reason why a line is refused by itself; and that the replies number what
+/// is held.
 pub fn replies()
     ensures run { RunsAreReplied }
+    ensures answers { RepliesAreAnswers }
+    ensures reason { OneReason }
     ensures lines { RepliesAreLines }
     ensures numbers { RepliesNumber }
 {}
@@ -70,6 +82,12 @@ pub fn books()
     ensures counts { CountsByMembers }
     ensures members { BookByMembers }
     ensures same { SameBooks }
+{}
+
+/// States that rules and answers are equal (`==`) exactly where they are one value.
+pub fn equal_values()
+    ensures rules { (a b : CountingRules) → Decides (⟦<Rules as PartialEq>⟧.eq a b) (a ≡ b) }
+    ensures accepted { (a b : Accepted) → Decides (⟦<Accepted as PartialEq>⟧.eq a b) (a ≡ b) }
 {}
 
 /// States what the laws above ask of lines and of lists.

@@ -34,7 +34,7 @@ use std::marker::Model;
 pub const MAX_CAP: u32 = 1_000_000;
 
 /// Answers a submission whose game is held.
-#[derive(Clone, Copy, Debug)]
+#[derive(Clone, Copy, Debug, PartialEq, Eq)]
 pub struct Accepted {
     /// The game's number, from 1 in order of acceptance.
     pub number: u32,

@@ -11,7 +11,7 @@ pub const MAX_LEAST: u32 = 1_000_000;
 
 /// Tells how many first plies of each game count, and how often a move must occur in them to be in
 /// the book.
-#[derive(Clone, Copy, Debug)]
+#[derive(Clone, Copy, Debug, PartialEq, Eq)]
 pub struct Rules {
     plies: u32,
     least: u32,

@@ -1,7 +1,8 @@
--- What `==` of the public types says, field by field.
-use Rattle.std.proofs.Common.{◌≡◌, ℕ, Bool, ◌&&◌, List, length, Option, Some, None, refl, sym, ap, ap₂, ◌∙◌, eqb}
+-- What `==` of the public types says, part by part.
+use Rattle.std.proofs.Common.{◌≡◌, ℕ, Bool, ◌&&◌, List, length, take, Option, Some, None, refl, sym, ap, ap₂, ◌∙◌, eqb}
 use Rattle.std.proofs.lemmas.Bool.{false≢true}
 use Rattle.std.proofs.lemmas.Bool.Decides.{Decides-and, Decides-like, Decides-eqb}
+use Rattle.std.proofs.lemmas.List.{take_at}
 use Rattle.std.proofs.lemmas.Option.{none-some, same_Some}
 use Rattle.std.proofs.lemmas.Slice.Eq.{slice_eq-Decides}
 use Rattle.std.specs.Bool.{Decides, beq}
@@ -10,14 +11,23 @@ use Rattle.std.specs.Option.{option_eq}
 use Rattle.std.specs.Cmp.Lexicographic.{pointwise}
 use denote.Enum.Bare.{Bare, sameb, same_true, true_same}
 use denote.Enum.Declared.{Declared}
+use Rattle.pb_board.specs.contracts.castling.Castling as castling
 use Rattle.pb_board.specs.contracts.piece.Colour as colour
 use Rattle.pb_board.specs.contracts.piece.Kind as kind
+use Rattle.pb_board.specs.contracts.refusal.FenError as fen_error
+use Rattle.pb_board.specs.contracts.refusal.SetupError as setup_error
+use Rattle.pb_board.specs.declared.castling.Castling.{Castling}
+use Rattle.pb_board.specs.declared.castling.CastlingSquares.{CastlingSquares}
 use Rattle.pb_board.specs.declared.piece.Colour.{Colour}
 use Rattle.pb_board.specs.declared.piece.Kind.{Kind}
 use Rattle.pb_board.specs.declared.piece.Piece.{Piece}
+use Rattle.pb_board.specs.declared.refusal.FenError.{FenError}
+use Rattle.pb_board.specs.declared.refusal.SetupError.{SetupError}
+use Rattle.pb_board.specs.declared.setup.MovedPiece.{MovedPiece}
 use Rattle.pb_board.specs.declared.setup.Rights.{Rights}
 use Rattle.pb_board.specs.Board.{Board}
 use Rattle.pb_board.specs.Bitboards.{bitboards_of, board_of}
+use Rattle.pb_board.specs.Padded.{padded}
 use Rattle.pb_board.proofs.Backs.{board_back}
 use Rattle.pb_board.specs.Position.{IsRecord, IsSetup, Position, Record, record_of}
 
@@ -35,6 +45,15 @@ colours = bare colour.the_type tt
 
 pub kinds : (a b : Kind) → Decides (sameb kind.the_type a b) (a ≡ b)
 kinds = bare kind.the_type tt
+
+pub castlings : (a b : Castling) → Decides (sameb castling.the_type a b) (a ≡ b)
+castlings = bare castling.the_type tt
+
+pub setup_errors : (a b : SetupError) → Decides (sameb setup_error.the_type a b) (a ≡ b)
+setup_errors = bare setup_error.the_type tt
+
+pub fen_errors : (a b : FenError) → Decides (sameb fen_error.the_type a b) (a ≡ b)
+fen_errors = bare fen_error.the_type tt
 
 abbrev same_pieces : Piece → Piece → Bool
 same_pieces a b = sameb colour.the_type a.colour b.colour && sameb kind.the_type a.kind b.kind
@@ -77,8 +96,37 @@ positions p q p_rules q_rules = Decides-like _
     (Decides-and _ _ (boards p.board q.board p_rules.places q_rules.places) (Decides-and _ _ (colours p.turn q.turn)
     (Decides-and _ _ (rights p.rights q.rights) (options Decides-eqb p.ep q.ep))))
 
+pub moved : (a b : MovedPiece) → Decides (eqb a.from b.from && (eqb a.to b.to && same_pieces a.piece b.piece)) (a ≡ b)
+moved a b = Decides-like _
+    (λ e. ap₂ (λ (q : ℕ) (r : ℕ × Piece). record { from = q; to = r.0; piece = r.1 }) e.0 (ap₂ (λ (q : ℕ) (p : Piece). (q, p)) e.1.0 e.1.1))
+    (λ e. (ap (λ (c : MovedPiece). c.from) e, (ap (λ (c : MovedPiece). c.to) e, ap (λ (c : MovedPiece). c.piece) e)))
+    (Decides-and _ _ (Decides-eqb a.from b.from) (Decides-and _ _ (Decides-eqb a.to b.to) (pieces a.piece b.piece)))
+
+pub castling_squares : (a b : CastlingSquares) → Decides
+    (eqb a.king_from b.king_from && (eqb a.king_to b.king_to && (eqb a.rook_from b.rook_from && eqb a.rook_to b.rook_to)))
+    (a ≡ b)
+castling_squares a b = Decides-like _
+    (λ e. ap₂ (λ (k r : ℕ × ℕ). record { king_from = k.0; king_to = k.1; rook_from = r.0; rook_to = r.1 })
+    (ap₂ (λ (m n : ℕ). (m, n)) e.0 e.1.0) (ap₂ (λ (m n : ℕ). (m, n)) e.1.1.0 e.1.1.1))
+    (λ e. (
+      ap (λ (s : CastlingSquares). s.king_from) e,
+      (
+        ap (λ (s : CastlingSquares). s.king_to) e,
+        (ap (λ (s : CastlingSquares). s.rook_from) e, ap (λ (s : CastlingSquares). s.rook_to) e),
+      ),
+    ))
+    (Decides-and _ _ (Decides-eqb a.king_from b.king_from) (Decides-and _ _ (Decides-eqb a.king_to b.king_to)
+    (Decides-and _ _ (Decides-eqb a.rook_from b.rook_from) (Decides-eqb a.rook_to b.rook_to))))
+
 pub records : (f g : Record) → IsRecord f → IsRecord g → Decides (eqb f.half g.half && (eqb f.full g.full && same_positions f.setup g.setup)) (f ≡ g)
 records f g f_rules g_rules = Decides-like _
     (λ e. ap₂ (λ (p : Position) (c : ℕ × ℕ). record_of p c.0 c.1) e.1.1 (ap₂ (λ (m n : ℕ). (m, n)) e.0 e.1.0))
     (λ e. (ap (λ (r : Record). r.half) e, (ap (λ (r : Record). r.full) e, ap (λ (r : Record). r.setup) e)))
     (Decides-and _ _ (Decides-eqb f.half g.half) (Decides-and _ _ (Decides-eqb f.full g.full) (positions f.setup g.setup f_rules.setup g_rules.setup)))
+
+-- short texts in buffers of one size, of which the bytes and the lengths are compared
+pub texts : (room : ℕ) (a b : List ℕ) → Decides (pointwise (λ (m n : ℕ). eqb m n) (padded room a) (padded room b) && eqb (length a) (length b)) (a ≡ b)
+texts room a b = Decides-like _
+    (λ e. sym (take_at a _ (length a) refl) ∙ ap₂ (λ (n : ℕ) (bytes : List ℕ). take n bytes) e.1 e.0 ∙ take_at b _ (length b) refl)
+    (λ e. (ap (λ (t : List ℕ). padded room t) e, ap (λ (t : List ℕ). length t) e))
+    (Decides-and _ _ (slice_eq-Decides Decides-eqb (padded room a) (padded room b) _ refl) (Decides-eqb (length a) (length b)))

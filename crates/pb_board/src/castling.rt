@@ -8,7 +8,7 @@ use crate::setup::Rights;
 use crate::square::Square;
 
 /// Tells whose a castling is, and to which side of the board the king goes.
-#[derive(Clone, Copy, Debug)]
+#[derive(Clone, Copy, Debug, PartialEq, Eq)]
 pub enum Castling {
     /// White's on the king's side, e1g1.
     WhiteShort,
@@ -21,7 +21,7 @@ pub enum Castling {
 }
 
 /// Holds the squares between which king and rook go.
-#[derive(Clone, Copy, Debug)]
+#[derive(Clone, Copy, Debug, PartialEq, Eq)]
 pub struct CastlingSquares {
     pub king_from: Square,
     pub king_to: Square,

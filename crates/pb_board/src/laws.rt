@@ -1,22 +1,29 @@
-//! Laws of FEN records and their texts, and of equality (`==`).
+//! Laws of FEN records and their texts, and of equality (`==`) and order.
 
 ghost use Rattle.std.specs.Prelude.{◌≡◌, ℕ, List, codes};
 ghost use Rattle.std.specs.Bool.{Decides};
+ghost use Rattle.std.specs.Ordering.{nat_cmp, ordering_then};
 ghost use Rattle.pb_board.specs.Position.{Position, Record, IsSetup, IsRecord, record_of};
 ghost use Rattle.pb_board.specs.Initial.{initial};
 ghost use Rattle.pb_board.specs.Fields.{fields, space};
+ghost use Rattle.pb_board.specs.Piece.{colour_number, kind_number};
 ghost use Rattle.pb_board.specs.Refusal.{IsDueFen, IsFirstOf, fen_errors};
 ghost use Rattle.pb_board.specs.Text.{fen_text, setup_fields};
+ghost use Rattle.pb_board.specs.declared.castling.Castling.{Castling};
+ghost use Rattle.pb_board.specs.declared.castling.CastlingSquares.{CastlingSquares};
 ghost use Rattle.pb_board.specs.declared.piece.Colour.{Colour};
 ghost use Rattle.pb_board.specs.declared.piece.Kind.{Kind};
 ghost use Rattle.pb_board.specs.declared.piece.Piece.{Piece};
 ghost use Rattle.pb_board.specs.declared.refusal.FenError.{FenError};
+ghost use Rattle.pb_board.specs.declared.refusal.SetupError.{SetupError};
+ghost use Rattle.pb_board.specs.declared.setup.MovedPiece.{MovedPiece};
 ghost use Rattle.pb_board.specs.declared.setup.Rights.{Rights};
 
-use crate::fen::Fen;
+use crate::castling::{Castling, CastlingSquares};
+use crate::fen::{Fen, FenBytes};
 use crate::piece::{Colour, Kind, Piece};
-use crate::refusal::FenError;
-use crate::setup::{Rights, Setup};
+use crate::refusal::{FenError, SetupError};
+use crate::setup::{MovedPiece, Rights, Setup};
 use crate::square::Square;
 
 /// No text has two records.
@@ -45,23 +52,48 @@ pub fn equal_setups()
     ensures rights { (a b : Rights) → Decides (⟦<Rights as PartialEq>⟧.eq a b) (a ≡ b) }
 {}
 
-/// Records are equal exactly where setup and clocks are the same.
+/// Records are equal exactly where setup and clocks are the same, and their texts where the bytes
+/// are.
 pub fn equal_records()
-    ensures { (f g : Record) → IsRecord f → IsRecord g
+    ensures records { (f g : Record) → IsRecord f → IsRecord g
         → Decides (⟦<Fen as PartialEq>⟧.eq f g) (f ≡ g) }
+    ensures texts { (t u : List ℕ) → Decides (⟦<FenBytes as PartialEq>⟧.eq t u) (t ≡ u) }
 {}
 
-/// Squares, colours, kinds and pieces are equal exactly where they are the same.
+/// Squares, colours, kinds, pieces and moved pieces are equal exactly where they are the same.
 pub fn equal_pieces()
     ensures squares { (a b : ℕ) → Decides (⟦<Square as PartialEq>⟧.eq a b) (a ≡ b) }
     ensures colours { (a b : Colour) → Decides (⟦<Colour as PartialEq>⟧.eq a b) (a ≡ b) }
     ensures kinds { (a b : Kind) → Decides (⟦<Kind as PartialEq>⟧.eq a b) (a ≡ b) }
     ensures pieces { (a b : Piece) → Decides (⟦<Piece as PartialEq>⟧.eq a b) (a ≡ b) }
+    ensures moved { (a b : MovedPiece) → Decides (⟦<MovedPiece as PartialEq>⟧.eq a b) (a ≡ b) }
 {}
 
-/// Refusals are equal exactly where they are the same.
+/// Squares are in the order of their numbers, White is before Black, kinds go from pawn to king as
+/// they are declared, and pieces are ordered by colour and then by kind.
+pub fn ordered_pieces()
+    ensures squares { (a b : ℕ) → ⟦<Square as Ord>⟧.cmp a b ≡ nat_cmp a b }
+    ensures colours { (a b : Colour) → ⟦<Colour as Ord>⟧.cmp a b
+        ≡ nat_cmp (colour_number a) (colour_number b) }
+    ensures kinds { (a b : Kind) → ⟦<Kind as Ord>⟧.cmp a b
+        ≡ nat_cmp (kind_number a) (kind_number b) }
+    ensures pieces { (a b : Piece) → ⟦<Piece as Ord>⟧.cmp a b
+        ≡ ordering_then (⟦<Colour as Ord>⟧.cmp a.colour b.colour)
+        (⟦<Kind as Ord>⟧.cmp a.kind b.kind) }
+{}
+
+/// Castlings, and the squares between which king and rook go, are equal exactly where they are the
+/// same.
+pub fn equal_castlings()
+    ensures castlings { (a b : Castling) → Decides (⟦<Castling as PartialEq>⟧.eq a b) (a ≡ b) }
+    ensures squares { (a b : CastlingSquares) → Decides (⟦<CastlingSquares as PartialEq>⟧.eq a b)
+        (a ≡ b) }
+{}
+
+/// Refusals of setups, and of records, are equal exactly where the cause is the same.
 pub fn equal_errors()
-    ensures { (d e : FenError) → Decides (⟦<FenError as PartialEq>⟧.eq d e) (d ≡ e) }
+    ensures setups { (a b : SetupError) → Decides (⟦<SetupError as PartialEq>⟧.eq a b) (a ≡ b) }
+    ensures records { (a b : FenError) → Decides (⟦<FenError as PartialEq>⟧.eq a b) (a ≡ b) }
 {}
 
 /// The initial array before the first move is a record, and has the text that players know.

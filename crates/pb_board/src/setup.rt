@@ -30,7 +30,7 @@ impl Rights {
 }
 
 /// Names a piece that goes from one square to another, and takes what stood there.
-#[derive(Clone, Copy, Debug)]
+#[derive(Clone, Copy, Debug, PartialEq, Eq)]
 pub struct MovedPiece {
     pub from: Square,
     pub to: Square,

@@ -1,7 +1,13 @@
-//! Laws of EPD records and their texts.
+//! Laws of EPD records and their texts, and of equality (`==`) between refusals.
 
+ghost use Rattle.std.specs.Prelude.{◌≡◌};
+ghost use Rattle.std.specs.Bool.{Decides};
 ghost use Rattle.pb_epd.specs.Laws.{BadIsOne, BareIsFourWords, FormIsText, NoneDue};
 ghost use Rattle.pb_epd.specs.Laws.{OnePutRefusal, OneRefusal, RecordIsOne};
+ghost use Rattle.pb_epd.specs.declared.refusal.EpdError.{EpdError};
+ghost use Rattle.pb_epd.specs.declared.refusal.PutError.{PutError};
+
+use crate::refusal::{EpdError, PutError};
 
 /// The form of a record is a text of it.
 pub fn form_is_text()
@@ -32,4 +38,10 @@ pub fn one_refusal()
 /// A text of a record without operations is four words, for which no memory is wanted.
 pub fn bare_is_four_words()
     ensures { BareIsFourWords }
+{}
+
+/// Refusals of operations, and of texts, are equal exactly where cause and place are the same.
+pub fn equal_refusals()
+    ensures operations { (a b : PutError) → Decides (⟦<PutError as PartialEq>⟧.eq a b) (a ≡ b) }
+    ensures texts { (a b : EpdError) → Decides (⟦<EpdError as PartialEq>⟧.eq a b) (a ≡ b) }
 {}

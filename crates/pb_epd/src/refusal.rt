@@ -4,7 +4,7 @@ use pb_board::FenError;
 use thiserror::Error;
 
 /// Says why an operation isn't added to a record.
-#[derive(Clone, Copy, Debug, Error)]
+#[derive(Clone, Copy, Debug, PartialEq, Eq, Hash, Error)]
 pub enum PutError {
     #[error("the opcode isn't a letter and up to fourteen letters, digits or underscores")]
     Opcode,
@@ -18,7 +18,7 @@ pub enum PutError {
 }
 
 /// Says why bytes are no EPD record (PGN Standard 16.2).
-#[derive(Clone, Copy, Debug, Error)]
+#[derive(Clone, Copy, Debug, PartialEq, Eq, Hash, Error)]
 pub enum EpdError {
     /// The first such.
     #[error("a bad token begins at byte {0}, counted from 0")]

@@ -7,6 +7,7 @@ ghost use Rattle.pb_moves.specs.Attacks.{InCheck};
 ghost use Rattle.pb_games.specs.declared.judge.TheConstants.{MAX_PLIES};
 ghost use Rattle.pb_games.specs.declared.fields.TheConstants.{MAX_BYTES};
 ghost use Rattle.pb_games.specs.declared.id.TheConstants.{MAX_LEN};
+ghost use Rattle.pb_games.specs.declared.outcome.Outcome.{Outcome};
 ghost use Rattle.pb_games.specs.declared.refusal.Refusal.{Refusal};
 ghost use Rattle.pb_games.specs.Laws.{OneRefusal, OneSubmission, FieldsHaveNoTab, RefusedByItself};
 ghost use Rattle.pb_games.specs.Laws.{RefusedIsUnlawful, TextIsOneLine, TextIsShort};
@@ -14,6 +15,7 @@ ghost use Rattle.pb_games.specs.Submissions.{IsLawful, last_setup};
 ghost use Rattle.pb_games.specs.Worked.{worked_line, worked_submission};
 
 use crate::id::Id;
+use crate::outcome::Outcome;
 use crate::refusal::Refusal;
 use std::hash::Hash;
 
@@ -51,10 +53,11 @@ pub fn one_refusal()
     ensures { OneRefusal }
 {}
 
-/// States that ids and refusals are equal (`==`) exactly where they are one, and that distinct ids
-/// hand a hasher distinct bytes.
+/// States that ids, outcomes and refusals are equal (`==`) exactly where they are one, and that
+/// distinct ids hand a hasher distinct bytes.
 pub fn equal_values()
     ensures ids { (a b : List ℕ) → Decides (⟦<Id as PartialEq>⟧.eq a b) (a ≡ b) }
+    ensures outcomes { (a b : Outcome) → Decides (⟦<Outcome as PartialEq>⟧.eq a b) (a ≡ b) }
     ensures refusals { (a b : Refusal) → Decides (⟦<Refusal as PartialEq>⟧.eq a b) (a ≡ b) }
     ensures hashes { (a b : List ℕ) → ⟦<Id as Hash>⟧.hash_input a ≡ ⟦<Id as Hash>⟧.hash_input b
         → a ≡ b }

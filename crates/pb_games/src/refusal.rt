@@ -5,7 +5,7 @@ use thiserror::Error;
 
 /// Tells why a submission is refused, in the order in which the causes are looked for. The first
 /// nine look at the line alone.
-#[derive(Clone, Copy, Debug, PartialEq, Eq, Error)]
+#[derive(Clone, Copy, Debug, PartialEq, Eq, Hash, Error)]
 pub enum Refusal {
     /// The line has more than 8,192 bytes, a final CR counted.
     #[error("more than 8192 bytes")]

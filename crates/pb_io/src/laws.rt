@@ -8,9 +8,11 @@ ghost use Rattle.pb_io.specs.Reads.{chunk_len};
 ghost use Rattle.pb_io.specs.declared.fault.Fault.{Fault};
 ghost use Rattle.pb_io.specs.declared.fault.ReadFault.{ReadFault};
 ghost use Rattle.pb_io.specs.declared.lines.TheConstants.{LINE_LIMIT};
+ghost use Rattle.pb_io.specs.declared.source.Failed.{Failed};
 ghost use Rattle.pb_io.specs.declared.source.TheConstants.{CHUNK_LEN};
 
 use crate::fault::{Fault, ReadFault};
+use crate::source::Failed;
 
 /// The limits are the numbers that the definitions have.
 pub fn limits()
@@ -18,8 +20,9 @@ pub fn limits()
     ensures chunk { CHUNK_LEN ≡ chunk_len }
 {}
 
-/// `==` holds exactly where two faults are one.
+/// `==` holds exactly where two failures or two faults are one.
 pub fn equal_faults()
+    ensures failed { (e f : Failed) → Decides (⟦<Failed as PartialEq>⟧.eq e f) (e ≡ f) }
     ensures read { (e f : ReadFault) → Decides (⟦<ReadFault as PartialEq>⟧.eq e f) (e ≡ f) }
     ensures fault { (e f : Fault) → Decides (⟦<Fault as PartialEq>⟧.eq e f) (e ≡ f) }
 {}

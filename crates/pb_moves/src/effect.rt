@@ -11,7 +11,7 @@ use crate::state_after::{en_passant_after, rights_after};
 use pb_board::{Piece, Rights, Setup, Square};
 
 /// What a move does to a setup: the setup after it and the key of that are made of it.
-#[derive(Clone, Copy, Debug)]
+#[derive(Clone, Copy, Debug, PartialEq, Eq)]
 pub struct Effect {
     /// The piece that moves, as it was.
     pub piece: Piece,

@@ -1,12 +1,12 @@
 //! Laws of moves, each proved as the contract of a function that does nothing.
 
-ghost use Rattle.std.specs.Prelude.{◌≡◌, ◌↔◌, [], ◌∷◌, codes, map};
+ghost use Rattle.std.specs.Prelude.{◌≡◌, ◌↔◌, ℕ, List, [], ◌∷◌, codes, map};
 ghost use Rattle.std.specs.Bool.{Decides};
 ghost use Rattle.pb_board.specs.Initial.{initial};
 ghost use Rattle.pb_board.specs.Position.{IsSetup, Position, Record, record_of};
 ghost use Rattle.pb_board.specs.Text.{fen_text};
 ghost use Rattle.pb_moves.specs.Clocks.{record_after};
-ghost use Rattle.pb_moves.specs.Legal.{Legal};
+ghost use Rattle.pb_moves.specs.Legal.{Legal, PseudoLegal};
 ghost use Rattle.pb_moves.specs.Moved.{Moved, IsMove};
 ghost use Rattle.pb_moves.specs.Played.{AreLegal, Plays};
 ghost use Rattle.pb_moves.specs.Spelling.{spelling};
@@ -14,6 +14,7 @@ ghost use Rattle.pb_moves.specs.Successor.{IsAfter, after};
 ghost use Rattle.pb_moves.specs.Worked.{e2e4, fools_mate, pawn_run, two_knights};
 
 use crate::moves::Move;
+use crate::text::MoveText;
 
 /// The setup after a legal move of a setup meets the rules for setups.
 pub fn after_is_setup()
@@ -22,14 +23,15 @@ pub fn after_is_setup()
 
 /// A setup is the one after a legal move exactly where it is so square by square.
 pub fn after_is()
-    ensures { (s t : Position) (m : Moved) → IsSetup s → Legal s m
+    ensures { (s t : Position) (m : Moved) → IsSetup s → PseudoLegal s m
         → IsAfter s m t ↔ (t ≡ after s m) }
 {}
 
-/// Moves are equal (`==`) exactly where they are one value.
+/// Moves are equal (`==`) exactly where they are one value, and their texts where the bytes are.
 pub fn equal_moves()
-    ensures { (a b : Moved) → IsMove a → IsMove b
+    ensures moves { (a b : Moved) → IsMove a → IsMove b
         → Decides (⟦<Move as PartialEq>⟧.eq a b) (a ≡ b) }
+    ensures texts { (t u : List ℕ) → Decides (⟦<MoveText as PartialEq>⟧.eq t u) (t ≡ u) }
 {}
 
 /// In the initial array e2e4 and the moves of Fool's mate are legal. A double step, castling, taking

@@ -3,7 +3,7 @@
 use pb_board::{MovedPiece, Piece};
 
 /// Which pieces a move puts elsewhere.
-#[derive(Clone, Copy, Debug)]
+#[derive(Clone, Copy, Debug, PartialEq, Eq)]
 pub enum MoveKind {
     /// This piece arrives where the move goes, in the place of what stood there.
     One(Piece),

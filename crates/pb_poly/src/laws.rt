@@ -10,10 +10,12 @@ ghost use Rattle.pb_poly.specs.Key.{KeyIsOne, KeyIsParity};
 ghost use Rattle.pb_poly.specs.Reading.{Tells};
 ghost use Rattle.pb_poly.specs.declared.entry.Entry.{Entry};
 ghost use Rattle.pb_poly.specs.declared.entry.TheConstants.{ENTRIES_AT_ONCE};
+ghost use Rattle.pb_poly.specs.declared.reading.BookError.{BookError};
 ghost use Rattle.pb_poly.specs.declared.table.TableError.{TableError};
 ghost use Rattle.pb_poly.specs.declared.table_file.TableFault.{TableFault};
 
 use crate::entry::Entry;
+use crate::reading::BookError;
 use crate::table::TableError;
 use crate::table_file::TableFault;
 pub use pb_io::laws::{lines_begin, lines_few, pieces_join};
@@ -43,6 +45,7 @@ pub fn book_is_one()
 /// `==` holds exactly where two values are one.
 pub fn equal_values()
     ensures entry { (e f : Entry) → Decides (⟦<Entry as PartialEq>⟧.eq e f) (e ≡ f) }
+    ensures book { (e f : BookError) → Decides (⟦<BookError as PartialEq>⟧.eq e f) (e ≡ f) }
     ensures table { (e f : TableError) → Decides (⟦<TableError as PartialEq>⟧.eq e f) (e ≡ f) }
     ensures fault { (e f : TableFault) → Decides (⟦<TableFault as PartialEq>⟧.eq e f) (e ≡ f) }
 {}

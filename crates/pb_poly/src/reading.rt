@@ -19,7 +19,7 @@ use std::marker::Model;
 use thiserror::Error;
 
 /// Why a stream gave no book.
-#[derive(Clone, Copy, Debug, Error)]
+#[derive(Clone, Copy, Debug, PartialEq, Eq, Error)]
 pub enum BookError {
     /// The number of the entry, from 1.
     #[error("entry {0} has a lower key than the one before it")]

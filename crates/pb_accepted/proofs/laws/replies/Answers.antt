@@ -1,5 +1,6 @@
-use Rattle.pb_accepted.proofs.Replyings.{replies_are, replies_number, run_to}
+use Rattle.pb_accepted.proofs.OneReason.{one_reason}
+use Rattle.pb_accepted.proofs.Replyings.{replies_are, replies_number, reply_from, run_to}
 use Rattle.pb_accepted.proofs.laws.replies.Goals as goal
 
 pub returns : goal.returns
-returns c = record { run = run_to; lines = replies_are; numbers = replies_number }
+returns c = record { run = run_to; answers = reply_from; reason = one_reason; lines = replies_are; numbers = replies_number }
