@@ -1,4 +1,4 @@
--- A line is refused by itself for one reason.
+-- A line is refused by itself for one reason, and a line that submits a legal game for none.
 use Rattle.std.proofs.Common.{◌≡◌, ℕ, List, [], ◌∷◌, ◌++◌, inl, inr, sym, ap, subst, ◌∙◌}
 use Rattle.std.specs.Prelude.{All, codes, decimal}
 use Rattle.pb_board.specs.Fields.{field}
@@ -10,10 +10,13 @@ use Rattle.pb_moves.specs.Moved.{Moved}
 use Rattle.pb_moves.specs.Played.{AreLegal, IsSpelled}
 use Rattle.pb_games.specs.Cuts.{fields_of}
 use Rattle.pb_games.specs.Refusing.{SpellsMoves, SpellsStart}
+use Rattle.pb_games.specs.Submissions.{IsLawful, Submission}
 use Rattle.pb_games.specs.Tokens.{tokens_of}
 use Rattle.pb_games.proofs.OneLine.{spellings_injective}
 use Rattle.pb_games.proofs.Played.{legal_fronts}
-use Rattle.pb_accepted.specs.Laws.{OneReason}
+use Rattle.pb_games.proofs.Refused.{field_is, none_due}
+use Rattle.pb_games.specs.declared.refusal.Refusal.TheVariants as refusal
+use Rattle.pb_accepted.specs.Laws.{LawfulIsNotRefused, OneReason}
 use Rattle.pb_accepted.specs.Refusals.{IsFirst, reasons}
 
 -- each of these is said in one way
@@ -71,3 +74,44 @@ module _ (line : List ℕ) where
 
 pub one_reason : OneReason
 one_reason line v w h k = one_first_of (reasons line (fields_of line)) (are_one line) v w h k
+
+-- none of these is said
+abbrev AreNone : List (List ℕ → Type 0) → Type 0
+AreNone [] = Unit {0}
+AreNone (IsDue ∷ others) = ((why : List ℕ) → ¬ IsDue why) × AreNone others
+
+none_first_of : (Rs : List (List ℕ → Type 0)) → AreNone Rs → (why : List ℕ) → ¬ IsFirst Rs why
+none_first_of [] are why h = h
+none_first_of (R ∷ Rs) are why (inl h) = are.0 why h
+none_first_of (R ∷ Rs) are why (inr h) = none_first_of Rs are.1 why h.1
+
+module _ (line : List ℕ) (s : Submission) (lawful : IsLawful line s) where
+  are_none : AreNone (reasons line (fields_of line))
+  are_none = (
+    λ why k. none_due line s lawful refusal.Long k.1,
+    (
+      λ why k. none_due line s lawful refusal.Shape k.1,
+      (
+        λ why k. none_due line s lawful refusal.Id k.1,
+        (
+          λ why k. none_due line s lawful refusal.Result k.1,
+          (
+            λ why k. k.1 s.1.start (lawful.start, field_is line s lawful 2),
+            (
+              λ why k. none_due line s lawful refusal.Start k.1,
+              (
+                λ why k. none_due line s lawful (refusal.Spelling k.0) k.2,
+                (
+                  λ why k. none_due line s lawful refusal.Plies k.1,
+                  (λ why k. none_due line s lawful (refusal.Illegal k.0) (k.1, k.2, k.4, k.5, k.6), tt),
+                ),
+              ),
+            ),
+          ),
+        ),
+      ),
+    ),
+  )
+
+pub lawful_is_not_refused : LawfulIsNotRefused
+lawful_is_not_refused line why s lawful h = none_first_of (reasons line (fields_of line)) (are_none line s lawful) why h

@@ -80,6 +80,10 @@ RepliesAreAnswers = (cap : ℕ) (A : List Submission) (line r : List ℕ) (B : L
 abbrev pub OneReason : Type 0
 OneReason = (line v w : List ℕ) → IsRefused line v → IsRefused line w → v ≡ w
 
+-- and none of a line that submits a legal game
+abbrev pub LawfulIsNotRefused : Type 0
+LawfulIsNotRefused = (line why : List ℕ) (s : Submission) → IsLawful line s → ¬ IsRefused line why
+
 -- each reply is a line
 abbrev pub RepliesAreLines : Type 0
 RepliesAreLines = (L : List (List ℕ)) (R : List Answer)

@@ -14,10 +14,9 @@ ghost use Rattle.pb_accepted.specs.Accepting.{OneGame};
 ghost use Rattle.pb_accepted.specs.Counting.{IsBook, counted};
 ghost use Rattle.pb_accepted.specs.Holding.{most_games};
 ghost use Rattle.pb_accepted.specs.Laws.{BookByMembers, CountsByMembers, CountsOnce};
-ghost use Rattle.pb_accepted.specs.Laws.{HeldIsAnswered, NamesAreShort, OneBook, OneReason, OneRun};
-ghost use Rattle.pb_accepted.specs.Laws.{OneStep};
-ghost use Rattle.pb_accepted.specs.Laws.{RefusalsChangeNothing, RepliesAreAnswers, RepliesAreLines};
-ghost use Rattle.pb_accepted.specs.Laws.{RepliesNumber};
+ghost use Rattle.pb_accepted.specs.Laws.{HeldIsAnswered, LawfulIsNotRefused, NamesAreShort};
+ghost use Rattle.pb_accepted.specs.Laws.{OneBook, OneReason, OneRun, OneStep, RefusalsChangeNothing};
+ghost use Rattle.pb_accepted.specs.Laws.{RepliesAreAnswers, RepliesAreLines, RepliesNumber};
 ghost use Rattle.pb_accepted.specs.Laws.{RunsAreReplied, RunsJoin, RunsNumber, SameBooks};
 ghost use Rattle.pb_accepted.specs.Laws.{SameMembers, TakenHasNoRepeats, TakenIsOne};
 ghost use Rattle.pb_accepted.specs.Replying.{Replies};
@@ -48,13 +47,14 @@ pub fn runs()
     ensures join { RunsJoin }
 {}
 
-/// States that lines are replied to as they are answered, and that each reply is the line of an
-/// answer, or gives the one reason why a line is refused by itself; and that the replies number what
-/// is held.
+/// States that lines are replied to as they are answered, each by the line of an answer, or by the
+/// one reason why a line that submits no legal game is refused by itself; and that the replies
+/// number what is held.
 pub fn replies()
     ensures run { RunsAreReplied }
     ensures answers { RepliesAreAnswers }
     ensures reason { OneReason }
+    ensures lawful { LawfulIsNotRefused }
     ensures lines { RepliesAreLines }
     ensures numbers { RepliesNumber }
 {}

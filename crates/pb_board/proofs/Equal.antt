@@ -1,4 +1,4 @@
--- What `==` of the public types says, part by part.
+-- What `==` of the public types says, field by field.
 use Rattle.std.proofs.Common.{◌≡◌, ℕ, Bool, ◌&&◌, List, length, take, Option, Some, None, refl, sym, ap, ap₂, ◌∙◌, eqb}
 use Rattle.std.proofs.lemmas.Bool.{false≢true}
 use Rattle.std.proofs.lemmas.Bool.Decides.{Decides-and, Decides-like, Decides-eqb}
@@ -15,14 +15,12 @@ use Rattle.pb_board.specs.contracts.castling.Castling as castling
 use Rattle.pb_board.specs.contracts.piece.Colour as colour
 use Rattle.pb_board.specs.contracts.piece.Kind as kind
 use Rattle.pb_board.specs.contracts.refusal.FenError as fen_error
-use Rattle.pb_board.specs.contracts.refusal.SetupError as setup_error
 use Rattle.pb_board.specs.declared.castling.Castling.{Castling}
 use Rattle.pb_board.specs.declared.castling.CastlingSquares.{CastlingSquares}
 use Rattle.pb_board.specs.declared.piece.Colour.{Colour}
 use Rattle.pb_board.specs.declared.piece.Kind.{Kind}
 use Rattle.pb_board.specs.declared.piece.Piece.{Piece}
 use Rattle.pb_board.specs.declared.refusal.FenError.{FenError}
-use Rattle.pb_board.specs.declared.refusal.SetupError.{SetupError}
 use Rattle.pb_board.specs.declared.setup.MovedPiece.{MovedPiece}
 use Rattle.pb_board.specs.declared.setup.Rights.{Rights}
 use Rattle.pb_board.specs.Board.{Board}
@@ -48,9 +46,6 @@ kinds = bare kind.the_type tt
 
 pub castlings : (a b : Castling) → Decides (sameb castling.the_type a b) (a ≡ b)
 castlings = bare castling.the_type tt
-
-pub setup_errors : (a b : SetupError) → Decides (sameb setup_error.the_type a b) (a ≡ b)
-setup_errors = bare setup_error.the_type tt
 
 pub fen_errors : (a b : FenError) → Decides (sameb fen_error.the_type a b) (a ≡ b)
 fen_errors = bare fen_error.the_type tt

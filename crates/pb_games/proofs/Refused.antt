@@ -54,7 +54,7 @@ spelt_from_moves : (ms : List Moved) → All IsMove ms → All IsSpelled (map sp
 spelt_from_moves ms h = All-map IsSpelled spelling ms (All-weaker IsMove (λ m. IsSpelled (spelling m)) (λ m is. (m, record { is_move = is; is = refl })) ms h)
 
 module _ (line : List ℕ) (s : Submission) (h : IsLawful line s) where
-  field_is : (i : ℕ) → field (fields_of line) i ≡ slice_index_or (s.0 ∷ outcome_text s.1.outcome ∷ fen_text s.1.start ∷ moves_text s.1.moves ∷ []) i []
+  pub field_is : (i : ℕ) → field (fields_of line) i ≡ slice_index_or (s.0 ∷ outcome_text s.1.outcome ∷ fen_text s.1.start ∷ moves_text s.1.moves ∷ []) i []
   field_is i = ap (λ (w : List (List ℕ)). slice_index_or w i []) (fields_back line s h)
 
   tokens_are : tokens_of (field (fields_of line) 3) ≡ map spelling s.1.moves
@@ -63,7 +63,7 @@ module _ (line : List ℕ) (s : Submission) (h : IsLawful line s) where
   start_is : (f : Record) → SpellsStart (fields_of line) f → f ≡ s.1.start
   start_is f k = one_record f s.1.start (fen_text s.1.start) k.0 h.start (sym (field_is 2) ∙ k.1) refl
 
-  none_due : (e : Refusal) → ¬ IsDue e line
+  pub none_due : (e : Refusal) → ¬ IsDue e line
   none_due refusal.Long due = omega (arith, due, short_line line s h)
   none_due refusal.Shape due = due (ap length (fields_back line s h))
   none_due refusal.Id due = due (subst IsId (sym (field_is 0)) h.id)
