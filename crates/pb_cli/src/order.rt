@@ -21,7 +21,7 @@ use std::alloc::{AllocError, Global};
 use thiserror::Error;
 
 /// Tells what is kept of games beside their book, by the path of its file.
-#[derive(Clone, Copy, Debug)]
+#[derive(Clone, Copy, Debug, PartialEq, Eq)]
 pub enum Keeping<'a> {
     /// Nothing.
     Book,
@@ -83,7 +83,7 @@ pub enum Order<'a> {
 }
 
 /// Tells what `collect` was asked for.
-#[derive(Clone, Copy, Debug)]
+#[derive(Clone, Copy, Debug, PartialEq, Eq)]
 pub struct CollectOrder<'a> {
     /// What of the games counts.
     pub rules: Rules,
@@ -100,7 +100,7 @@ pub struct CollectOrder<'a> {
 }
 
 /// Tells what `export` was asked for.
-#[derive(Clone, Copy, Debug)]
+#[derive(Clone, Copy, Debug, PartialEq, Eq)]
 pub struct ExportOrder<'a> {
     /// What of the games counts.
     pub rules: Rules,

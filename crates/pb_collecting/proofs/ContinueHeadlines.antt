@@ -1,7 +1,8 @@
 -- The theorem of a run that goes on from games that are held first, from what it does.
-use Rattle.std.proofs.Common.{◌≡◌, ◌∙◌, ℕ, false, List, [], ◌++◌, All, Result, Ok, Err, ap, inl, inr, refl, subst, sym}
+use Rattle.std.proofs.Common.{◌≡◌, ◌∙◌, ℕ, List, [], ◌++◌, All, Result, Ok, Err, ap, inl, inr, refl, subst, sym}
 use Rattle.std.specs.Prelude.{IfOk}
 use Rattle.pb_io.specs.Lines.{lines}
+use Rattle.pb_io.specs.LineTask.{AtEnd}
 use Rattle.pb_io.specs.declared.fault.Fault.{Fault}
 use Rattle.pb_io.specs.Source.{SourceState}
 use Rattle.pb_poly.proofs.ToldReads.{handed_out}
@@ -21,8 +22,8 @@ use Rattle.pb_accepted.proofs.Steps.{runs_join}
 use Rattle.pb_ledger.proofs.Continued.{continued, loaded_back}
 use Rattle.pb_ledger.proofs.Changes.{from_to}
 use Rattle.pb_ledger.specs.Loading.{Loads}
-use Rattle.pb_ledger.specs.Streams.{AllCame}
-use Rattle.pb_ledger.specs.Whole.{LoadsWhole, is_cut}
+use Rattle.pb_ledger.specs.Change.{across}
+use Rattle.pb_ledger.specs.Making.{Makes}
 use Rattle.pb_ledger.specs.declared.totals.Totals.{Totals}
 use Rattle.pb_collecting.specs.ContinueHeadline.{GoesOn, HasHeadlineOfBoth}
 use Rattle.pb_collecting.specs.Ends.{Change, EndStates}
@@ -64,7 +65,7 @@ module _ (rules : CountingRules) (fills : ℕ) (e : EndStates) (randoms : List �
             (subst (λ (X : Basis). IsBook (counted X left.accepted) X.rules.least entries) leads.basis book);
       }
 
-  has_headline : (source : Change SourceState) → AllCame fills source (λ bytes. (is_cut bytes ≡ false) × Loads most_games (lines bytes) held)
+  has_headline : (source : Change SourceState) → across (AtEnd fills) source (λ ls. Loads most_games ls held)
       → HasHeadlineOfBoth rules e source left entries (book_bytes entries)
   unfolding goes_on
   has_headline source loads =
@@ -72,9 +73,8 @@ module _ (rules : CountingRules) (fills : ℕ) (e : EndStates) (randoms : List �
       record {
         saved = loads.came;
         handed = handed_out _ _ _ _ _ loads.reads;
-        whole = loads.done.0;
         held = held;
-        loads = loads.done.1;
+        loads = loads.done;
         goes_on = goes_on;
         is = same_but_games (new_ledger rules randoms) left leads.basis leads.cap;
       }
@@ -84,7 +84,7 @@ module _ (rules : CountingRules) (fills : ℕ) (e : EndStates) (source : Change 
   Heads run = IfOk run.made (λ made. HasHeadlineOfBoth rules e source run.ledger made.entries (book_bytes made.entries))
 
   headed : (randoms : List ℕ) (loaded left : LedgerState) (end : Result Totals Fault) (made : Result Collected Fault) → ReadsTable fills e.table.old e.table.new (Ok randoms)
-      → LoadsWhole fills source (from_to (new_ledger rules randoms) loaded) → loaded ≡ record (new_ledger rules randoms) { accepted = loaded.accepted } → Takes fills e (from_to loaded left) end
+      → across (AtEnd fills) source (Makes Loads (from_to (new_ledger rules randoms) loaded)) → loaded ≡ record (new_ledger rules randoms) { accepted = loaded.accepted } → Takes fills e (from_to loaded left) end
       → MakesBook left end made → Heads (record { ledger = left; made = made })
   headed randoms loaded left (Ok totals) (Ok made) read loads like takes (book, bounds, same) =
       has_headline rules fills e randoms loaded.accepted left totals made.entries read (subst (λ (l : LedgerState). Takes fills e (from_to l left) (Ok totals)) like takes) book bounds source loads

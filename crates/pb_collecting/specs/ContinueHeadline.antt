@@ -1,6 +1,6 @@
 -- The theorem of a run of `collect` that goes on from games that are held first, for the bytes of a
 -- table file and of submissions, and of the saved ledger that has these games.
-use Rattle.std.specs.Prelude.{◌≡◌, ℕ, false, List, [], ◌++◌}
+use Rattle.std.specs.Prelude.{◌≡◌, ℕ, List, [], ◌++◌}
 use Rattle.pb_io.specs.Lines.{lines}
 use Rattle.pb_io.specs.Source.{HandsOut, SourceState}
 use Rattle.pb_poly.specs.Table.{IsTableFile}
@@ -13,7 +13,6 @@ use Rattle.pb_accepted.specs.Replies.{replies, reply_texts}
 use Rattle.pb_accepted.specs.Rules.{CountingRules}
 use Rattle.pb_ledger.specs.Change.{across}
 use Rattle.pb_ledger.specs.Loading.{Loads}
-use Rattle.pb_ledger.specs.Whole.{is_cut}
 use Rattle.pb_collecting.specs.Ends.{Change, EndStates}
 use Rattle.pb_collecting.specs.Headline.{Effect, EndBytes}
 use Rattle.pb_collecting.specs.Runs.{new_ledger}
@@ -35,13 +34,12 @@ pub record GoesOn (rules : CountingRules) (e : EndStates) (held games : List Sub
       → Effect (record { randoms = randoms; rules = rules }) (K ++ lines at.bytes)
       (reply_texts (K ++ lines at.bytes) (Q ++ answers)) games entries book
 
--- The saved ledger, of which its source handed out all bytes, wasn't cut; its games were held
--- first, and this ledger is left.
+-- The games of the saved ledger, of which its source handed out all bytes, were held first, and this
+-- ledger is left.
 pub record HasHeadlineOfBoth (rules : CountingRules) (e : EndStates) (source : Change SourceState)
     (left : LedgerState) (entries : List Entry) (book : List ℕ) : Type 0 where
   pub saved : List ℕ
   pub handed : across HandsOut source saved
-  pub whole : is_cut saved ≡ false
   pub held : List Submission
   pub loads : Loads most_games (lines saved) held
   pub goes_on : GoesOn rules e held left.accepted entries book

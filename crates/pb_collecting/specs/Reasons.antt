@@ -1,7 +1,6 @@
 -- What comes of a run that can't begin.
 use Rattle.std.specs.Prelude.{◌++◌, Err, codes, decimal}
 use Rattle.pb_io.specs.declared.fault.Fault.TheVariants.{Read, Endless, Memory}
-use Rattle.pb_ledger.specs.Whole.{load_error_of}
 use Rattle.pb_ledger.specs.declared.loading.LoadError.{LoadError}
 use Rattle.pb_ledger.specs.declared.loading.LoadError.TheVariants as load
 use Rattle.pb_commands.specs.Judged.{Verdict, refused}
@@ -18,4 +17,4 @@ saved_verdict load.Memory = Err Memory
 
 abbrev pub unread_verdict : Unread → Verdict
 unread_verdict (Table cause) = table_verdict cause
-unread_verdict (Ledger cause) = saved_verdict (load_error_of cause)
+unread_verdict (Ledger cause) = saved_verdict cause

@@ -3,6 +3,7 @@
 use Rattle.std.specs.Prelude.{◌≡◌, ◌⊎◌, ℕ, All, Bool, false, List, []}
 use Rattle.std.specs.Prelude.{IsOkAnd, is_some, Option, Some, None, Result, Ok, Err}
 use Rattle.std.specs.Result.{result_map_both}
+use Rattle.pb_io.specs.LineTask.{AtEnd}
 use Rattle.pb_io.specs.Sink.{SinkState}
 use Rattle.pb_io.specs.Source.{SourceState}
 use Rattle.pb_io.specs.declared.fault.Fault.{Fault}
@@ -22,10 +23,11 @@ use Rattle.pb_ledger.specs.Change.{across}
 use Rattle.pb_ledger.specs.Collecting.{CollectsStream, CollectsUntil}
 use Rattle.pb_ledger.specs.Journaling.{Gains, JournalsUntil, fault_of_journal}
 use Rattle.pb_ledger.specs.Replaying.{ReplaysAll, ReplaysUntil}
-use Rattle.pb_ledger.specs.Whole.{LoadsWhole, LoadsWholeUntil}
+use Rattle.pb_ledger.specs.Loading.{Loads, LoadsUntil}
+use Rattle.pb_ledger.specs.Making.{Makes}
 use Rattle.pb_ledger.specs.declared.journaling.JournalFault.{JournalFault}
+use Rattle.pb_ledger.specs.declared.loading.LoadError.{LoadError}
 use Rattle.pb_ledger.specs.declared.totals.Totals.{Totals}
-use Rattle.pb_ledger.specs.declared.whole.NotWhole.{NotWhole}
 use Rattle.pb_commands.specs.Judged.{Refuses}
 use Rattle.pb_collecting.specs.Ends.{Change, EndStates, IsSame, JournalStates}
 use Rattle.pb_collecting.specs.Reasons.{unread_verdict}
@@ -129,17 +131,18 @@ abbrev pub CollectRun : CountingRules → ℕ → EndStates → Result Collected
 CollectRun rules fills e = RunEnds rules fills e.table e.replies (IsSame e.lines)
     (λ new. Finishes new (Takes fills e) MakesBook)
 
--- a run that goes on from a saved ledger, and leaves its own: all lines of the saved ledger, which
--- wasn't cut, were loaded; or it can't be gone on from
+-- a run that goes on from a saved ledger, and leaves its own: all lines of the saved ledger were
+-- loaded, or it can't be gone on from
 abbrev pub ContinueRun : CountingRules → ℕ → EndStates → Change SourceState → Result Left Stopped
     → Type 0
 ContinueRun rules fills e saved =
     RunEnds rules fills e.table e.replies (IsSame saved × IsSame e.lines) (λ new result.
-    ((loaded : LedgerState) × LoadsWhole fills saved (record { old = new; new = loaded })
+    ((loaded : LedgerState)
+    × across (AtEnd fills) saved (Makes Loads (record { old = new; new = loaded }))
     × (loaded ≡ record new { accepted = loaded.accepted })
     × Finishes loaded (Takes fills e) MakesLeft result)
-    ⊎ ((cause : NotWhole) × (left : LedgerState)
-    × LoadsWholeUntil fills saved (record { old = new; new = left }) cause × IsSame e.lines
+    ⊎ ((cause : LoadError) × (left : LedgerState)
+    × LoadsUntil fills saved (record { old = new; new = left }) cause × IsSame e.lines
     × IsRefused (reason.Ledger cause) e.replies result))
 
 -- a run with a journal, which was replayed and its end mended; or a fault ended that, and then no

@@ -2,7 +2,6 @@
 
 ghost use Rattle.std.specs.Prelude.{◌≡◌, IfOk, IfSome};
 ghost use Rattle.pb_poly.specs.Book.{book_bytes};
-ghost use Rattle.pb_ledger.specs.Whole.{load_error_of};
 ghost use Rattle.pb_commands.specs.Judged.{Refuses};
 ghost use Rattle.pb_collecting.specs.ContinueHeadline.{HasHeadlineOfBoth};
 ghost use Rattle.pb_collecting.specs.Ends.{between, states};
@@ -19,9 +18,7 @@ use crate::store::Store;
 use crate::text::LedgerBook;
 use pb_commands::refuse_with;
 use pb_io::{Fault, Sink, Source};
-use pb_ledger::{
-    Ledger, LoadError, MapTally, NotWhole, Rules, Totals, Watcher, collect_watched, load_whole,
-};
+use pb_ledger::{Ledger, LoadError, MapTally, Rules, Totals, Watcher, collect_watched, load};
 use pb_poly::Book;
 use std::alloc::Global;
 
@@ -125,7 +122,7 @@ fn go_on<Table: Source, Saved: Source, In: Source, Out: Sink, Watch: Watcher>(
         (between Saved.state saved.old saved.new)) result }
 {
     let mut ledger = open(alloc, rules, table, replies, fills)?;
-    if let Err(error) = load_whole(alloc, saved, &mut ledger, fills) {
+    if let Err(error) = load(alloc, saved, &mut ledger, fills) {
         refuse_ledger(replies, error)?;
         return Err(Stopped::Unread(Unread::Ledger(error)));
     }
@@ -133,17 +130,15 @@ fn go_on<Table: Source, Saved: Source, In: Source, Out: Sink, Watch: Watcher>(
     Ok(Gone { ledger, end })
 }
 
-fn refuse_ledger<K: Sink>(sink: &mut K, error: NotWhole) -> Result<(), Fault>
-    ensures { Refuses (saved_verdict (load_error_of error)) (K.state sink.old) (K.state sink.new)
+fn refuse_ledger<K: Sink>(sink: &mut K, error: LoadError) -> Result<(), Fault>
+    ensures { Refuses (saved_verdict error) (K.state sink.old) (K.state sink.new)
         result }
 {
     match error {
-        NotWhole::Cut(number) | NotWhole::Load(LoadError::Line(number)) => {
-            refuse_with(sink, b"refused ledger line ", number as usize)
-        }
-        NotWhole::Load(LoadError::Read) => Err(Fault::Read),
-        NotWhole::Load(LoadError::Endless) => Err(Fault::Endless),
-        NotWhole::Load(LoadError::Memory) => Err(Fault::Memory),
+        LoadError::Line(number) => { refuse_with(sink, b"refused ledger line ", number as usize) }
+        LoadError::Read => Err(Fault::Read),
+        LoadError::Endless => Err(Fault::Endless),
+        LoadError::Memory => Err(Fault::Memory),
     }
 }
 

@@ -20,7 +20,7 @@ use std::alloc::Global;
 use thiserror::Error;
 
 /// Why no book is kept at its store.
-#[derive(Clone, Copy, Debug, Error)]
+#[derive(Clone, Copy, Debug, PartialEq, Eq, Error)]
 pub enum NoBook {
     /// The run met a fault before there was a book, whose store was left alone. A ledger is kept,
     /// if its store took it, where submissions were read.

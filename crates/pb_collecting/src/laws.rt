@@ -1,5 +1,7 @@
-//! Laws of `pbook collect` and `check`, as contracts of functions that do nothing.
+//! Laws of `pbook collect` and `check`, and of equality (`==`), as contracts of functions that do
+//! nothing.
 
+ghost use Rattle.std.specs.Bool.{Decides};
 ghost use Rattle.std.specs.Prelude.{◌≡◌, ℕ, Bool, Err, Ok};
 ghost use Rattle.pb_io.specs.LineTask.{IfKnown};
 ghost use Rattle.pb_io.specs.Sink.{SinkState};
@@ -11,8 +13,12 @@ ghost use Rattle.pb_collecting.specs.CheckLaws.{RefusedByLedgers, TakenByLedgers
 ghost use Rattle.pb_collecting.specs.CheckRun.{ChecksOrEnds, ChecksShown};
 ghost use Rattle.pb_collecting.specs.Ends.{EndStates};
 ghost use Rattle.pb_collecting.specs.Laws.{GoesOnAsOneRun, RefusalsLeaveTheGames, RefusedIsUnread};
+ghost use Rattle.pb_collecting.specs.declared.keeping.NoBook.{NoBook};
 ghost use Rattle.pb_collecting.specs.declared.made.Unread.{Unread};
+ghost use Rattle.pb_collecting.specs.declared.store.StoreError.{StoreError};
 
+use crate::keeping::NoBook;
+use crate::store::StoreError;
 pub use pb_ledger::laws::one_game;
 
 /// Whatever the submissions are, a refused submission changes nothing.
@@ -29,6 +35,13 @@ pub fn goes_on()
 pub fn unread()
     ensures { (rules : CountingRules) (fills : ℕ) (e : EndStates) (why : Unread)
         → RefusedIsUnread rules fills e why }
+{}
+
+/// Reasons why a text isn't kept, and why a run has made no book, are equal exactly where they are
+/// one.
+pub fn equal_values()
+    ensures text { (a b : StoreError) → Decides (⟦<StoreError as PartialEq>⟧.eq a b) (a ≡ b) }
+    ensures book { (a b : NoBook) → Decides (⟦<NoBook as PartialEq>⟧.eq a b) (a ≡ b) }
 {}
 
 /// Where the bytes of `run_check` are known, what was put is what their lines give. No line wants

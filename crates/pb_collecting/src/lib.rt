@@ -26,8 +26,8 @@ pub use journaling::journal_into;
 pub use keeping::{NoBook, collect_into};
 pub use made::{Made, Report, Unread};
 pub use pb_ledger::{
-    Accepted, LoadError, MAX_LEAST, MAX_PLIES, NotWhole, Refusal, Rules, Totals, Watcher,
-    WriteFault, pick_games,
+    Accepted, LoadError, MAX_LEAST, MAX_PLIES, Refusal, Rules, Totals, Watcher, WriteFault,
+    pick_games,
 };
 pub use store::{Store, StoreError};
 pub use text::{LedgerBook, Text};

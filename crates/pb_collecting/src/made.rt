@@ -6,22 +6,22 @@ ghost use Rattle.pb_collecting.specs.declared.made.Stopped.TheVariants as stoppe
 
 use pb_commands::TableFault;
 use pb_io::Fault;
-use pb_ledger::{JournalFault, NotWhole, Totals};
+use pb_ledger::{JournalFault, LoadError, Totals};
 use thiserror::Error;
 
 /// Why a run read no submission.
-#[derive(Clone, Copy, Debug, Error)]
+#[derive(Clone, Copy, Debug, PartialEq, Eq, Error)]
 pub enum Unread {
     /// There is no table.
     #[error("{0}")]
     Table(TableFault),
     /// The saved ledger can't be gone on from.
     #[error("{0}")]
-    Ledger(NotWhole),
+    Ledger(LoadError),
 }
 
 /// What became of the submissions, and how much was made of the games.
-#[derive(Clone, Copy, Debug)]
+#[derive(Clone, Copy, Debug, PartialEq, Eq)]
 pub struct Report {
     /// Counts the lines by their answers.
     pub totals: Totals,
@@ -30,7 +30,7 @@ pub struct Report {
 }
 
 /// What a run has made that met no fault.
-#[derive(Clone, Copy, Debug)]
+#[derive(Clone, Copy, Debug, PartialEq, Eq)]
 pub enum Made {
     /// The book, or the export.
     Book(Report),

@@ -8,7 +8,7 @@ use pb_ledger::WriteFault;
 use thiserror::Error;
 
 /// Why a text was not kept.
-#[derive(Clone, Copy, Debug, Error)]
+#[derive(Clone, Copy, Debug, PartialEq, Eq, Error)]
 pub enum StoreError {
     /// The store can't be opened. What it held is still there.
     #[error("the store can't be opened")]

@@ -16,7 +16,7 @@ use thiserror::Error;
 
 /// Why an input is refused: `Display` is the sentence for people, the line on the sink tells it in
 /// fixed words.
-#[derive(Clone, Copy, Debug, Error)]
+#[derive(Clone, Copy, Debug, PartialEq, Eq, Error)]
 pub enum Refused {
     /// The text is no FEN record.
     #[error("FEN: {0}")]
@@ -36,7 +36,7 @@ pub enum Refused {
 }
 
 /// What a command has done that met no fault.
-#[derive(Clone, Copy, Debug)]
+#[derive(Clone, Copy, Debug, PartialEq, Eq)]
 pub enum Answer {
     /// All of its input was taken.
     Taken,

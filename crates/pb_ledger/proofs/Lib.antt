@@ -10,11 +10,8 @@ pub mod Journals
 mod LinesPut
 pub mod Lasting
 pub mod Loaded
-mod Passed
 mod Picked
 pub mod Replayed
 pub mod SavedForms
 pub mod SavedLoading
 mod Submitting
-mod WholeForms
-mod WholeLoaded

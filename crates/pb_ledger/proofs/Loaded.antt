@@ -252,32 +252,6 @@ module _ {T : Type 0} where
     pub stopped : (e : LoadError) → StopsAtLast LoadsLine s ls e t → Stopped s t e ls × SameLedger s.ledger t.ledger
     stopped e h = stopped_by e h.0 h.1 h.2 h.3 (whole s fresh h.2 h.0 h.4) h.5
 
-  -- what the loader knows where a line stopped it
-  pub record LastLine (n : ℕ) (t : Loader T) (ls : List (List ℕ)) : Type 0 where
-    pub number : n ≡ t.lines
-    pub lines : t.lines ≡ length ls
-    pub saved : t.is_saved ≡ has_header ls
-
-  pub last_line : (s t : Loader T) (ls : List (List ℕ)) → IsFresh s → length ls < 2 ^ 64 → (n : ℕ) → StopsAtLast LoadsLine s ls (error.Line n) t → LastLine n t ls
-  last_line s t ls fresh few n h = by h.5
-    where
-      w : Whole s h.2 h.0
-      w = whole s fresh h.2 h.0 h.4
-
-      long : length ls ≡ length h.0 + 1
-      long = ap length h.3 ∙ length_push h.0 h.1
-
-      counted : h.2.lines ≡ length h.0
-      counted = w.lines (omega (arith, few, long))
-
-      by : LoadsLine h.2 h.1 (Err (error.Line n)) t → LastLine n t ls
-      by (header zero is answer same) = let no : Err (error.Line n) ≡ Ok tt = answer in cc
-      by (submission other sub) = record {
-        number = sub.judged.0 ∙ sym sub.lines;
-        lines = omega (arith, sub.lines, counted, long, few);
-        saved = sub.saved ∙ w.saved ∙ header_before h.0 h.1 (λ none. other (counted ∙ ap length none)) ∙ ap has_header (sym h.3);
-      }
-
   -- ---- the whole of a stream
 
   module _ (fills : ℕ) (old new : SourceState) (s t : Loader T) (fresh : IsFresh s) (small : fills < 2 ^ 32) where

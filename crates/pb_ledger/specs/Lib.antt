@@ -2,7 +2,6 @@ pub mod Booking
 pub mod Change
 pub mod Collecting
 pub mod Collector
-pub mod Ending
 pub mod Games
 pub mod GamesLaws
 pub mod Journal
@@ -18,7 +17,6 @@ pub mod Replaying
 pub mod SavedLaws
 pub mod Saving
 pub mod Streams
-pub mod Whole
 pub use Rattle.pb_accepted.specs.Accepting
 pub use Rattle.pb_accepted.specs.Arriving
 pub use Rattle.pb_accepted.specs.Basis

@@ -11,8 +11,6 @@ use Rattle.pb_accepted.specs.Accepting.{Answer, Step}
 use Rattle.pb_ledger.specs.declared.loading.Loader.{Loader}
 use Rattle.pb_ledger.specs.declared.loading.LoadError.{LoadError}
 use Rattle.pb_ledger.specs.declared.loading.LoadError.TheVariants.{Line, Read, Endless, Memory}
-use Rattle.pb_ledger.specs.declared.whole.NotWhole.{NotWhole}
-use Rattle.pb_ledger.specs.declared.whole.NotWhole.TheVariants.{Cut, Load}
 use Rattle.pb_ledger.specs.Lending.{SameLedger}
 use Rattle.pb_ledger.specs.Loading.{is_header}
 
@@ -58,8 +56,3 @@ abbrev pub load_error : ReadFault → LoadError
 load_error fault.Read = Read
 load_error fault.Endless = Endless
 load_error fault.Memory = Memory
-
--- what an error of loading is, where the lines are cut or aren't
-abbrev pub not_whole_by : LoadError → Bool → NotWhole
-not_whole_by (Line n) true = Cut n
-not_whole_by e is_cut = Load e

@@ -1,30 +1,34 @@
 -- Laws of saved ledgers, over the definitions alone.
-use Rattle.std.specs.Prelude.{◌≡◌, ◌↔◌, ℕ, ◌≤◌, true, false, List, [], ◌++◌, length, All}
-use Rattle.pb_io.specs.Lines.{is_torn, lines}
+use Rattle.std.specs.Prelude.{◌≡◌, ◌↔◌, ℕ, ◌≤◌, List, [], ◌++◌, length, All}
+use Rattle.pb_io.specs.Lines.{lines}
+use Rattle.pb_io.specs.LineTask.{AtEnd}
+use Rattle.pb_io.specs.Source.{SourceState}
+use Rattle.pb_poly.specs.Reading.{Tells}
 use Rattle.pb_games.specs.Submissions.{Submission, IsSubmission}
 use Rattle.pb_accepted.specs.Accepting.{Answer, Run}
 use Rattle.pb_accepted.specs.Holding.{HaveOwnIds}
+use Rattle.pb_accepted.specs.Ledger.{LedgerState}
 use Rattle.pb_accepted.specs.Replies.{replies}
-use Rattle.pb_ledger.specs.Saving.{Saved, header}
-use Rattle.pb_ledger.specs.Loading.{Loads}
-use Rattle.pb_ledger.specs.Whole.{is_cut}
+use Rattle.pb_ledger.specs.Change.{Change, across}
+use Rattle.pb_ledger.specs.Loading.{Loads, LoadsUntil}
+use Rattle.pb_ledger.specs.Making.{Makes}
+use Rattle.pb_ledger.specs.Saving.{Saved}
+use Rattle.pb_ledger.specs.declared.loading.LoadError.{LoadError}
+use Rattle.pb_ledger.specs.declared.loading.LoadError.TheVariants.{Memory}
 
--- The lines of a saved form make the list that was saved, where it fits, and no other. Up to any of
--- its lines it is the saved form of the first games: so no line of it is refused, and what loads it
--- gives the list back, if it can read it all and memory is there.
+-- the lines of a saved form make the list that was saved, where it fits, and no other
 abbrev pub SavedLoads : Type 0
 SavedLoads = (cap : ℕ) (A B : List Submission) (bytes : List ℕ) → All IsSubmission A → HaveOwnIds A
     → length A ≤ cap → Saved A bytes → (Loads cap (lines bytes) B ↔ (B ≡ A))
 
--- a saved form isn't cut
-abbrev pub SavedIsWhole : Type 0
-SavedIsWhole = (A : List Submission) (bytes : List ℕ) → All IsSubmission A → Saved A bytes
-    → is_cut bytes ≡ false
-
--- a front of it is that has the header and ends within a line
-abbrev pub SavedFrontIsCut : Type 0
-SavedFrontIsCut = (A : List Submission) (front rest : List ℕ) → Saved A (front ++ rest)
-    → length header ≤ length front → is_torn front ≡ true → is_cut front ≡ true
+-- Where a source tells the saved form of a list that fits, doesn't fail and ends within the fills,
+-- what was loaded of it is the list; and no error comes but want of memory.
+abbrev pub SavedComesBack : Type 0
+SavedComesBack = (fills : ℕ) (source : Change SourceState) (ledger : Change LedgerState)
+    (A : List Submission) (bytes : List ℕ) → All IsSubmission A → HaveOwnIds A
+    → length A ≤ ledger.old.cap → Saved A bytes → across (Tells fills) source bytes
+    → (across (AtEnd fills) source (Makes Loads ledger) → ledger.new.accepted ≡ A)
+    × ((e : LoadError) → LoadsUntil fills source ledger e → e ≡ Memory)
 
 -- a run, what it holds saved and loaded, and a further run from there are one run, with the same
 -- answers and so the same replies

@@ -7,7 +7,6 @@ ghost use Rattle.pb_ledger.specs.Games.{PicksAll, PicksUntil, has_shape};
 ghost use Rattle.pb_ledger.specs.Picker.{PutsAll};
 
 use crate::collector::put_line;
-use crate::ending::count_of;
 use crate::watcher::{Watcher, tell_skipped};
 use pb_board::without_return;
 use pb_io::{Fault, LineTask, Sink, Source, take_ended_lines};
@@ -51,7 +50,8 @@ fn may_be_game(line: &[u8]) -> bool
     ensures { result ≡ has_shape line.now }
 {
     let text = without_return(line);
-    without_return(text) == text && count_of(text, b'\t') == 3
+    let tabs = text.iter().filter(|byte| **byte == b'\t').count();
+    without_return(text) == text && tabs == 3
 }
 
 /// Puts the lines of games that a journal, a saved ledger or a list of submission lines holds, each

@@ -18,7 +18,7 @@ use std::alloc::Global;
 use thiserror::Error;
 
 /// Why not all lines of a source were taken, journaled and answered.
-#[derive(Clone, Copy, Debug, Error)]
+#[derive(Clone, Copy, Debug, PartialEq, Eq, Error)]
 pub enum JournalFault {
     /// The lines or their replies met a fault. All new games are on the journal.
     #[error("not all lines were answered: {0}")]

@@ -12,7 +12,6 @@
 mod booking;
 mod collecting;
 mod collector;
-mod ending;
 mod games;
 mod journaling;
 pub mod laws;
@@ -21,7 +20,6 @@ mod replaying;
 mod saving;
 mod totals;
 mod watcher;
-mod whole;
 
 pub use booking::{WriteFault, save_book};
 pub use collecting::{CollectFault, collect, collect_watched};
@@ -37,4 +35,3 @@ pub use replaying::replay;
 pub use saving::{put_game, save};
 pub use totals::Totals;
 pub use watcher::Watcher;
-pub use whole::{NotWhole, load_whole};

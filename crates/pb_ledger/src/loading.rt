@@ -17,7 +17,7 @@ use std::alloc::Global;
 use thiserror::Error;
 
 /// Why not all lines of a saved ledger were loaded. The ledger holds the games of the lines before.
-#[derive(Clone, Copy, Debug, Error)]
+#[derive(Clone, Copy, Debug, PartialEq, Eq, Error)]
 pub enum LoadError {
     /// The line with this number, from 1 with the header counted, is the first that a ledger
     /// refuses, or that brings no new game after a header.

@@ -8,7 +8,7 @@ use pb_accepted::Accepted;
 use pb_games::Refusal;
 
 /// Counts the lines that were taken, by what became of them.
-#[derive(Clone, Copy, Debug, Default)]
+#[derive(Clone, Copy, Debug, Default, PartialEq, Eq)]
 pub struct Totals {
     /// All lines.
     pub lines: u64,

@@ -128,8 +128,8 @@ pub enum Message<'m> {
     NoOrdinaryFile(&'m str, Part),
     #[error("{0}: its last line has no end; it is left out")]
     CutLine(&'m str),
-    #[error("the last line of standard input has no end; it may be a cut game")]
-    Unended,
+    #[error("the last line of {0} has no end; it may be a cut game")]
+    Unended(&'m str),
     /// A line of a journal is no game, and nothing has sealed it.
     #[error("{0}: line {1} can't be taken; it is skipped")]
     Skipped(&'m str, u64),

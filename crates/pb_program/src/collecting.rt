@@ -109,7 +109,10 @@ fn ledger<'a, 'f>(
         }
     };
     Ok(LedgerEnds {
-        saved: FromRead::new(Told::new(kept, reader)),
+        saved: FromRead::new(Told {
+            are_games: true,
+            ..Told::new(kept, reader)
+        }),
         store: file.store(kept.messages, kept.name)?,
     })
 }

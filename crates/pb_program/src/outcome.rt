@@ -1,6 +1,6 @@
 //! What became of a command, and why its files, its record or its moves are refused.
 
-use pb_cli::{Answer, LoadError, Made, NotWhole, Refused, Unread};
+use pb_cli::{Answer, Made, Refused, Unread};
 use pb_messages::{Looks, Messages, Part, Progress, looks_of};
 use std::fmt::Display;
 use std::fs::{self, File};
@@ -21,8 +21,7 @@ pub(crate) fn tell_answer(messages: Messages<'_>, table: &str, book: &str, answe
     answer.is_taken()
 }
 
-/// Tells what a run has made, or why it read no submission. Of a ledger that was cut short the last
-/// line is told too.
+/// Tells what a run has made, or why it read no submission.
 pub(crate) fn tell_made(
     progress: &Progress<'_>,
     made: Made,
@@ -40,11 +39,7 @@ pub(crate) fn tell_made(
     };
     match why {
         Unread::Table(_) => tell_file(messages, Part::Table, table, &why),
-        Unread::Ledger(NotWhole::Load(_)) => tell_file(messages, Part::Ledger, ledger, &why),
-        Unread::Ledger(NotWhole::Cut(line)) => {
-            messages.tell(&format_args!("{ledger}: {why}"));
-            tell_file(messages, Part::Ledger, ledger, &LoadError::Line(line));
-        }
+        Unread::Ledger(_) => tell_file(messages, Part::Ledger, ledger, &why),
     }
     false
 }

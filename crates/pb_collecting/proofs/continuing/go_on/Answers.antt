@@ -1,7 +1,6 @@
 use Rattle.std.proofs.Common.{Err, Ok, inl, inr, refl, subst}
 use Rattle.std.proofs.lemmas.Result.{err_from_is_err_and}
 use Rattle.pb_io.specs.Sink.{SinkState}
-use Rattle.pb_ledger.specs.Whole.{load_error_of}
 use Rattle.pb_ledger.proofs.Changes.{from_to}
 use Rattle.pb_commands.specs.Judged.{Refuses}
 use Rattle.pb_collecting.specs.Reasons.{saved_verdict}
@@ -23,10 +22,10 @@ returns-in_err-refuse_ledger g c =
     let p = err_from_is_err_and c.from_residual-in_err-refuse_ledger.result c.from_residual-in_err-refuse_ledger.ensures.1 in rw (p.1, p.2) (
     opened _ _ _ _ _ _ _ _ c.in_ok-ledger.ledger c.in_ok-ledger.ensures (λ same. inr (
       e,
-      c.load_whole.new.ledger,
+      c.load.new.ledger,
       h.fault,
       refl,
-      subst (λ (m : SinkState). Refuses (saved_verdict (load_error_of e)) m (g.Out.Sink.state c.refuse_ledger.new.sink) (Err fault)) same c.in_err-refuse_ledger.ensures,
+      subst (λ (m : SinkState). Refuses (saved_verdict e) m (g.Out.Sink.state c.refuse_ledger.new.sink) (Err fault)) same c.in_err-refuse_ledger.ensures,
     )))
 
 pub returns-in-Err : goal.returns-in-Err
@@ -36,17 +35,17 @@ returns-in-Err g c =
     let answer = c.in_ok-refuse_ledger.field-0 in
     opened _ _ _ _ _ _ _ _ c.in_ok-ledger.ledger c.in_ok-ledger.ensures (λ same. inr (
       e,
-      c.load_whole.new.ledger,
+      c.load.new.ledger,
       h.fault,
       refl,
-      (refl, subst (λ (m : SinkState). Refuses (saved_verdict (load_error_of e)) m (g.Out.Sink.state c.refuse_ledger.new.sink) (Ok answer)) same c.in_ok-refuse_ledger.ensures),
+      (refl, subst (λ (m : SinkState). Refuses (saved_verdict e) m (g.Out.Sink.state c.refuse_ledger.new.sink) (Ok answer)) same c.in_ok-refuse_ledger.ensures),
     ))
 
 pub returns : goal.returns
 returns g c made may =
     let load = c.in_default.ensures in
     let new = c.in_ok-ledger.ledger in
-    let loaded = c.load_whole.new.ledger in
+    let loaded = c.load.new.ledger in
     let left = c.collect_watched-end.new.ledger in
     let end = c.collect_watched-end.result in
     opened _ _ _ _ _ _ _ _ new c.in_ok-ledger.ensures (λ same. inl (

@@ -1,8 +1,7 @@
-use Rattle.std.proofs.Common.{subst, sym}
+use Rattle.std.proofs.Common.{refl, subst, sym}
 use Rattle.pb_io.specs.Lines.{lines}
 use Rattle.pb_ledger.specs.Loading.{Loads}
-use Rattle.pb_ledger.proofs.SavedLoading.{loads_only, loads_saved}
-use Rattle.pb_ledger.proofs.WholeForms.{saved_front_is_cut, saved_is_whole}
+use Rattle.pb_ledger.proofs.SavedLoading.{loaded_whole, loads_only, loads_saved, only_memory}
 use Rattle.pb_ledger.proofs.laws.saved.Goals as goal
 
 pub returns : goal.returns
@@ -11,6 +10,8 @@ returns c = record {
     loads_only cap A bytes games own room saved B,
     λ is. subst (Loads cap (lines bytes)) (sym is) (loads_saved cap A bytes games own room saved),
   );
-  whole = saved_is_whole;
-  cut = saved_front_is_cut;
+  back = λ fills source ledger A bytes games own room saved tells. (
+    loaded_whole _ A bytes games own room saved fills source.old source.new tells ledger.old ledger.new refl,
+    only_memory _ A bytes games own room saved fills source.old source.new tells ledger.old ledger.new refl,
+  );
 }
