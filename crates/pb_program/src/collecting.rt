@@ -108,11 +108,10 @@ fn ledger<'a, 'f>(
             return Err(Stop::NotOpened);
         }
     };
+    let mut saved = Told::new(kept, reader);
+    saved.are_games = true;
     Ok(LedgerEnds {
-        saved: FromRead::new(Told {
-            are_games: true,
-            ..Told::new(kept, reader)
-        }),
+        saved: FromRead::new(saved),
         store: file.store(kept.messages, kept.name)?,
     })
 }
