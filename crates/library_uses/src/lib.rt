@@ -7,4 +7,5 @@ pub mod books;
 pub mod games;
 pub mod moves;
 pub mod perft;
+pub mod surface;
 pub mod tallies;

@@ -25,32 +25,3 @@ pub fn perft(alloc: Global, setup: &Setup, depth: u32) -> Result<u64, AllocError
     }
     Ok(count)
 }
-
-#[cfg(test)]
-mod tests {
-    use super::*;
-    use pb_board::read_fen;
-    use std::test::Fail;
-
-    #[test]
-    fn counts_as_published(rt: HostRuntime) -> Result<(), Fail> {
-        let text = b"r3k2r/p1ppqpb1/bn2pnp1/3PN3/1p2P3/2N2Q1p/PPPBBPPP/R3K2R w KQkq - 0 1";
-        let start = Setup::start();
-        let busy = read_fen(text)?.setup();
-        let published = [
-            (start, 1, 20),
-            (start, 2, 400),
-            (start, 3, 8902),
-            (busy, 1, 48),
-            (busy, 2, 2039),
-        ];
-        for (setup, depth, count) in published {
-            assert_eq!(rt;
-                perft(rt.alloc(), &setup, depth)?,
-                count,
-                "at depth {depth}"
-            );
-        }
-        Ok(())
-    }
-}
