@@ -1,10 +1,10 @@
-//! The surface of the six crates, as another program meets it: each call and each type that stays,
-//! once, with its argument and result types. It compiles only while these stand, small types are
-//! `Copy`, enums have just these members, and answers and errors have `==`. Integers are typed, as a
-//! bare literal would follow a changed width.
+//! The surface of the six crates, as another program meets it: each call and each type that is
+//! promised, once, with its argument and result types. It compiles only while these stand, small
+//! types are `Copy`, enums have just these members, and answers and errors have `==`. Integers have
+//! types, since a bare literal would follow a changed width.
 //!
-//! What the calls answer is said by their contracts. The answers that they are compared with here are
-//! those of a table of ones, under which the start has key 1, and of one game of three plies.
+//! What the calls answer is said by their contracts. Here they are compared with what is due under
+//! a table of ones, by which the start has key 1, and of one game of three plies.
 
 pub use pb_board::laws as board_laws;
 use pb_board::{
@@ -80,7 +80,8 @@ fn members() {
     members!(Colour: White Black);
     members!(Kind: Pawn Knight Bishop Rook Queen King);
     members!(SetupError: Kings Pawns EnPassant);
-    members!(FenError: Fields Placement Turn Castling EnPassantText Half Full Kings Pawns EnPassantPawn);
+    members!(FenError: Fields Placement Turn Castling EnPassantText Half Full
+        Kings Pawns EnPassantPawn);
     members!(Operand: Word Text);
     members!(PutError: Opcode Operand Repeated Memory);
     members!(EpdError: Token Fields Setup Opcode Unended Repeated Memory);
@@ -479,6 +480,7 @@ pub fn surface(alloc: Global) -> Result<bool, AllocError> {
     };
     Ok(
         setups() == Some(true)
+            && read_table(alloc, b"").err() == Some(TableError::Count(0))
             && records(alloc)?
             && epd(alloc, start)?
             && moves(alloc, &fen, m)?
