@@ -96,7 +96,7 @@ fn members() {
     members!(ParseFault: Usage Memory);
 }
 
-/// Asks for squares and setups (pb_board).
+/// Uses squares and setups (pb_board).
 fn setups() -> Option<bool> {
     let made: Option<Square> = Square::new(4u8, 0u8);
     let e1: Square = made?;
@@ -129,7 +129,7 @@ fn setups() -> Option<bool> {
     )
 }
 
-/// Asks for FEN records (pb_board).
+/// Uses FEN records (pb_board).
 fn records(alloc: Global) -> Result<bool, AllocError> {
     let made: Option<Fen> = Fen::new(Setup::start(), 0u16, 1u16);
     let Some(fen) = made else {
@@ -154,7 +154,7 @@ fn records(alloc: Global) -> Result<bool, AllocError> {
     )
 }
 
-/// Asks for EPD records (pb_epd).
+/// Uses EPD records (pb_epd).
 fn epd(alloc: Global, setup: Setup) -> Result<bool, AllocError> {
     let text: OperandBytes = OperandBytes::of(b"two kings".to_vec(alloc)?);
     let _bytes: &[u8] = text.as_bytes();
@@ -182,7 +182,7 @@ fn first_move() -> Option<Move> {
     made
 }
 
-/// Asks for moves (pb_moves).
+/// Uses moves (pb_moves).
 fn moves(alloc: Global, fen: &Fen, m: Move) -> Result<bool, AllocError> {
     let setup: Setup = fen.setup();
     let (from, to): (Square, Square) = (m.from(), m.to());
@@ -224,7 +224,7 @@ fn puts<K: Sink>(sink: &mut K) -> bool {
     put == Ok(()) && flushed == Ok(()) && !failed
 }
 
-/// Asks for the ends that bytes come from and go to (pb_poly).
+/// Uses the ends that bytes come from and go to (pb_poly).
 fn ends(alloc: Global) -> bool {
     let mut room: [u8; 4] = [0; 4];
     let mut kept: MemSink = MemSink::new(alloc);
@@ -245,7 +245,7 @@ fn ends(alloc: Global) -> bool {
         && never.fill(&mut [0]) == Ok(1)
 }
 
-/// Asks for codes of moves, tables and keys (pb_poly).
+/// Uses codes of moves, tables and keys (pb_poly).
 fn keys(table: &Table, setup: &Setup, m: Move) -> bool {
     let code: u16 = code_of(setup, m);
     let coded: Option<Move> = move_of(setup, code);
@@ -258,7 +258,7 @@ fn keys(table: &Table, setup: &Setup, m: Move) -> bool {
     code == 0x031c && coded == Some(m) && word == 1 && key == 1 && next == 0
 }
 
-/// Asks for books (pb_poly).
+/// Uses books (pb_poly).
 fn books(alloc: Global, table: &Table, setup: &Setup, m: Move) -> Result<bool, AllocError> {
     let entry: Entry = Entry {
         key: 1u64,
@@ -286,7 +286,7 @@ fn books(alloc: Global, table: &Table, setup: &Setup, m: Move) -> Result<bool, A
     )
 }
 
-/// Asks for a map from keys and codes to points and occurrences (pb_ledger).
+/// Uses a map from keys and codes to points and occurrences (pb_ledger).
 fn tally<T: Tally>(alloc: Global) -> Result<bool, AllocError> {
     let mut tally: T = T::new(alloc);
     let made: Result<(), AllocError> = tally.ensure(5u64, 7u16);
@@ -303,7 +303,7 @@ fn tally<T: Tally>(alloc: Global) -> Result<bool, AllocError> {
     Ok(points == 2 && times == 1 && rows?.as_slice() == [row].as_slice())
 }
 
-/// Asks for submission lines (pb_ledger).
+/// Uses submission lines (pb_ledger).
 fn lines() -> Option<bool> {
     let checked: Result<Line<'_>, Refusal> = check_line(LINE);
     let line: Line<'_> = checked.ok()?;
@@ -328,7 +328,7 @@ fn lines() -> Option<bool> {
     )
 }
 
-/// Asks for a ledger of games (pb_ledger).
+/// Uses a ledger of games (pb_ledger).
 fn ledger<T: Tally>(alloc: Global, table: &Table) -> Result<bool, AllocError> {
     let made: Result<Ledger<T>, AllocError> = Ledger::new(alloc, table, 1_000u32);
     let mut ledger: Ledger<T> = made?;
@@ -364,7 +364,7 @@ fn is_first(id: &Id, game: &Game) -> bool {
         && listed.len() == 3
 }
 
-/// Asks for a stream of lines, and for saved ledgers (pb_ledger).
+/// Uses streams of lines and saved ledgers (pb_ledger).
 fn streams<T: Tally>(alloc: Global, table: &Table, rules: Rules) -> Result<bool, AllocError> {
     let made: Result<Ledger<T>, AllocError> = Ledger::with_rules(alloc, table, 1_000u32, rules);
     let mut ledger: Ledger<T> = made?;
@@ -390,7 +390,7 @@ fn streams<T: Tally>(alloc: Global, table: &Table, rules: Rules) -> Result<bool,
     Ok(loaded == Err(LoadError::Line(1)) && collected == Ok(totals) && kept == Ok(()))
 }
 
-/// Asks for the commands over the table's text, and for their statuses (pb_cli).
+/// Uses the commands over the table's text, and their statuses (pb_cli).
 fn commands(alloc: Global, rules: Rules, table: &[u8]) -> Result<bool, Fault> {
     let moves: [&str; 1] = ["e2e4"];
     let fills: u32 = 9;
@@ -424,7 +424,7 @@ fn commands(alloc: Global, rules: Rules, table: &[u8]) -> Result<bool, Fault> {
     )
 }
 
-/// Asks for the commands that give a book (pb_cli).
+/// Uses the commands that give a book (pb_cli).
 fn collections(alloc: Global, rules: Rules, table: &[u8]) -> Result<bool, Fault> {
     let fills: u32 = 9;
     let mut sink = MemSink::new(alloc);
@@ -447,23 +447,20 @@ fn collections(alloc: Global, rules: Rules, table: &[u8]) -> Result<bool, Fault>
     Ok(ledger.len() == 1 && book?.entries() == collected.entries())
 }
 
-/// Asks for the command line (pb_cli).
+/// Uses the command line (pb_cli).
 fn order(alloc: Global) -> bool {
     let words: [&str; 3] = ["pbook", "show", "book.bin"];
     let order: Result<Order<'_>, ParseFault> = parse(alloc, &words);
     matches!(order, Ok(Order::Show { .. }))
 }
 
-/// Reads a table whose 781 numbers are 1, and gives its text with it.
-fn table_of_ones(alloc: Global) -> Result<(Vec<u8>, Table), TableError> {
+/// Makes the text of a table whose 781 numbers are 1.
+fn ones(alloc: Global) -> Result<Vec<u8>, AllocError> {
     let mut text: Vec<u8> = Vec::new(alloc);
     for _ in 0..781 {
-        if text.extend_from_slice(b"0000000000000001\n").is_err() {
-            return Err(TableError::Memory);
-        }
+        text.extend_from_slice(b"0000000000000001\n")?;
     }
-    let table: Result<Table, TableError> = read_table(alloc, text.as_slice());
-    Ok((text, table?))
+    Ok(text)
 }
 
 /// Calls all of it, and tells whether each answer is the one that is due.
@@ -475,7 +472,9 @@ pub fn surface(alloc: Global) -> Result<bool, AllocError> {
     let (Some(fen), Some(m), Some(rules)) = (Fen::new(start, 0, 1), first_move(), rules) else {
         return Ok(false);
     };
-    let Ok((text, table)) = table_of_ones(alloc) else {
+    let text = ones(alloc)?;
+    let read: Result<Table, TableError> = read_table(alloc, text.as_slice());
+    let Ok(table) = read else {
         return Ok(false);
     };
     Ok(
