@@ -98,7 +98,7 @@ module _ (line : List ℕ) (s : Submission) (lawful : IsLawful line s) where
           (
             λ why k. k.1 s.1.start (lawful.start, field_is line s lawful 2),
             (
-              λ why k. none_due line s lawful refusal.Start k.1,
+              λ why k. none_due line s lawful refusal.Start (k.1, k.2, k.3),
               (
                 λ why k. none_due line s lawful (refusal.Spelling k.0) k.2,
                 (
