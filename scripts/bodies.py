@@ -1,9 +1,9 @@
 #!/usr/bin/env python3
 """Has the prover refuse the wrong bodies of crates/*/bodies/, many of them in one run.
 
-Usage: scripts/bodies.py [--anew] [CRATE..]    tries the bodies of these crates, or of all
-       scripts/bodies.py --before-gate         notes what each crate is made of
-       scripts/bodies.py --after-gate          marks the libraries that `rt ci` made of just that
+Usage: scripts/bodies.py [--anew] [CRATE..]   tries the bodies of these crates, or of all
+       scripts/bodies.py --goals CRATE NAME   tells which goals this wrong body breaks, whether they
+                                              have written answers, and what refusing it costs
 It runs at the top of the repository. `make test-bodies` and `make test` call it.
 
 A body is an edit, as those of must-fail/: lines `file: PATH`, `old: TEXT` and `new: TEXT`, where
@@ -28,8 +28,8 @@ side. Each run's report is written to the folder BODIES_LOGS where that is set. 
 import collections
 import concurrent.futures
 import dataclasses
+import functools
 import hashlib
-import json
 import os
 import pathlib
 import re
@@ -39,14 +39,18 @@ import sys
 import tempfile
 import time
 
+from lib import libraries
+from lib.specs import TOKEN, Specs, imports
+
 CRATES = pathlib.Path("crates")
 SCRIPT = pathlib.Path("scripts/bodies.py")
 CACHE = os.environ.get("XDG_CACHE_HOME") or pathlib.Path.home() / ".cache"
 KEPT = pathlib.Path(CACHE) / "pbook"
-NOTED = pathlib.Path("build/made-of.json")
 PARTS = ("src", "specs", "proofs")
-# The memory that a run may take, in bytes.
-ROOM = 4_500_000_000
+# The files of a function's own proof, which no other one sees.
+OWN_PROOFS = ("Answers.antt", "Invariants.antt", "Proof.antt")
+# The memory that a run may take, in bytes: twice what most take.
+ROOM = 3_200_000_000
 # What is said of a text that names what an edit took away, and of an answer that does.
 MISSING = r"has no field|is not in scope|has no `"
 GONE = re.compile(MISSING + "|was not admitted")
@@ -79,6 +83,7 @@ class Function:
     def path(self):
         """The name below the crate."""
         return self.name.partition("::")[2]
+
 
 
 def module_of(path):
@@ -117,6 +122,17 @@ def functions_of(crate, path):
     return found
 
 
+@functools.cache
+def without_bodies(path):
+    """A file's lines, of a source file without those of its functions' bodies."""
+    lines = path.read_text(encoding="utf-8").split("\n")
+    for it in functions_of(path.parts[1], "/".join(path.parts[2:])) if path.suffix == ".rt" else ():
+        # (what a `const fn` gives may be the value of a constant)
+        if "const " not in lines[it.first - 1] + lines[it.first]:
+            lines[it.body : it.last - 1] = [""] * (it.last - 1 - it.body)
+    return lines
+
+
 def owner_of(head):
     """The type of an `impl`, and its trait with the trait's arguments; or a trait and nothing."""
     head = re.sub(r"'\w+\b,? ?|\bwhere\b.*", "", head.replace("->", "  "))
@@ -147,6 +163,11 @@ def lines_of(lines, indent):
     return 0, 0
 
 
+def names_in(line):
+    """The names of an import."""
+    return {*re.findall(r"[^\s{},;]+", line)}
+
+
 @dataclasses.dataclass(frozen=True)
 class Body:
     """An edit: in which line of which file a text takes another's place, and in what functions. It
@@ -156,15 +177,20 @@ class Body:
     pairs: tuple
     functions: frozenset
     is_alone: bool
+    # The path of the function, mostly a law, that refuses a definition.
+    judge: str | None
 
     @staticmethod
     def read(crate, file):
         """The edit that a file has. A text has one line, so lines keep their numbers."""
-        pairs, functions, is_alone, texts, path, old = [], set(), False, {}, None, None
+        pairs, functions, is_alone, texts = [], set(), False, {}
+        path, old, judge = None, None, None
         for line in file.read_text(encoding="utf-8").split("\n"):
             word, _, rest = line.partition(":")
             rest = rest.removeprefix(" ")
-            if word == "file":
+            if word == "judged by" and path is None:
+                judge = rest.strip()
+            elif word == "file":
                 path = rest.strip()
                 texts.setdefault(path, (CRATES / crate / path).read_text(encoding="utf-8"))
             elif word == "old":
@@ -177,19 +203,35 @@ class Body:
                 texts[path] = text.replace(old, rest)
                 places = functions_of(crate, path) if path.startswith("src/") else []
                 places = [it for it in places if it.first <= at <= it.last]
+                # (an import that loses or renames a name turns all functions of the file)
                 is_import = re.match(r"(ghost )?use ", text.split("\n")[at - 1])
+                is_import = is_import and names_in(old) <= names_in(rest) and " as " not in rest
                 is_inside = bool(places or is_import) and all(at >= it.body for it in places)
                 is_alone = is_alone or not is_inside
                 functions.update(places)
-                pairs.append((path, at, old, rest))
+                pairs.append((path, at, old, rest, text.split("\n")[at - 1]))
                 old = None
         if not pairs:
             raise BadEdit("it has no lines `file:`, `old:` and `new:`")
-        return Body(file.stem, tuple(pairs), frozenset(functions), is_alone or not functions)
+        is_alone = is_alone or not functions
+        body = Body(file.stem, tuple(pairs), frozenset(functions), is_alone, judge)
+        if judge and not body.is_definition:
+            raise BadEdit("only a definition names what judges it")
+        return body
+
+    @property
+    def files(self):
+        """The files that it turns."""
+        return {path for path, *_ in self.pairs}
+
+    @property
+    def is_definition(self):
+        """Whether it turns definitions alone."""
+        return all(path.startswith("specs/") for path in self.files)
 
     def plant(self, room):
         """Exchanges the texts in a copy of the crate, whatever other bodies write elsewhere."""
-        for path, at, old, new in self.pairs:
+        for path, at, old, new, _ in self.pairs:
             lines = (room / path).read_text(encoding="utf-8").split("\n")
             lines[at - 1] = lines[at - 1].replace(old, new)
             (room / path).write_text("\n".join(lines), encoding="utf-8")
@@ -225,18 +267,15 @@ class Said:
         found = re.search(self.answers_of(function) + rests, self.text, re.M)
         return found and not re.search(MISSING, self.text) and f"lemma {found[1]}"
 
-    def goal_of(self, function):
-        """A goal of this function that is told as unproved, or None."""
+    def goals_of(self, function):
+        """The goals of this function that are told as unproved."""
         answers = self.answers_of(function) + r"`([^`]+)`: (.*)"
-        for goal, why in re.findall(answers, self.text, re.M):
-            if not GONE.search(why):
-                return goal
+        found = [goal for goal, why in re.findall(answers, self.text, re.M) if not GONE.search(why)]
         at = rf"^note: {re.escape(function.file)}:(\d+):\d+: it is not proved that .*?\(`([^`]+)`\)"
         for line, goal in re.findall(at, self.text, re.M):
-            if function.first <= int(line) <= function.last:
-                return goal
-        found = re.search(r"`search` did not prove `([^`]+)`", self.line_of(function) or "")
-        return found and found[1]
+            found += [goal] if function.first <= int(line) <= function.last else []
+        searched = re.search(r"`search` did not prove ([^;]+)", self.line_of(function) or "")
+        return found + re.findall(r"`([^`]+)`", searched[1] if searched else "")
 
     def waits_of(self, function):
         """The names of the functions whose proof this one's goals may wait for."""
@@ -267,8 +306,6 @@ class Crate:
         self.of_kit = ["std", *[it for it in words.split() if it not in Crate.known]]
         self.folder = CRATES / self.name
         self.library = self.folder / f"out/rlib/{self.name}.rlib"
-        # What the library was made of. The toolchain removes this file with the library.
-        self.mark = self.folder / "out/rlib/made-of"
         Crate.known[self.name] = self
 
     @staticmethod
@@ -288,45 +325,43 @@ class Crate:
         """The files of its wrong bodies."""
         return sorted((self.folder / "bodies").glob("*.edit"))
 
-    def made_of(self, more=()):
-        """A sum of the toolchain, of this crate, of those below it, and of more files."""
-        crates = [*self.below(), self]
-        total = hashlib.sha256(repr([VERSION, *[it.line for it in crates]]).encode())
-        files = [file for it in crates for part in PARTS for file in it.files(part)]
-        for file in [*files, *more]:
-            total.update(repr((str(file), file.read_bytes())).encode())
-        return total.hexdigest()
+    def files(self):
+        """The files that its proof is made of."""
+        found = [it for part in PARTS for it in (self.folder / part).rglob("*")]
+        return sorted(it for it in found if it.is_file())
 
-    def files(self, part):
-        """The files of one of its parts."""
-        return sorted(it for it in (self.folder / part).rglob("*") if it.is_file())
+    def functions(self):
+        """Its functions that have a body."""
+        files = sorted((self.folder / "src").rglob("*.rt"))
+        files = [str(it.relative_to(self.folder)) for it in files]
+        return [it for file in files for it in functions_of(self.name, file)]
+
+    def text_of(self, function, last=None):
+        """The lines of a function, up to this one or all."""
+        lines = (self.folder / function.file).read_text(encoding="utf-8").split("\n")
+        return "\n".join(lines[function.first - 1 : last or function.last])
 
     def kept(self):
-        """The file that says that its bodies have passed, as they are and over what they are of."""
-        return KEPT / f"{self.name}-{self.made_of([*self.bodies(), SCRIPT])}"
+        """The file that says that its bodies have passed, as they are and over what they rest on:
+        no proof sees the bodies of the functions below, nor how those are proved."""
+        lines = [it.line for it in (*self.below(), self)]
+        seen = [it for crate in self.below() for it in crate.files() if it.name not in OWN_PROOFS]
+        own = [*self.files(), *self.bodies(), SCRIPT]
+        texts = [*map(without_bodies, seen), *(it.read_bytes() for it in own)]
+        files = [str(it) for it in (*seen, *own)]
+        total = hashlib.sha256(repr((VERSION, lines, files, texts)).encode())
+        return KEPT / f"{self.name}-{total.hexdigest()}"
 
-    def is_made(self):
-        """Whether its library is there, and made of what the crate is now."""
-        return self.mark.is_file() and self.mark.read_text(encoding="utf-8") == self.made_of()
-
-    def has_below(self):
-        """Whether the libraries below stand, once `rt check` has made what no gate has left."""
-        lacking = [it for it in self.below() if not it.is_made()]
-        if not lacking:
-            return True
-        print(f"{self.name}: proving {' '.join(it.name for it in lacking)}, if need be", flush=True)
-        sums = {it: it.made_of() for it in lacking}
-        how = {"cwd": self.folder, "capture_output": True, "text": True, "errors": "replace"}
-        ran = subprocess.run(["rt", "check", "--only", ""], stdin=subprocess.DEVNULL, **how)
-        for it, was in sums.items():
-            # (the stamp is what `rt check` itself goes by)
-            is_built = it.library.is_dir() and it.library.with_name("stamp").is_file()
-            if is_built and it.made_of() == was:
-                it.mark.write_text(was, encoding="utf-8")
-        is_well = all(it.is_made() for it in lacking)
-        if not is_well:
-            print(ran.stdout, ran.stderr, sep="\n")
-        return is_well
+    def has_goal(self, goal, function):
+        """Whether the right body of this function has the goal, as far as its written answers tell.
+        Where it has none, each goal is left to a search, for a wrong body as for the right one."""
+        *above, name = function.path.split("::")
+        folder = self.folder.joinpath("proofs", *above)
+        for file in (folder / name / "Answers.antt", folder / f"+{name}/Answers.antt"):
+            if file.is_file():
+                text = file.read_text(encoding="utf-8")
+                return re.search(rf"^pub {re.escape(goal)} :", text, re.M) is not None
+        return True
 
     def words(self):
         """The words of a check, as `rattle check --help` tells them."""
@@ -366,12 +401,13 @@ class Trial:
 
     def __init__(self, crate, kept):
         self.crate, self.kept, self.lines, self.failed = crate, kept, [], 0
-        self.seconds, self.runs = 0.0, 0
-        # The functions beside whose wrong bodies a body is not tried again.
-        self.apart = collections.defaultdict(set)
+        self.seconds, self.runs, self.specs = 0.0, 0, Specs(CRATES)
+        # The functions that judge a body, and what it is not tried beside: wrong bodies of these
+        # functions, and edits of these definitions.
+        self.judges, self.apart = {}, collections.defaultdict(set)
 
     def tell(self, name, goal, function):
-        self.lines.append(f"{self.crate.name}/{name}: refused at `{goal}` of {function}")
+        self.lines.append(f"{self.crate.name}/{name}: refused at `{goal}` of {function.name}")
 
     def fail(self, name, why):
         self.failed += 1
@@ -386,57 +422,99 @@ class Trial:
             pathlib.Path(logs, f"{self.crate.name}-{self.runs}").write_text(text, encoding="utf-8")
         return said
 
-    def functions_of(self, files):
-        return [it for path in dict.fromkeys(files) for it in functions_of(self.crate.name, path)]
-
-    def try_all(self):
-        """Tries the bodies of functions in rounds, and then each of the others alone."""
-        left, alone = [], []
+    def read_bodies(self):
+        """The bodies that can be read, each with what judges it. One that turns more than functions
+        is judged by laws and by its functions, or where it has none, by those of the modules that
+        it turns or that its name begins with."""
+        functions = self.crate.functions()
         for file in self.crate.bodies():
             try:
                 body = Body.read(self.crate.name, file)
-                (alone if body.is_alone else left).append(body)
+                if not body.is_alone:
+                    self.judges[body] = sorted(body.functions, key=lambda it: it.first)
+                elif body.judge:
+                    self.judges[body] = [it for it in functions if it.path == body.judge]
+                    self.apart[body] = self.rests(self.judges[body], functions)
+                else:
+                    modules = {f"src/{body.name.partition('-')[0]}.rt", *body.files}
+                    of_modules = [it for it in functions if it.file in modules]
+                    laws = [it for it in functions if it.file == "src/laws.rt"]
+                    self.judges[body] = [*laws, *(body.functions or of_modules)]
             except (BadEdit, OSError, UnicodeDecodeError) as error:
                 self.fail(file.stem, str(error))
-        while left:
-            taken = self.next_round(left)
-            left = [it for it in left if it not in taken] + self.try_round(taken)
-        for body in alone:
-            self.try_alone(body)
+        return list(self.judges)
+
+    def rests(self, judges, functions):
+        """The definitions on which the contracts rest of these functions and of those that they
+        name."""
+        named = {it for judge in judges for it in TOKEN.findall(self.crate.text_of(judge))}
+        seeds = []
+        for it in [*judges, *(it for it in functions if it.path.rpartition("::")[2] in named)]:
+            known = imports((self.crate.folder / it.file).read_text(encoding="utf-8"))
+            words = TOKEN.findall(self.crate.text_of(it, it.body))
+            seeds += [self.specs.find_import(known.get(word)) for word in words]
+        return {*self.specs.closure(seeds)}
+
+    def turned(self, body):
+        """The names of the functions that a body turns, its lines, the definitions, and its law."""
+        lines = {(f"{self.crate.name}.{pathlib.PurePath(it[0]).stem}", it[4]) for it in body.pairs}
+        found = {it for it in self.specs.definitions.values() if lines & it.places}
+        found |= {it.name for it in body.functions} | {it[:2] for it in body.pairs}
+        return found | ({body.judge} if body.judge else set())
+
+    def try_all(self):
+        """Tries bodies of functions in rounds, then definitions that name what judges them, and
+        then each of the others alone."""
+        bodies = self.read_bodies()
+        judged = [it for it in bodies if it.judge]
+        alone = [[it] for it in bodies if it.is_alone and not it.judge]
+        for left in ([it for it in bodies if not it.is_alone], judged, *alone):
+            while left:
+                taken = self.next_round(left)
+                left = [it for it in left if it not in taken] + self.try_round(taken)
 
     def next_round(self, left):
-        """The bodies of a round: one a function and line, none beside what its goals waited for."""
+        """The bodies of a round: one a function, line and definition, none beside what its goals
+        waited for, or what its judge rests on."""
         taken, edited, avoided = [], set(), set()
         for body in left:
-            places = {it.name for it in body.functions}
-            places.update((path, at) for path, at, *_ in body.pairs)
-            if not places & (edited | avoided) and not self.apart[body] & edited:
+            turned = self.turned(body)
+            if not turned & (edited | avoided) and not self.apart[body] & edited:
                 taken.append(body)
-                edited |= places
+                edited |= turned
                 avoided |= self.apart[body]
         return taken
 
     def try_round(self, bodies):
         """Tries bodies together, and returns those that have to be tried again."""
-        said = self.run(bodies, sorted({it.path for body in bodies for it in body.functions}))
+        said = self.run(bodies, sorted({it.path for body in bodies for it in self.judges[body]}))
         if said.unread():
             return self.without_unread(bodies, said)
         again = []
         for body in bodies:
-            functions = sorted(body.functions, key=lambda it: it.first)
-            beside = {it.name for other in bodies if other is not body for it in other.functions}
-            waits = set().union(*(said.waits_of(it) for it in functions))
-            goals = [(goal, it.name) for it in functions if (goal := said.goal_of(it))]
-            if goals:
-                self.tell(body.name, *goals[0])
-            elif not all(said.line_of(it) for it in functions):
-                self.fail(body.name, f"no report of {' '.join(it.name for it in functions)}")
-            elif waits and beside:
+            judges = self.judges[body]
+            beside = {it for other in bodies if other is not body for it in self.turned(other)}
+            waits = set().union(*(said.waits_of(it) for it in judges))
+            goals = [(goal, it) for it in judges for goal in said.goals_of(it)]
+            own = [it for it in goals if it[1] not in body.functions or self.crate.has_goal(*it)]
+            # A definition also breaks a lemma. Beside others it might be theirs.
+            lemmas = [(lemma, it) for it in judges if (lemma := said.lemma_of(it))]
+            lemmas = lemmas if body.is_definition else []
+            if own or lemmas and not beside:
+                self.tell(body.name, *(own or lemmas)[0])
+            elif not all(said.line_of(it) for it in judges):
+                self.fail(body.name, f"no report of {' '.join(it.name for it in judges)}")
+            elif beside and (waits or lemmas):
                 # it waits for a wrong body itself, or for a function that does
                 self.apart[body] |= waits & beside or beside
                 again.append(body)
+            elif goals:
+                why = f"the right body has no goal `{goals[0][0]}`, so this shows nothing"
+                self.fail(body.name, f"NOT REFUSED: {why}")
+            elif all(said.line_of(it).startswith("proved") for it in judges):
+                self.fail(body.name, "NOT REFUSED: what judges it is proved")
             else:
-                self.fail(body.name, "NOT REFUSED: its own function is proved")
+                self.fail(body.name, "NOT REFUSED: an answer names what it took away")
         return again
 
     def without_unread(self, bodies, said):
@@ -448,25 +526,6 @@ class Trial:
             if line:
                 self.fail(body.name, f"the prover can't read it: {line[:300]}")
         return [it for it, line in alone.items() if not line]
-
-    def try_alone(self, body):
-        """Tries a body on its own: a law breaks, or its function, or where it has none, a function
-        of the module that it turns or that its name begins with. By a definition a lemma may."""
-        files = [path for path, *_ in body.pairs if path.startswith("src/")]
-        named = f"src/{body.name.partition('-')[0]}.rt"
-        files += [named] if (self.crate.folder / named).is_file() else []
-        places = self.functions_of(["src/laws.rt"])
-        places += body.functions or self.functions_of(files)
-        said = self.run([body], sorted({it.path for it in places}))
-        goals = [(goal, it.name) for it in places if (goal := said.goal_of(it))]
-        if all(path.startswith("specs/") for path, *_ in body.pairs):
-            goals += [(lemma, it.name) for it in places if (lemma := said.lemma_of(it))]
-        if said.unread():
-            self.fail(body.name, f"the prover can't read it: {said.unread()[:300]}")
-        elif goals:
-            self.tell(body.name, *goals[0])
-        else:
-            self.fail(body.name, "NOT REFUSED: laws and the functions that it turns are proved")
 
 
 def try_crate(crate):
@@ -483,6 +542,13 @@ def try_crate(crate):
     passed = len(trial.lines) - trial.failed
     text += f"{crate.name}: {passed} refused, {trial.failed} failed, in {trial.runs} runs, "
     return f"{text}{trial.seconds:.0f} s of processor time\n", passed, trial.failed, trial.seconds
+
+
+def prove(crates):
+    """Has these crates proved whose libraries don't stand."""
+    names = sorted(it.name for it in crates)
+    if names and not libraries.stand(names):
+        subprocess.run(["sh", "scripts/build.sh", *names], check=True)
 
 
 def lanes():
@@ -503,8 +569,7 @@ def try_crates(names, anew):
         print(f"{crate.kept().read_text(encoding='utf-8')}{crate.name}: as is kept", flush=True)
         passed += len(crate.bodies())
         crates.remove(crate)
-    if not all(it.has_below() for it in crates):
-        crates, failed = [], 1
+    prove({below for it in crates for below in it.below()})
     crates.sort(key=lambda it: -len(it.bodies()))
     with concurrent.futures.ThreadPoolExecutor(lanes()) as pool:
         for trial in concurrent.futures.as_completed([pool.submit(try_crate, it) for it in crates]):
@@ -517,28 +582,30 @@ def try_crates(names, anew):
     return 1 if failed or not passed else 0
 
 
-def note_what_is_made():
-    """Notes what each crate is made of."""
-    NOTED.parent.mkdir(exist_ok=True)
-    sums = {it.name: it.made_of() for it in Crate.read_all()}
-    NOTED.write_text(json.dumps(sums), encoding="utf-8")
-
-
-def mark_what_was_made():
-    """Marks the libraries that were made since then, where the crate is still what it was."""
-    noted, since = json.loads(NOTED.read_text(encoding="utf-8")), NOTED.stat().st_mtime
-    for crate in Crate.read_all():
-        is_new = crate.library.is_dir() and crate.library.stat().st_mtime >= since
-        if is_new and crate.made_of() == noted.get(crate.name):
-            crate.mark.write_text(noted[crate.name], encoding="utf-8")
+def tell_goals(name, edit):
+    """Tells at which goals a wrong body is refused, and the processor time of a check over what
+    `rt check` has kept, or from nothing."""
+    Crate.read_all()
+    crate = Crate.known[name]
+    files = [crate.folder / part / f"{edit}.edit" for part in ("must-fail", "bodies")]
+    body = Body.read(name, next(it for it in files if it.is_file()))
+    prove(crate.below())
+    functions = body.functions or functions_of(name, "src/laws.rt")
+    with tempfile.TemporaryDirectory(prefix="pbook-kept-") as room:
+        kept = crate.folder / "out/incremental"
+        kept = kept.resolve() if kept.is_dir() else room
+        said = crate.check([body], [it.path for it in functions], kept)
+    for it in functions:
+        print(f"{it.path}: {said.line_of(it)}")
+        for goal in said.goals_of(it):
+            print(f"  {goal}{'' if crate.has_goal(goal, it) else ' (the right body has none)'}")
+    print(f"{said.unread() or ''}{said.seconds:.1f} s of processor time")
 
 
 def main():
     words = sys.argv[1:]
-    if words == ["--before-gate"]:
-        return note_what_is_made()
-    if words == ["--after-gate"]:
-        return mark_what_was_made()
+    if words[:1] == ["--goals"] and len(words) == 3:
+        return tell_goals(*words[1:])
     names = [it for it in words if it != "--anew"]
     if any(it.startswith("-") for it in names):
         sys.exit(__doc__)

@@ -1,11 +1,12 @@
 #!/bin/sh
-# Proves what the program stands on, builds it at build/pbook, and tells how far that is.
-# Usage: scripts/build.sh (at the top of the repository).
+# Proves crates and what they stand on, and tells how far that is. The libraries that are proved are
+# left where `rt check` takes them, and the program at build/pbook.
+# Usage: scripts/build.sh CRATE.. (at the top of the repository).
 #
 # The toolchain's gate proves crates side by side and from nothing, and keeps on this machine what
-# has passed (rattle-kit-13f). So it runs over a copy of the program's crates, without the wrong
-# bodies and without the programs that serve tests: `make test` then takes these proofs as they are,
-# and a run that was interrupted goes on with the crates that are left.
+# has passed (rattle-kit-13f). So it runs over a copy of these crates, without the wrong bodies and
+# the rows of examples: `make test` then takes these proofs as they are, what another run has proved
+# is fetched in seconds, and a run that was interrupted goes on with the crates that are left.
 set -eu
 mkdir -p build
 exec 9> build/lock
@@ -22,9 +23,9 @@ leave() {
 trap leave EXIT
 trap 'exit 1' HUP INT TERM
 
-# The lines of the program's crate and of all below it. They name crates of the toolchain too, which
-# have no line of their own.
-awk '
+# The lines of these crates and of all below them. They name crates of the toolchain too, which have
+# no line of their own.
+awk -v names="$*" '
     /^#/ || NF == 0 { next }
     { name = $1; sub(/:$/, "", name); line[name] = $0 }
 
@@ -36,10 +37,14 @@ awk '
         for (i = 2; i <= count; i++) print_lines(word[i])
         print line[name]
     }
-    END { print_lines("pbook") }
+    END {
+        all = split(names, wanted, " ")
+        for (at = 1; at <= all; at++) print_lines(wanted[at])
+    }
 ' crates.txt > "$room/crates.txt"
 cp HANDLES "$room/HANDLES"
 crates=$(cut -d: -f1 "$room/crates.txt")
+python3 -B scripts/lib/libraries.py note
 for crate in $crates; do
     mkdir -p "$room/crates/$crate"
     for part in src specs proofs data args stdin stdout status; do
@@ -62,10 +67,10 @@ tell_work() {
     echo "after $(($(date +%s) - begin)) s:$names; $left of $all crates left"
 }
 
-echo "Proving and building pbook: $all crates, side by side."
+echo "Proving $*: $all crates, side by side. What is kept is taken as it is."
 log=$top/build/log
 cd "$room"
-rt ci > "$log" 2>&1 &
+rt ci > "$log" 2>&1 9>&- &
 gate=$!
 cd "$top"
 told=$begin
@@ -80,11 +85,18 @@ while kill -0 "$gate" 2> /dev/null; do
         tell_work
     fi
 done
-wait "$gate" || { cat "$log"; exit 1; }
+status=0
+wait "$gate" || status=$?
 gate=
+python3 -B scripts/lib/libraries.py take "$room"
+[ "$status" -eq 0 ] || { cat "$log"; exit 1; }
 
-[ "$("$room/crates/pbook/out/pbook" fen "$start")" = "$start" ]
-install -m 755 "$room/crates/pbook/out/pbook" build/pbook
 sed -n 's/^logic=proved functions=\([0-9]*\).*/\1/p' "$log" |
     awk '{ sum += $1 } END { if (NR) print sum " functions were proved now." }'
-echo "build/pbook stands, after $(($(date +%s) - begin)) seconds."
+if [ -e "$room/crates/pbook" ]; then
+    [ "$("$room/crates/pbook/out/pbook" fen "$start")" = "$start" ]
+    install -m 755 "$room/crates/pbook/out/pbook" build/pbook
+    echo "build/pbook stands, after $(($(date +%s) - begin)) seconds."
+else
+    echo "All of them are proved and kept, after $(($(date +%s) - begin)) seconds."
+fi

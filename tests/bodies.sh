@@ -18,6 +18,7 @@ put() {
 
 echo 'tiny:' | put crates.txt
 put scripts/bodies.py < "$top/scripts/bodies.py"
+for name in libraries specs; do put "scripts/lib/$name.py" < "$top/scripts/lib/$name.py"; done
 put crates/tiny/src/lib.rt << 'END'
 //! Numbers.
 
@@ -192,13 +193,13 @@ proved() {
         [ "$passed" -eq 0 ] || body least-first "$both" "$wrong"
         body three-same "$three" '    least(c, least(a, b))'
         holds judges 1 "$passed passed, 1 failed"
-        holds says 'three-same: FAILED: NOT REFUSED: its own function is proved'
+        holds says 'three-same: FAILED: NOT REFUSED: what judges it is proved'
     done
     anew
     body least-same "$both" 'if a < b { a } else { b }'
     body three-last "$three" '    least(a, b)'
     holds judges 1 '1 passed, 1 failed'
-    holds says 'least-same: FAILED: NOT REFUSED: its own function is proved'
+    holds says 'least-same: FAILED: NOT REFUSED: what judges it is proved'
 }
 
 # That an answer names what the edit took away says nothing of the body.
@@ -206,7 +207,7 @@ gone() {
     anew
     body three-other "$three" '    least(c, b)'
     holds judges 1 '0 passed, 1 failed'
-    holds says 'three-other: FAILED: NOT REFUSED: its own function is proved'
+    holds says 'three-other: FAILED: NOT REFUSED: an answer names what it took away'
 }
 
 # What can't be read isn't refused, nor what stands nowhere or twice, nor what no report tells of.
