@@ -34,7 +34,7 @@ build: build/pbook
 
 build/pbook: $(SOURCES) scripts/build.sh
 	@$(WANTS_TOOLCHAIN)
-	@sh scripts/build.sh
+	@sh scripts/build.sh pbook
 
 # Builds the same source without proof, with a check in the place of each, in a minute or two.
 # Nothing is proved.
@@ -79,25 +79,20 @@ check:
 	@$(WANTS_TOOLCHAIN)
 	@sh scripts/check.sh
 
-# Proves each crate and keeps what is proved where `rt check` takes it, so that a changed body has
-# its answer in half a minute. JOBS=number has so many crates proved at a time.
+# Leaves the library of each crate where `rt check` takes it. What `make`, `make test` or `rt ci` has
+# proved on this machine is fetched in seconds, and the rest is proved.
 dev:
 	@$(WANTS_TOOLCHAIN)
-	@sh scripts/dev.sh
+	@sh scripts/build.sh $(patsubst crates/%/src/lib.rt,%,$(wildcard crates/*/src/lib.rt))
 
-# The gate: proves every crate from nothing, tries the mistakes that nobody may make, and runs what
-# the programs print. It leaves the libraries that it proved for `make test-bodies`.
+# The gate: tries the program without proof, proves every crate from nothing, runs what the programs
+# print, and has the prover refuse each wrong body. The last line tells how much of it passed.
 test:
 	@$(WANTS_TOOLCHAIN)
-	@sh scripts/named_mistakes.sh
-	@sh tests/theorem.sh
-	@sh tests/bodies.sh
-	@python3 -B scripts/theorem.py --check
-	@scripts/bodies.py --before-gate
-	rt ci
-	@scripts/bodies.py --after-gate
+	@sh scripts/test.sh
 
-# Has the prover refuse all other wrong bodies, many in a run. CRATE=pb_io tries those of one crate.
+# Has the prover refuse the wrong bodies of crates/*/bodies, many in a run, as the gate does.
+# CRATE=pb_io tries those of one crate.
 test-bodies:
 	@$(WANTS_TOOLCHAIN)
 	@scripts/bodies.py $(CRATE)

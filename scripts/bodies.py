@@ -352,9 +352,9 @@ class Crate:
         total = hashlib.sha256(repr((VERSION, lines, files, texts)).encode())
         return KEPT / f"{self.name}-{total.hexdigest()}"
 
-    def has_goal(self, goal, function):
-        """Whether the right body of this function has the goal, as far as its written answers tell.
-        Where it has none, each goal is left to a search, for a wrong body as for the right one."""
+    def is_answered(self, goal, function):
+        """Whether the goal has a written answer in this function's proof, or that has no answers at
+        all: then each goal is left to a search, for a wrong body as for the right one."""
         *above, name = function.path.split("::")
         folder = self.folder.joinpath("proofs", *above)
         for file in (folder / name / "Answers.antt", folder / f"+{name}/Answers.antt"):
@@ -377,8 +377,9 @@ class Crate:
             words += ["-L", f"dependency={dep.library.parent.resolve()}"]
         return words
 
-    def check(self, bodies, only, kept):
-        """Checks these functions of a copy that has these bodies, over what earlier runs kept."""
+    def check(self, bodies, functions, kept, made=None):
+        """Checks these functions of a copy that has these bodies, over what earlier runs kept; or
+        has all of their goals written to a folder."""
         with tempfile.TemporaryDirectory(prefix="pbook-body-") as room:
             room = pathlib.Path(room)
             for part in PARTS:
@@ -387,7 +388,9 @@ class Crate:
             for body in bodies:
                 body.plant(room)
             words = [KIT / "bin/rattle", "check", *self.words(), "--incremental", kept]
-            words += [word for path in only for word in ("--only", path)]
+            words += ["--generated", made] if made else []
+            how = "--start" if made else "--only"
+            words += [word for path in functions for word in (how, path)]
             how = {"stdout": subprocess.PIPE, "stderr": subprocess.STDOUT}
             with subprocess.Popen(words, cwd=room, stdin=subprocess.DEVNULL, **how) as ran:
                 text = ran.stdout.read().decode(errors="replace")
@@ -405,6 +408,8 @@ class Trial:
         # The functions that judge a body, and what it is not tried beside: wrong bodies of these
         # functions, and edits of these definitions.
         self.judges, self.apart = {}, collections.defaultdict(set)
+        # The goals of bodies that broke none with a written answer.
+        self.doubts = {}
 
     def tell(self, name, goal, function):
         self.lines.append(f"{self.crate.name}/{name}: refused at `{goal}` of {function.name}")
@@ -413,8 +418,8 @@ class Trial:
         self.failed += 1
         self.lines.append(f"{self.crate.name}/{name}: FAILED: {why}")
 
-    def run(self, bodies, only):
-        said = self.crate.check(bodies, only, self.kept)
+    def run(self, bodies, functions, made=None):
+        said = self.crate.check(bodies, functions, self.kept, made)
         self.seconds, self.runs = self.seconds + said.seconds, self.runs + 1
         logs = os.environ.get("BODIES_LOGS")
         if logs:
@@ -472,6 +477,8 @@ class Trial:
             while left:
                 taken = self.next_round(left)
                 left = [it for it in left if it not in taken] + self.try_round(taken)
+        if self.doubts:
+            self.settle()
 
     def next_round(self, left):
         """The bodies of a round: one a function, line and definition, none beside what its goals
@@ -496,7 +503,7 @@ class Trial:
             beside = {it for other in bodies if other is not body for it in self.turned(other)}
             waits = set().union(*(said.waits_of(it) for it in judges))
             goals = [(goal, it) for it in judges for goal in said.goals_of(it)]
-            own = [it for it in goals if it[1] not in body.functions or self.crate.has_goal(*it)]
+            own = [it for it in goals if it[1] not in body.functions or self.crate.is_answered(*it)]
             # A definition also breaks a lemma. Beside others it might be theirs.
             lemmas = [(lemma, it) for it in judges if (lemma := said.lemma_of(it))]
             lemmas = lemmas if body.is_definition else []
@@ -509,13 +516,26 @@ class Trial:
                 self.apart[body] |= waits & beside or beside
                 again.append(body)
             elif goals:
-                why = f"the right body has no goal `{goals[0][0]}`, so this shows nothing"
-                self.fail(body.name, f"NOT REFUSED: {why}")
+                self.doubts[body] = goals
             elif all(said.line_of(it).startswith("proved") for it in judges):
                 self.fail(body.name, "NOT REFUSED: what judges it is proved")
             else:
                 self.fail(body.name, "NOT REFUSED: an answer names what it took away")
         return again
+
+    def settle(self):
+        """Tells of bodies that broke no goal with a written answer whether they broke one that the
+        right body has."""
+        with tempfile.TemporaryDirectory(prefix="pbook-goals-") as made:
+            paths = {it.path for goals in self.doubts.values() for _, it in goals}
+            self.run([], sorted(paths), made)
+            for body, goals in self.doubts.items():
+                own = [it for it in goals if has_goal(pathlib.Path(made), *it)]
+                if own:
+                    self.tell(body.name, *own[0])
+                else:
+                    why = f"the right body has no goal `{goals[0][0]}`, so this shows nothing"
+                    self.fail(body.name, f"NOT REFUSED: {why}")
 
     def without_unread(self, bodies, said):
         """Fails the bodies with which the crate can't be read, and returns the others."""
@@ -526,6 +546,15 @@ class Trial:
             if line:
                 self.fail(body.name, f"the prover can't read it: {line[:300]}")
         return [it for it, line in alone.items() if not line]
+
+
+def has_goal(made, goal, function):
+    """Whether the function has this goal, by what the prover has written to a folder."""
+    *above, name = function.name.split("::")
+    folder = made.joinpath(f"Rattle-{above[0]}-proofs", *above[1:])
+    files = [folder / it / "Goals.antt" for it in (name, f"+{name}")]
+    texts = [it.read_text(encoding="utf-8") for it in files if it.is_file()]
+    return any(re.search(rf"pub (the-fit-)?{re.escape(goal)} :", it) for it in texts)
 
 
 def try_crate(crate):
@@ -598,7 +627,7 @@ def tell_goals(name, edit):
     for it in functions:
         print(f"{it.path}: {said.line_of(it)}")
         for goal in said.goals_of(it):
-            print(f"  {goal}{'' if crate.has_goal(goal, it) else ' (the right body has none)'}")
+            print(f"  {goal}{'' if crate.is_answered(goal, it) else ', without an answer'}")
     print(f"{said.unread() or ''}{said.seconds:.1f} s of processor time")
 
 

@@ -1,7 +1,8 @@
 #!/bin/sh
-# Compares the table of docs/WRONG_BODIES.md under `What nobody may do` with the edits of
-# crates/*/must-fail: each line of the table names an edit of its own that is there, and no other
-# edit is. Usage: scripts/named_mistakes.sh (at the top of the repository).
+# Compares the table of docs/WRONG_BODIES.md under `What nobody may do` with the wrong bodies of
+# crates/*/must-fail and crates/*/bodies: each line of the table names one of its own that is there,
+# and each of must-fail/ has a line.
+# Usage: scripts/named_mistakes.sh (at the top of the repository).
 set -eu
 document=docs/WRONG_BODIES.md
 refused=0
@@ -14,17 +15,15 @@ refuse() {
 
 # edits LINES: the edits that these lines name
 edits() {
-    printf '%s\n' "$1" | tr '`' '\n' | grep -x 'crates/[^/]*/must-fail/[^/]*\.edit' || true
+    printf '%s\n' "$1" | tr '`' '\n' |
+        grep -xE 'crates/[^/]*/(must-fail|bodies)/[^/]*\.edit' || true
 }
 
 # The lines of the table, without its head and the rule below that.
 table=$(sed -n '/^## What nobody may do$/,/^## /p' "$document" | grep '^|' | sed '1,2d')
 named=$(edits "$table")
 
-if [ -z "$table" ]; then
-    refuse "$document" 'the table of what nobody may do is empty'
-    exit 1
-fi
+[ -n "$table" ] || refuse "$document" 'the table of what nobody may do is empty'
 while IFS= read -r line; do
     paths=$(edits "$line")
     [ -n "$paths" ] || refuse 'no edit is named' "$line"
@@ -38,9 +37,7 @@ for path in $(printf '%s\n' "$named" | sort | uniq -d); do
     refuse 'it is named twice' "$path"
 done
 for path in crates/*/must-fail/*; do
-    [ -e "$path" ] || continue
-    printf '%s\n' "$named" | grep -qxF "$path" || refuse 'no line names it' "$path"
+    [ ! -e "$path" ] || printf '%s\n' "$named" | grep -qxF "$path" || refuse 'no line names it' "$path"
 done
-
 [ "$refused" = 0 ] || exit 1
 printf '%s named mistakes have their edits\n' "$(printf '%s\n' "$table" | wc -l)"

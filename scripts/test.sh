@@ -1,0 +1,69 @@
+#!/bin/sh
+# The gate, in parts: the documents and the judges of wrong bodies are tried, `make check` runs, then
+# the toolchain's gate, and then the prover has to refuse the wrong bodies. The first part that
+# fails ends it. At its end it tells where the time went, by crate, and how much of all passed.
+# Usage: scripts/test.sh (at the top of the repository). What a part says is in build/gate/PART.log.
+set -eu
+. scripts/lib/total.sh
+logs=build/gate
+mkdir -p "$logs"
+exec 9> build/gate.lock
+flock -n 9 || { echo 'test: another run tries here'; exit 1; }
+rm -f "$logs"/*
+
+# watch: has ps tell each second what the prover's processes have taken by now, by crate
+watch() {
+    session=$(ps -o sess= -p $$)
+    while [ ! -e "$logs/ci.ended" ] && kill -0 $$; do
+        ps -s "$session" -o pid=,cputimes=,args=
+        sleep 1
+    done |
+        sed -n 's/^ *\([0-9]*\) *\([0-9]*\) .*--crate-name \([a-z_]*\) .*/\3 \1 \2/p' \
+            > "$logs/times"
+}
+
+# tell_times: the minutes of processor time of each crate, the dearest first
+tell_times() {
+    echo 'minutes of processor time, in proofs and edits of must-fail/, and in bodies:'
+    sed -n 's/^\([a-z_]*\): .* runs, \([0-9]*\) s of processor time$/\1 bodies \2/p' \
+        "$logs"/bodies.log 2> /dev/null | cat - "$logs/times" | awk '
+        { least[$1] += $2 == "bodies" ? $3 : 0; if ($2 != "bodies") most[$1 " " $2] = $3 }
+        END {
+            for (it in most) { split(it, name, " "); proofs[name[1]] += most[it]; least[name[1]] += 0 }
+            for (it in least) printf "%8.1f %8.1f  %s\n", proofs[it] / 60, least[it] / 60, it
+        }' | sort -rn
+}
+
+# part NAME COMMAND..: runs this part. Where it fails, that is the end.
+part() {
+    name=$1
+    shift
+    echo "== $name"
+    { "$@" 2>&1 9>&- || : > "$logs/failed"; } | tee "$logs/$name.log"
+    [ -e "$logs/failed" ] || return 0
+    echo "FAILED: $name"
+    lost=0
+    case $(tail -n 1 "$logs/$name.log") in
+        *' failed'*) ;;
+        *) lost=1 && rm "$logs/$name.log" ;;
+    esac
+    total "$lost" "$logs"/*.log
+    exit 1
+}
+
+part named sh scripts/named_mistakes.sh
+part theorem sh tests/theorem.sh
+part count python3 -B scripts/theorem.py --check
+part bodies_judged sh tests/bodies.sh
+part shellcheck sh tests/shellcheck.sh
+part completions sh tests/completions.sh
+part check sh scripts/check.sh
+had=$(ls -d crates/*/out/rlib 2> /dev/null || :)
+python3 -B scripts/lib/libraries.py note
+watch 9>&- &
+part ci rt ci
+: > "$logs/ci.ended"
+[ -n "$had" ] || python3 -B scripts/lib/libraries.py take .
+part bodies scripts/bodies.py
+tell_times
+total 0 "$logs"/*.log
