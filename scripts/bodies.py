@@ -438,8 +438,10 @@ class Trial:
                 if not body.is_alone:
                     self.judges[body] = sorted(body.functions, key=lambda it: it.first)
                 elif body.judge:
-                    self.judges[body] = [it for it in functions if it.path == body.judge]
-                    self.apart[body] = self.rests(self.judges[body], functions)
+                    judges = [it for it in functions if it.path == body.judge]
+                    if not judges:
+                        raise BadEdit(f"no function has the path {body.judge}")
+                    self.judges[body], self.apart[body] = judges, self.rests(judges, functions)
                 else:
                     modules = {f"src/{body.name.partition('-')[0]}.rt", *body.files}
                     of_modules = [it for it in functions if it.file in modules]

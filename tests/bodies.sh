@@ -1,9 +1,9 @@
 #!/bin/sh
-# Tries scripts/bodies.py, the judge of wrong bodies, on a made-up crate and by a prover that only
-# repeats what the real one said of it: no body passes that is proved, that can't be read, or whose
-# function isn't proved for another reason than the body's own. It tries scripts/named_mistakes.sh
-# on a made-up table too, and scripts/check.sh over a program that answers nothing. The first check
-# that doesn't hold ends it.
+# Tries scripts/bodies.py, the judge of wrong bodies, on made-up crates and by a prover that only
+# repeats what the real one said of one of them, and says of the other what its edits tell: no body
+# passes that is proved, that can't be read, or whose function isn't proved for another reason than
+# the body's own. It tries scripts/named_mistakes.sh on a made-up table too, and scripts/check.sh
+# over a program that answers nothing. The first check that doesn't hold ends it.
 # Usage: tests/bodies.sh (at the top of the repository; it needs no toolchain).
 # shellcheck disable=SC2016 # backquotes are what the prover and the table have
 set -eu
@@ -16,7 +16,7 @@ put() {
     cat > "$work/$1"
 }
 
-echo 'tiny:' | put crates.txt
+printf 'tiny:\nmore: tiny\n' | put crates.txt
 put scripts/bodies.py < "$top/scripts/bodies.py"
 for name in libraries specs; do put "scripts/lib/$name.py" < "$top/scripts/lib/$name.py"; done
 put crates/tiny/src/lib.rt << 'END'
@@ -55,8 +55,58 @@ pub fn least_of_three(a: u32, b: u32, c: u32) -> u32
 }
 END
 
-# The toolchain's command, and its prover. It reports on each function that it is asked for by what
-# stands in the copy that it is run in.
+put crates/tiny/specs/Numbers.antt << 'END'
+IsLeast : ℕ → ℕ → Type 0
+END
+
+put crates/more/src/laws.rt << 'END'
+ghost use Rattle.more.specs.Words.{IsLow, IsOdd, IsWord};
+
+pub fn low()
+    ensures { IsLow 1 }
+{
+}
+
+pub fn odd()
+    ensures { IsOdd 1 }
+{
+}
+
+pub fn word()
+    ensures { IsWord 1 }
+{
+}
+END
+put crates/more/src/more.rt << 'END'
+use tiny::least::{least, least_of_three};
+
+pub fn first(a: u32) -> u32
+{
+    least(a, 1)
+}
+
+pub fn second(a: u32) -> u32
+{
+    least_of_three(a, 1, 2)
+}
+END
+put crates/more/proofs/more/first/Answers.antt << 'END'
+pub returns : goal.returns
+returns c = c.least.ensures.left
+END
+put crates/more/specs/Words.antt << 'END'
+pub IsLow : ℕ → Type 0
+IsLow n = n ≤ 1
+
+pub IsOdd : ℕ → Type 0
+IsOdd n = n % 2 ≡ 1
+
+pub IsWord : ℕ → Type 0
+IsWord n = IsLow n × (n ≤ 2)
+END
+
+# The toolchain's command, how it reads crates, and its prover. It reports on each function that it is asked for by what
+# stands in the copy that it is run in. Of the crate `more` an edit's text tells what fails.
 put path/rt << END
 #!/bin/sh
 case \$1 in
@@ -69,6 +119,23 @@ END
 put kit/program << 'END'
 #!/bin/sh
 [ -p "$1" ] && exec 3< "$1" && read -r _ <&3
+END
+put kit/bin/rtlib.py << 'END'
+class Crate:
+    def __init__(self, name):
+        self.name = name
+
+    def stamp(self):
+        return self.name
+
+    def makes_rlib(self):
+        return True
+
+    is_built = makes_rlib
+
+
+def crates_below(top):
+    return [Crate("tiny"), Crate("more")]
 END
 put kit/bin/rattle << 'END'
 #!/bin/sh
@@ -114,14 +181,34 @@ report_second() {
     fi
 }
 
+# report_more FUNCTION: what is said of one of the crate `more`
+report_more() {
+    goals=$(sed -n "s/.* fails $1 \([a-z0-9-]*\).*/\`\1\`/p" src/*.rt specs/*.antt)
+    if [ -n "$goals" ]; then
+        echo "fn more::$1: no proof: expected answers; \`search\` did not prove $goals"
+    else
+        echo "fn more::$1: proved"
+    fi
+}
+
+# all_goals FOLDER: writes there which goals the right body of `more::first` has
+all_goals() {
+    mkdir -p "$1/Rattle-more-proofs/more/first"
+    printf 'abbrev pub %s : Type 0\n' returns returns-then > \
+        "$1/Rattle-more-proofs/more/first/Goals.antt"
+}
+
 echo run >> "$RUNS"
-waits=
+waits= before=
 if has none_such; then
     echo 'src/least.rt:15:5: error[unknown-name]: cannot find value `none_such` in this scope'
     exit 1
 fi
 for word; do
+    [ "$before" != --generated ] || all_goals "$word"
+    before=$word
     case $word in
+        laws::low | laws::odd | laws::word | more::*) report_more "$word" ;;
         least::least) report_first ;;
         least::least_of_three) report_second ;;
         laws::one) echo 'fn tiny::laws::one: proved' ;;
@@ -131,6 +218,7 @@ echo 'only=2 proved=0'
 END
 chmod 755 "$work/path/rt" "$work/kit/bin/rattle" "$work/kit/program"
 
+cp "$work/crates/tiny/src/least.rt" "$work/least.rt"
 both='if a <= b { a } else { b }'
 wrong='if a <= b { a } else { a }'
 three='    least(least(a, b), c)'
@@ -140,10 +228,17 @@ body() {
     printf 'file: src/least.rt\nold: %s\nnew: %s\n' "$2" "$3" > "$work/crates/tiny/bodies/$1.edit"
 }
 
-# anew: leaves the crate without wrong bodies, and nothing kept
+# more NAME LINE..: gives the crate `more` this edit
+more() {
+    name=$1
+    shift
+    printf '%s\n' "$@" > "$work/crates/more/bodies/$name.edit"
+}
+
+# anew: leaves the crates without wrong bodies, and nothing kept
 anew() {
-    rm -rf "$work/crates/tiny/bodies" "$work/cache"
-    mkdir -p "$work/crates/tiny/bodies"
+    rm -rf "$work"/crates/*/bodies "$work/cache"
+    mkdir -p "$work/crates/tiny/bodies" "$work/crates/more/bodies"
 }
 
 # judges STATUS LAST: whether the script ends with this status and this last line. What it says is
@@ -172,7 +267,7 @@ is_status() {
 }
 
 # says LINE: whether this line was said of a body
-says() { grep -qxF "tiny/$1" "$work/said"; }
+says() { grep -qxF -e "tiny/$1" -e "more/$1" "$work/said"; }
 
 refused() {
     anew
@@ -257,6 +352,111 @@ kept() {
     done
 }
 
+# tried_again RUNS: whether the bodies that have passed are tried again in so many runs
+tried_again() {
+    holds judges 0 '1 passed, 0 failed'
+    holds test "$runs" -eq "$1"
+}
+
+# What has passed over another crate stays so when a body changes there, or how it is proved: no
+# proof above sees these.
+kept_above() {
+    anew
+    more first-one 'file: src/more.rt' 'old:     least(a, 1)' \
+        'new:     least(1, 1) // fails more::first returns'
+    tried_again 1
+    tried_again 0
+    sed -i "s/$both/if a < b { a } else { b }/" "$work/crates/tiny/src/least.rt"
+    tried_again 0
+    echo 'returns c = c' | put crates/tiny/proofs/least/least/Answers.antt
+    tried_again 0
+    sed -i 's/ensures left { result ≤ a }/ensures left { result < a }/' \
+        "$work/crates/tiny/src/least.rt"
+    tried_again 1
+    echo 'IsLeast n m = n ≤ m' >> "$work/crates/tiny/specs/Numbers.antt"
+    tried_again 1
+    echo 'lemma : ℕ' | put crates/tiny/proofs/Lemmas.antt
+    tried_again 1
+    tried_again 0
+    echo '// more' >> "$work/crates/more/src/more.rt"
+    tried_again 1
+    put crates/tiny/src/least.rt < "$work/least.rt"
+}
+
+# An import that renames a name turns each function of its file, and so is tried alone. One that
+# adds a name turns none.
+imported() {
+    same='new:     least_of_three(1, a, 2)'
+    anew
+    more second-same 'file: src/more.rt' 'old:     least_of_three(a, 1, 2)' "$same"
+    more first-renamed 'file: src/more.rt' 'old: {least, least_of_three};' \
+        'new: {least as least_of_three, least}; // fails more::second returns' \
+        'old:     least(a, 1)' 'new:     least(1, 1) // fails more::first returns'
+    holds judges 1 '1 passed, 1 failed'
+    holds says 'second-same: FAILED: NOT REFUSED: what judges it is proved'
+    more first-renamed 'file: src/more.rt' 'old: {least, least_of_three};' \
+        'new: {least_of_three}; // fails more::second returns' \
+        'old:     least(a, 1)' 'new:     least_of_three(1) // fails more::first returns'
+    holds judges 1 '1 passed, 1 failed'
+    more first-renamed 'file: src/more.rt' 'old: {least, least_of_three};' \
+        'new: {all, least, least_of_three};' \
+        'old:     least(a, 1)' 'new:     all(1) // fails more::first returns'
+    more second-same 'file: src/more.rt' 'old:     least_of_three(a, 1, 2)' \
+        'new:     least(a, 2) // fails more::second returns'
+    holds judges 0 '2 passed, 0 failed'
+    holds test "$runs" -eq 1
+}
+
+# A goal that only the wrong body has says nothing of the contract. Where a written answer shows
+# that the right body has it, or the prover does, it refuses the body.
+own_goals() {
+    for goal in returns returns-then; do
+        anew
+        more first-one 'file: src/more.rt' 'old:     least(a, 1)' \
+            "new:     least(1, 1) // fails more::first $goal"
+        holds judges 0 '1 passed, 0 failed'
+        holds says "first-one: refused at \`$goal\` of more::more::first"
+    done
+    anew
+    more first-same 'file: src/more.rt' 'old:     least(a, 1)' \
+        'new:     if a > 1 { 1 } else { a } // fails more::first returns-else'
+    holds judges 1 '0 passed, 1 failed'
+    why='the right body has no goal `returns-else`, so this shows nothing'
+    holds says "first-same: FAILED: NOT REFUSED: $why"
+}
+
+# turn NAME LAW FROM TO: gives the crate `more` a wrong definition, which this law judges
+turn() {
+    more "$1" "judged by: laws::$2" 'file: specs/Words.antt' "old: $3" "new: $4"
+}
+
+# Definitions go in one run where each names a law of its own, and no law rests on what another one
+# turns: there it would tell of that.
+judged() {
+    anew
+    turn Words-low low 'n ≤ 1' 'n ≤ 0 -- fails laws::low returns'
+    turn Words-odd odd '≡ 1' '≡ 0 -- fails laws::odd returns'
+    holds judges 0 '2 passed, 0 failed'
+    holds test "$runs" -eq 1
+    holds says 'Words-odd: refused at `returns` of more::laws::odd'
+    # the same law
+    turn Words-low low '(n ≤ 2)' '(n ≤ 9) -- fails laws::low returns'
+    turn Words-odd low '≡ 1' '≡ 1 + 0'
+    holds judges 1 '1 passed, 1 failed'
+    holds says 'Words-odd: FAILED: NOT REFUSED: what judges it is proved'
+    # a law that rests on the other definition
+    turn Words-low low 'n ≤ 1' 'n ≤ 0 -- fails laws::low returns fails laws::word returns'
+    turn Words-odd word '(n ≤ 2)' '(n < 3)'
+    holds judges 1 '1 passed, 1 failed'
+    holds says 'Words-odd: FAILED: NOT REFUSED: what judges it is proved'
+    # no law, and no definition
+    turn Words-odd none '≡ 1' '≡ 0'
+    more first-one 'judged by: laws::low' 'file: src/more.rt' 'old:     least(a, 1)' 'new:     1'
+    holds judges 1 '1 passed, 2 failed'
+    holds says 'Words-odd: FAILED: no function has the path laws::none'
+    holds says 'first-one: FAILED: only a definition names what judges it'
+}
+
 # named STATUS LINE..: whether scripts/named_mistakes.sh ends so over a table of these lines
 named() {
     due=$1 status=0
@@ -270,8 +470,10 @@ named() {
     is_status "$due"
 }
 
-# Each mistake of the table has an edit of its own, and each edit a line.
+# Each mistake of the table has an edit of its own, in must-fail/ or among the bodies, and each of
+# must-fail/ a line.
 table() {
+    anew
     mkdir -p "$work/docs" "$work/crates/tiny/must-fail"
     for name in one two; do : > "$work/crates/tiny/must-fail/$name.edit"; done
     one='| first | `crates/tiny/must-fail/one.edit` |'
@@ -282,6 +484,11 @@ table() {
     holds named 1 "$one" "$two" '| third | none |'
     holds named 1 "$one" "$two" '| third | `crates/tiny/must-fail/three.edit` |'
     holds named 1
+    three='| third | `crates/tiny/bodies/three.edit` |'
+    holds named 1 "$one" "$two" "$three"
+    for name in three four; do : > "$work/crates/tiny/bodies/$name.edit"; done
+    holds named 0 "$one" "$two" "$three"
+    holds named 1 "$one" "$two" "$three" "$three"
 }
 
 # checks_nothing PART..: whether scripts/check.sh tells of each of these parts that it fails over such
@@ -310,6 +517,10 @@ check 'a body that is proved is not' proved
 check 'an answer that names what is gone refuses no body' gone
 check 'what no prover has judged is not refused' unread
 check 'what has passed is kept as long as nothing changes' kept
+check 'what has passed stays so when a body below changes' kept_above
+check 'an import that renames is tried alone' imported
+check 'a goal that only the wrong body has refuses none' own_goals
+check 'definitions are judged by laws of their own' judged
 check 'each mistake that nobody may make has its edit' table
 check 'a program that does nothing passes no part of make check' failing
 finish
