@@ -171,7 +171,8 @@ def names_in(line):
 @dataclasses.dataclass(frozen=True)
 class Body:
     """An edit: in which line of which file a text takes another's place, and in what functions. It
-    is tried alone where it turns more than imports and bodies, as what it says others rest on."""
+    is tried alone where it turns more than imports and bodies, as what it says others rest on, but
+    for a definition that a law of its own judges."""
 
     name: str
     pairs: tuple
@@ -184,12 +185,12 @@ class Body:
     def read(crate, file):
         """The edit that a file has. A text has one line, so lines keep their numbers."""
         pairs, functions, is_alone, texts = [], set(), False, {}
-        path, old, judge = None, None, None
+        path, old, judge, is_judged = None, None, None, False
         for line in file.read_text(encoding="utf-8").split("\n"):
             word, _, rest = line.partition(":")
             rest = rest.removeprefix(" ")
-            if word == "judged by" and path is None:
-                judge = rest.strip()
+            if word in ("judged by", "judged alone by") and path is None:
+                judge, is_judged = rest.strip(), word == "judged by"
             elif word == "file":
                 path = rest.strip()
                 texts.setdefault(path, (CRATES / crate / path).read_text(encoding="utf-8"))
@@ -213,7 +214,7 @@ class Body:
                 old = None
         if not pairs:
             raise BadEdit("it has no lines `file:`, `old:` and `new:`")
-        is_alone = is_alone or not functions
+        is_alone = (is_alone or not functions) and not is_judged
         body = Body(file.stem, tuple(pairs), frozenset(functions), is_alone, judge)
         if judge and not body.is_definition:
             raise BadEdit("only a definition names what judges it")
@@ -435,7 +436,7 @@ class Trial:
         for file in self.crate.bodies():
             try:
                 body = Body.read(self.crate.name, file)
-                if not body.is_alone:
+                if not body.is_alone and not body.judge:
                     self.judges[body] = sorted(body.functions, key=lambda it: it.first)
                 elif body.judge:
                     judges = [it for it in functions if it.path == body.judge]
@@ -470,12 +471,12 @@ class Trial:
         return found | ({body.judge} if body.judge else set())
 
     def try_all(self):
-        """Tries bodies of functions in rounds, then definitions that name what judges them, and
+        """Tries bodies of functions in rounds, then definitions that laws of their own judge, and
         then each of the others alone."""
         bodies = self.read_bodies()
-        judged = [it for it in bodies if it.judge]
-        alone = [[it] for it in bodies if it.is_alone and not it.judge]
-        for left in ([it for it in bodies if not it.is_alone], judged, *alone):
+        shared = [it for it in bodies if not it.is_alone]
+        groups = [[it for it in shared if not it.judge], [it for it in shared if it.judge]]
+        for left in (*groups, *([it] for it in bodies if it.is_alone)):
             while left:
                 taken = self.next_round(left)
                 left = [it for it in left if it not in taken] + self.try_round(taken)
