@@ -579,7 +579,7 @@ def try_crate(crate):
 def prove(crates):
     """Has these crates proved whose libraries don't stand."""
     names = sorted(it.name for it in crates)
-    if names and not libraries.stand(names):
+    if names and not all(libraries.read_all()[it].is_built() for it in names):
         subprocess.run(["sh", "scripts/build.sh", *names], check=True)
 
 

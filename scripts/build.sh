@@ -4,23 +4,17 @@
 # Usage: scripts/build.sh CRATE.. (at the top of the repository).
 #
 # The toolchain's gate proves crates side by side and from nothing, and keeps on this machine what
-# has passed (rattle-kit-13f). So it runs over a copy of these crates, without the wrong bodies and
-# the rows of examples: `make test` then takes these proofs as they are, what another run has proved
-# is fetched in seconds, and a run that was interrupted goes on with the crates that are left.
+# has passed (rattle-kit-13f). So it runs over a copy of these crates, without the wrong bodies:
+# `make test` then takes these proofs as they are, what another run has proved is fetched in
+# seconds, and a run that was interrupted goes on with the crates that are left.
 set -eu
 mkdir -p build
 exec 9> build/lock
 flock -n 9 || { echo 'make: another run proves here'; exit 1; }
 start='rnbqkbnr/pppppppp/8/8/8/8/PPPPPPPP/RNBQKBNR w KQkq - 0 1'
 begin=$(date +%s)
-top=$PWD
 room=$(mktemp -d)
-gate=
-leave() {
-    [ -z "$gate" ] || kill "$gate" 2> /dev/null || :
-    rm -rf "$room"
-}
-trap leave EXIT
+trap 'rm -rf "$room"' EXIT
 trap 'exit 1' HUP INT TERM
 
 # The lines of these crates and of all below them. They name crates of the toolchain too, which have
@@ -29,69 +23,36 @@ awk -v names="$*" '
     /^#/ || NF == 0 { next }
     { name = $1; sub(/:$/, "", name); line[name] = $0 }
 
-    # Prints the lines of the crates that this one stands on, and then its own.
-    function print_lines(name,    word, count, i) {
-        if (!(name in line) || name in printed) return
-        printed[name] = 1
-        count = split(line[name], word, " ")
-        for (i = 2; i <= count; i++) print_lines(word[i])
-        print line[name]
+    # Prints the lines of the crates that these words name, each after those that it stands on.
+    function print_lines(words,    word, count, i) {
+        count = split(words, word, /[: ]+/)
+        for (i = 1; i <= count; i++)
+            if (word[i] in line && !printed[word[i]]++) {
+                print_lines(substr(line[word[i]], length(word[i]) + 1))
+                print line[word[i]]
+            }
     }
-    END {
-        all = split(names, wanted, " ")
-        for (at = 1; at <= all; at++) print_lines(wanted[at])
-    }
+    END { print_lines(names) }
 ' crates.txt > "$room/crates.txt"
 cp HANDLES "$room/HANDLES"
-crates=$(cut -d: -f1 "$room/crates.txt")
 python3 -B scripts/lib/libraries.py note
-for crate in $crates; do
+for crate in $(cut -d: -f1 "$room/crates.txt"); do
     mkdir -p "$room/crates/$crate"
     for part in src specs proofs data args stdin stdout status; do
         [ ! -e "crates/$crate/$part" ] || cp -R "crates/$crate/$part" "$room/crates/$crate/$part"
     done
 done
-all=$(echo "$crates" | wc -l)
-
-# Tells what is being proved, and what remains.
-tell_work() {
-    left=$all
-    names=
-    for crate in $crates; do
-        if grep -q "^rt: $crate \(proved\|is kept\)" "$log"; then
-            left=$((left - 1))
-        elif [ -d "$room/crates/$crate/out" ]; then
-            names="$names $crate"
-        fi
-    done
-    echo "after $(($(date +%s) - begin)) s:$names; $left of $all crates left"
-}
-
+all=$(wc -l < "$room/crates.txt")
 echo "Proving $*: $all crates, side by side. What is kept is taken as it is."
-log=$top/build/log
-cd "$room"
-rt ci > "$log" 2>&1 9>&- &
-gate=$!
-cd "$top"
-told=$begin
-shown=0
-while kill -0 "$gate" 2> /dev/null; do
-    sleep 1
-    lines=$(wc -l < "$log")
-    sed -n "$((shown + 1)),${lines}s/^rt: \([a-z_]* \(proved\|is kept\)\).*/\1/p" "$log"
-    shown=$lines
-    if [ "$(date +%s)" -ge $((told + 20)) ]; then
-        told=$(date +%s)
-        tell_work
-    fi
-done
-status=0
-wait "$gate" || status=$?
-gate=
+{ (cd "$room" && exec rt ci) 2>&1 9>&- || echo 'It failed.'; } | tee build/log | awk -v all="$all" '
+    /^rt: [a-z_]+ (proved|is kept)/ {
+        print $2, $3 == "is" ? "is kept" : "proved", ++done " of " all
+        fflush()
+    }'
 python3 -B scripts/lib/libraries.py take "$room"
-[ "$status" -eq 0 ] || { cat "$log"; exit 1; }
+[ "$(tail -n 1 build/log)" != 'It failed.' ] || { cat build/log; exit 1; }
 
-sed -n 's/^logic=proved functions=\([0-9]*\).*/\1/p' "$log" |
+sed -n 's/^logic=proved functions=\([0-9]*\).*/\1/p' build/log |
     awk '{ sum += $1 } END { if (NR) print sum " functions were proved now." }'
 if [ -e "$room/crates/pbook" ]; then
     [ "$("$room/crates/pbook/out/pbook" fen "$start")" = "$start" ]

@@ -74,18 +74,6 @@ work_on() {
     esac
 }
 
-# told_by NAME: what its log tells of it in short
-told_by() {
-    case $1 in
-        pbook | worked_examples) echo 'built without proof' ;;
-        demo) echo 'the book and the export are those of other programs' ;;
-        *)
-            tail -n 1 "$logs/$1.log"
-            sed -n 's/^not tried, /; not tried, /p' "$logs/$1.log"
-            ;;
-    esac
-}
-
 # run NAME: does this, and tells how it ended
 run() {
     begin=$(date +%s)
@@ -99,7 +87,7 @@ run() {
         return 1
     fi
     : > "$room/$1.passed"
-    echo "ok: $1, $took s: $(told_by "$1" | tr -d '\n')"
+    echo "ok: $1, $took s$(sed -n '/ checks hold, /s/^/: /p' "$logs/$1.log")"
 }
 
 # lane NAME..: those of these parts that are wanted, one after the other
