@@ -12,13 +12,14 @@ calls and not on their bodies. So one run (a round) has a wrong body in each of 
 and each is judged by its own function. Where a function has several, each has its own round, over
 what the rounds before it proved.
 
-A body is refused where a goal of its own function is told as unproved: by an error in the
-function's answers, by a note at its lines, or by its line of the report. That the function isn't
-proved is not enough, since one that calls a wrong one isn't either. Nor is an answer that names
-what the edit took away. A body whose goals wait for the proof of another wrong one is tried again
-without that one. A type, a constant, a derived comparison or a definition has a run of its own,
-and is refused at a goal of a law, or of a function of its module or of that which its name names.
-A definition is also refused where such a goal rests on a lemma of which it leaves no proof.
+A body is refused where a goal of its own function is told as unproved that the right body has too:
+by an error in the function's answers, by a note at its lines, or by its line of the report. That
+the function isn't proved is not enough, since one that calls a wrong one isn't either. Nor is an
+answer that names what the edit took away. A body whose goals wait for the proof of another wrong
+one is tried again without that one. A type, a constant or a derived comparison has a run of its
+own, and is refused at a goal of a law, or of a function of its module or of that which its name
+names. A definition names its law by a first line `judged by: PATH`, or `judged alone by: PATH`
+where the law breaks by a lemma alone. Those go in one run whose laws rest on none of the others.
 
 What has passed is kept in ~/.cache/pbook, by a sum of the crate, its bodies, what it stands on,
 the toolchain and this script. --anew looks at nothing kept. RT_JOBS says how many runs go side by
@@ -190,7 +191,9 @@ class Body:
             word, _, rest = line.partition(":")
             rest = rest.removeprefix(" ")
             if word in ("judged by", "judged alone by") and path is None:
-                judge, is_judged = rest.strip(), word == "judged by"
+                # (what isn't a law rests on the contracts of those that it calls)
+                judge = rest.strip()
+                is_judged = word == "judged by" and judge.startswith("laws::")
             elif word == "file":
                 path = rest.strip()
                 texts.setdefault(path, (CRATES / crate / path).read_text(encoding="utf-8"))
@@ -337,10 +340,10 @@ class Crate:
         files = [str(it.relative_to(self.folder)) for it in files]
         return [it for file in files for it in functions_of(self.name, file)]
 
-    def text_of(self, function, last=None):
-        """The lines of a function, up to this one or all."""
+    def text_of(self, function):
+        """The lines of a function."""
         lines = (self.folder / function.file).read_text(encoding="utf-8").split("\n")
-        return "\n".join(lines[function.first - 1 : last or function.last])
+        return "\n".join(lines[function.first - 1 : function.last])
 
     def kept(self):
         """The file that says that its bodies have passed, as they are and over what they rest on:
@@ -353,16 +356,18 @@ class Crate:
         total = hashlib.sha256(repr((VERSION, lines, files, texts)).encode())
         return KEPT / f"{self.name}-{total.hexdigest()}"
 
-    def is_answered(self, goal, function):
-        """Whether the goal has a written answer in this function's proof, or that has no answers at
-        all: then each goal is left to a search, for a wrong body as for the right one."""
+    def has_goal(self, goal, function, made=None):
+        """Whether the right body of this function has the goal: by its written answers, or by what
+        the prover has written to a folder. Where it has no answers, each goal is left to a search,
+        for a wrong body as for the right one."""
         *above, name = function.path.split("::")
-        folder = self.folder.joinpath("proofs", *above)
-        for file in (folder / name / "Answers.antt", folder / f"+{name}/Answers.antt"):
+        folder = made / f"Rattle-{self.name}-proofs" if made else self.folder / "proofs"
+        for last in (name, f"+{name}"):
+            file = folder.joinpath(*above, last, "Goals.antt" if made else "Answers.antt")
             if file.is_file():
                 text = file.read_text(encoding="utf-8")
-                return re.search(rf"^pub {re.escape(goal)} :", text, re.M) is not None
-        return True
+                return re.search(rf"pub (the-fit-)?{re.escape(goal)} :", text) is not None
+        return not made
 
     def words(self):
         """The words of a check, as `rattle check --help` tells them."""
@@ -442,7 +447,7 @@ class Trial:
                     judges = [it for it in functions if it.path == body.judge]
                     if not judges:
                         raise BadEdit(f"no function has the path {body.judge}")
-                    self.judges[body], self.apart[body] = judges, self.rests(judges, functions)
+                    self.judges[body], self.apart[body] = judges, self.rests(judges[0])
                 else:
                     modules = {f"src/{body.name.partition('-')[0]}.rt", *body.files}
                     of_modules = [it for it in functions if it.file in modules]
@@ -452,21 +457,17 @@ class Trial:
                 self.fail(file.stem, str(error))
         return list(self.judges)
 
-    def rests(self, judges, functions):
-        """The definitions on which the contracts rest of these functions and of those that they
-        name."""
-        named = {it for judge in judges for it in TOKEN.findall(self.crate.text_of(judge))}
-        seeds = []
-        for it in [*judges, *(it for it in functions if it.path.rpartition("::")[2] in named)]:
-            known = imports((self.crate.folder / it.file).read_text(encoding="utf-8"))
-            words = TOKEN.findall(self.crate.text_of(it, it.body))
-            seeds += [self.specs.find_import(known.get(word)) for word in words]
-        return {*self.specs.closure(seeds)}
+    def rests(self, law):
+        """The definitions on which a law rests."""
+        known = imports((self.crate.folder / law.file).read_text(encoding="utf-8"))
+        words = TOKEN.findall(self.crate.text_of(law))
+        return {*self.specs.closure(self.specs.find_import(known.get(it)) for it in words)}
 
     def turned(self, body):
         """The names of the functions that a body turns, its lines, the definitions, and its law."""
         lines = {(f"{self.crate.name}.{pathlib.PurePath(it[0]).stem}", it[4]) for it in body.pairs}
-        found = {it for it in self.specs.definitions.values() if lines & it.places}
+        all_lines = [(it, line) for it in self.specs.definitions.values() for line in it.lines]
+        found = {it for it, line in all_lines if (it.file, line) in lines}
         found |= {it.name for it in body.functions} | {it[:2] for it in body.pairs}
         return found | ({body.judge} if body.judge else set())
 
@@ -498,19 +499,21 @@ class Trial:
     def try_round(self, bodies):
         """Tries bodies together, and returns those that have to be tried again."""
         said = self.run(bodies, sorted({it.path for body in bodies for it in self.judges[body]}))
-        if said.unread():
-            return self.without_unread(bodies, said)
+        if said.unread() and len(bodies) > 1:
+            return [again for body in bodies for again in self.try_round([body])]
         again = []
         for body in bodies:
             judges = self.judges[body]
             beside = {it for other in bodies if other is not body for it in self.turned(other)}
             waits = set().union(*(said.waits_of(it) for it in judges))
             goals = [(goal, it) for it in judges for goal in said.goals_of(it)]
-            own = [it for it in goals if it[1] not in body.functions or self.crate.is_answered(*it)]
+            own = [it for it in goals if it[1] not in body.functions or self.crate.has_goal(*it)]
             # A definition also breaks a lemma. Beside others it might be theirs.
             lemmas = [(lemma, it) for it in judges if (lemma := said.lemma_of(it))]
             lemmas = lemmas if body.is_definition else []
-            if own or lemmas and not beside:
+            if said.unread():
+                self.fail(body.name, f"the prover can't read it: {said.unread()[:300]}")
+            elif own or lemmas and not beside:
                 self.tell(body.name, *(own or lemmas)[0])
             elif not all(said.line_of(it) for it in judges):
                 self.fail(body.name, f"no report of {' '.join(it.name for it in judges)}")
@@ -529,35 +532,16 @@ class Trial:
     def settle(self):
         """Tells of bodies that broke no goal with a written answer whether they broke one that the
         right body has."""
+        paths = {it.path for goals in self.doubts.values() for _, it in goals}
         with tempfile.TemporaryDirectory(prefix="pbook-goals-") as made:
-            paths = {it.path for goals in self.doubts.values() for _, it in goals}
             self.run([], sorted(paths), made)
             for body, goals in self.doubts.items():
-                own = [it for it in goals if has_goal(pathlib.Path(made), *it)]
+                own = [it for it in goals if self.crate.has_goal(*it, pathlib.Path(made))]
                 if own:
                     self.tell(body.name, *own[0])
                 else:
                     why = f"the right body has no goal `{goals[0][0]}`, so this shows nothing"
                     self.fail(body.name, f"NOT REFUSED: {why}")
-
-    def without_unread(self, bodies, said):
-        """Fails the bodies with which the crate can't be read, and returns the others."""
-        alone = {it: self.run([it], [""]).unread() for it in bodies} if len(bodies) > 1 else {}
-        if not any(alone.values()):
-            alone = dict.fromkeys(bodies, said.unread())
-        for body, line in alone.items():
-            if line:
-                self.fail(body.name, f"the prover can't read it: {line[:300]}")
-        return [it for it, line in alone.items() if not line]
-
-
-def has_goal(made, goal, function):
-    """Whether the function has this goal, by what the prover has written to a folder."""
-    *above, name = function.name.split("::")
-    folder = made.joinpath(f"Rattle-{above[0]}-proofs", *above[1:])
-    files = [folder / it / "Goals.antt" for it in (name, f"+{name}")]
-    texts = [it.read_text(encoding="utf-8") for it in files if it.is_file()]
-    return any(re.search(rf"pub (the-fit-)?{re.escape(goal)} :", it) for it in texts)
 
 
 def try_crate(crate):
@@ -615,22 +599,20 @@ def try_crates(names, anew):
 
 
 def tell_goals(name, edit):
-    """Tells at which goals a wrong body is refused, and the processor time of a check over what
-    `rt check` has kept, or from nothing."""
+    """Tells which goals a wrong body breaks, those without a written answer apart, and the time of
+    a check over what `rt check` has kept."""
     Crate.read_all()
     crate = Crate.known[name]
-    files = [crate.folder / part / f"{edit}.edit" for part in ("must-fail", "bodies")]
-    body = Body.read(name, next(it for it in files if it.is_file()))
+    [file] = crate.folder.glob(f"*/{edit}.edit")
+    body = Body.read(name, file)
     prove(crate.below())
     functions = body.functions or functions_of(name, "src/laws.rt")
-    with tempfile.TemporaryDirectory(prefix="pbook-kept-") as room:
-        kept = crate.folder / "out/incremental"
-        kept = kept.resolve() if kept.is_dir() else room
-        said = crate.check([body], [it.path for it in functions], kept)
+    kept = (crate.folder / "out/incremental").resolve()
+    said = crate.check([body], [it.path for it in functions], kept)
     for it in functions:
         print(f"{it.path}: {said.line_of(it)}")
         for goal in said.goals_of(it):
-            print(f"  {goal}{'' if crate.is_answered(goal, it) else ', without an answer'}")
+            print(f"  {goal}{'' if crate.has_goal(goal, it) else ', without an answer'}")
     print(f"{said.unread() or ''}{said.seconds:.1f} s of processor time")
 
 

@@ -68,11 +68,6 @@ class Definition:
         found = [[it for it in TOKEN.findall(line) if it not in NO_TOKENS] for line in bare]
         return [it for it in found if it]
 
-    @property
-    def places(self):
-        """Its lines, each with its file."""
-        return {(self.file, line) for line in self.lines}
-
     @functools.cached_property
     def words(self):
         """All its tokens."""
