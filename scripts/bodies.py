@@ -299,31 +299,19 @@ class Said:
 
 
 class Crate:
-    """A crate, by its line of crates.txt."""
+    """A crate, as the toolchain's command reads it too."""
 
-    known = {}
-
-    def __init__(self, line):
-        self.line = line
-        self.name, _, words = (it.strip() for it in line.partition(":"))
-        self.deps = [Crate.known[it] for it in words.split() if it in Crate.known]
-        self.of_kit = ["std", *[it for it in words.split() if it not in Crate.known]]
-        self.folder = CRATES / self.name
-        self.library = self.folder / f"out/rlib/{self.name}.rlib"
-        Crate.known[self.name] = self
+    def __init__(self, made):
+        self.made, self.name, self.folder = made, made.name, CRATES / made.name
 
     @staticmethod
     def read_all():
-        """The crates, each after those that it stands on."""
-        lines = pathlib.Path("crates.txt").read_text(encoding="utf-8").splitlines()
-        return [Crate(it) for it in lines if it.strip() and not it.startswith("#")]
+        """The libraries by name, each after those that it stands on."""
+        return {name: Crate(it) for name, it in libraries.read_all().items()}
 
     def below(self):
-        """The crates that this one stands on, each after those that it stands on itself."""
-        found = {}
-        for dep in self.deps:
-            found.update(dict.fromkeys([*dep.below(), dep]))
-        return list(found)
+        """The crates that this one stands on."""
+        return [Crate(it) for it in self.made.below()]
 
     def bodies(self):
         """The files of its wrong bodies."""
@@ -348,12 +336,12 @@ class Crate:
     def kept(self):
         """The file that says that its bodies have passed, as they are and over what they rest on:
         no proof sees the bodies of the functions below, nor how those are proved."""
-        lines = [it.line for it in (*self.below(), self)]
+        said = [it.made.said for it in (*self.below(), self)]
         seen = [it for crate in self.below() for it in crate.files() if it.name not in OWN_PROOFS]
         own = [*self.files(), *self.bodies(), SCRIPT]
         texts = [*map(without_bodies, seen), *(it.read_bytes() for it in own)]
         files = [str(it) for it in (*seen, *own)]
-        total = hashlib.sha256(repr((VERSION, lines, files, texts)).encode())
+        total = hashlib.sha256(repr((VERSION, said, files, texts)).encode())
         return KEPT / f"{self.name}-{total.hexdigest()}"
 
     def has_goal(self, goal, function, made=None):
@@ -369,20 +357,6 @@ class Crate:
                 return re.search(rf"pub (the-fit-)?{re.escape(goal)} :", text) is not None
         return not made
 
-    def words(self):
-        """The words of a check, as `rattle check --help` tells them."""
-        root = "main" if (self.folder / "src/main.rt").is_file() else "lib"
-        words = ["--crate-name", self.name, f"src/{root}.rt", "--links", f"{self.name}="]
-        words += ["--antt-project", f"{KIT}/rattle/logic/antt-project.json", "--jobs", "1"]
-        words += ["--logic-built", f"{KIT}/logic_built", "-L", f"dependency={KIT}/rlibs"]
-        for name in self.of_kit:
-            words += ["--extern", f"{name}={KIT}/rlibs/{name}.rlib"]
-        for dep in self.deps:
-            words += ["--extern", f"{dep.name}={dep.library.resolve()}"]
-        for dep in self.below():
-            words += ["-L", f"dependency={dep.library.parent.resolve()}"]
-        return words
-
     def check(self, bodies, functions, kept, made=None):
         """Checks these functions of a copy that has these bodies, over what earlier runs kept; or
         has all of their goals written to a folder."""
@@ -393,7 +367,8 @@ class Crate:
                     shutil.copytree(self.folder / part, room / part)
             for body in bodies:
                 body.plant(room)
-            words = [KIT / "bin/rattle", "check", *self.words(), "--incremental", kept]
+            words = [KIT / "bin/rattle", "check", *self.made.words(["--jobs", "1"])]
+            words += ["--incremental", kept]
             words += ["--generated", made] if made else []
             how = "--start" if made else "--only"
             words += [word for path in functions for word in (how, path)]
@@ -562,9 +537,8 @@ def try_crate(crate):
 
 def prove(crates):
     """Has these crates proved whose libraries don't stand."""
-    names = sorted(it.name for it in crates)
-    if names and not all(libraries.read_all()[it].is_built() for it in names):
-        subprocess.run(["sh", "scripts/build.sh", *names], check=True)
+    if not all(it.made.is_built() for it in crates):
+        subprocess.run(["sh", "scripts/build.sh", *(it.name for it in crates)], check=True)
 
 
 def lanes():
@@ -576,16 +550,16 @@ def lanes():
 
 def try_crates(names, anew):
     """Tries the bodies of these crates, or of all, side by side, and returns the status."""
-    crates = Crate.read_all()
-    if not {*names} <= {*Crate.known}:
+    known = Crate.read_all()
+    if not {*names} <= {*known}:
         sys.exit("crates.txt doesn't name each of these crates")
-    crates = [it for it in crates if it.bodies() and (not names or it.name in names)]
+    crates = [it for it in known.values() if it.bodies() and it.name in (names or known)]
     begin, passed, failed, seconds = time.time(), 0, 0, 0.0
     for crate in [it for it in crates if it.kept().is_file() and not anew]:
         print(f"{crate.kept().read_text(encoding='utf-8')}{crate.name}: as is kept", flush=True)
         passed += len(crate.bodies())
         crates.remove(crate)
-    prove({below for it in crates for below in it.below()})
+    prove([below for it in crates for below in it.below()])
     crates.sort(key=lambda it: -len(it.bodies()))
     with concurrent.futures.ThreadPoolExecutor(lanes()) as pool:
         for trial in concurrent.futures.as_completed([pool.submit(try_crate, it) for it in crates]):
@@ -601,8 +575,7 @@ def try_crates(names, anew):
 def tell_goals(name, edit):
     """Tells which goals a wrong body breaks, those without a written answer apart, and the time of
     a check over what `rt check` has kept."""
-    Crate.read_all()
-    crate = Crate.known[name]
+    crate = Crate.read_all()[name]
     [file] = crate.folder.glob(f"*/{edit}.edit")
     body = Body.read(name, file)
     prove(crate.below())

@@ -122,8 +122,15 @@ put kit/program << 'END'
 END
 put kit/bin/rtlib.py << 'END'
 class Crate:
-    def __init__(self, name):
-        self.name = name
+    def __init__(self, top, name, *deps):
+        self.folder, self.name, self.deps = f"{top}/crates/{name}", name, deps
+        self.said = {"name": name}
+
+    def below(self):
+        return self.deps
+
+    def words(self, flags):
+        return ["--crate-name", self.name, *flags]
 
     def stamp(self):
         return self.name
@@ -135,7 +142,8 @@ class Crate:
 
 
 def crates_below(top):
-    return [Crate("tiny"), Crate("more")]
+    tiny = Crate(top, "tiny")
+    return [tiny, Crate(top, "more", tiny)]
 END
 put kit/bin/rattle << 'END'
 #!/bin/sh
