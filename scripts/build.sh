@@ -36,7 +36,8 @@ awk -v names="$*" '
 ' crates.txt > "$room/crates.txt"
 cp HANDLES "$room/HANDLES"
 python3 -B scripts/lib/libraries.py note
-for crate in $(cut -d: -f1 "$room/crates.txt"); do
+crates=$(cut -d: -f1 "$room/crates.txt")
+for crate in $crates; do
     mkdir -p "$room/crates/$crate"
     for part in src specs proofs data args stdin stdout status; do
         [ ! -e "crates/$crate/$part" ] || cp -R "crates/$crate/$part" "$room/crates/$crate/$part"

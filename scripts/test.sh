@@ -13,24 +13,27 @@ rm -f "$logs"/*
 
 # watch: has ps tell each second what the prover's processes have taken by now, by crate
 watch() {
-    session=$(ps -o sess= -p $$)
+    session=$(ps -o sess= -p $$ | tr -d ' ')
     while [ ! -e "$logs/ci.ended" ] && kill -0 $$; do
         ps -s "$session" -o pid=,cputimes=,args=
         sleep 1
-    done |
-        sed -n 's/^ *\([0-9]*\) *\([0-9]*\) .*--crate-name \([a-z_]*\) .*/\3 \1 \2/p' \
-            > "$logs/times"
+    done | sed -n 's/^ *\([0-9]*\) *\([0-9]*\) .*--crate-name \([a-z_]*\) .*/\3 \2 \1/p' \
+        > "$logs/times"
 }
 
 # tell_times: the minutes of processor time of each crate, the dearest first
 tell_times() {
     echo 'minutes of processor time, in proofs and edits of must-fail/, and in bodies:'
-    sed -n 's/^\([a-z_]*\): .* runs, \([0-9]*\) s of processor time$/\1 bodies \2/p' \
-        "$logs"/bodies.log 2> /dev/null | cat - "$logs/times" | awk '
-        { least[$1] += $2 == "bodies" ? $3 : 0; if ($2 != "bodies") most[$1 " " $2] = $3 }
+    sed -n 's/^\([a-z_]*\): .* runs, \([0-9]*\) s of processor time$/\1 \2 bodies/p' \
+        "$logs/bodies.log" | cat "$logs/times" - | awk '
+        { took[$1, $3] = $2 }
         END {
-            for (it in most) { split(it, name, " "); proofs[name[1]] += most[it]; least[name[1]] += 0 }
-            for (it in least) printf "%8.1f %8.1f  %s\n", proofs[it] / 60, least[it] / 60, it
+            for (it in took) {
+                split(it, name, SUBSEP)
+                proofs[name[1]] += name[2] == "bodies" ? 0 : took[it]
+                bodies[name[1]] += name[2] == "bodies" ? took[it] : 0
+            }
+            for (it in proofs) printf "%8.1f %8.1f  %s\n", proofs[it] / 60, bodies[it] / 60, it
         }' | sort -rn
 }
 
