@@ -6,20 +6,11 @@ Usage: scripts/bodies.py [--anew] [CRATE..]   tries the bodies of these crates, 
                                               have written answers, and what refusing it costs
 It runs at the top of the repository. `make test-bodies` and `make test` call it.
 
-A body is an edit, as those of must-fail/: lines `file: PATH`, `old: TEXT` and `new: TEXT`, where
-the old text stands once in the file. A function's proof rests on the contracts of those that it
-calls and not on their bodies. So one run (a round) has a wrong body in each of many functions,
-and each is judged by its own function. Where a function has several, each has its own round, over
-what the rounds before it proved.
-
-A body is refused where a goal of its own function is told as unproved that the right body has too:
-by an error in the function's answers, by a note at its lines, or by its line of the report. That
-the function isn't proved is not enough, since one that calls a wrong one isn't either. Nor is an
-answer that names what the edit took away. A body whose goals wait for the proof of another wrong
-one is tried again without that one. A type, a constant or a derived comparison has a run of its
-own, and is refused at a goal of a law, or of a function of its module or of that which its name
-names. A definition names its law by a first line `judged by: PATH`, or `judged alone by: PATH`
-where the law breaks by a lemma alone. Those go in one run whose laws rest on none of the others.
+docs/WRONG_BODIES.md says what a body is, and how they are tried. One is refused where a goal of its
+own function is told as unproved that the right body has too: by an error in the function's answers,
+by a note at its lines, or by its line of the report. That the function isn't proved is not enough,
+since one that calls a wrong one isn't either. Nor is an answer that names what the edit took away.
+A body whose goals wait for the proof of another wrong one is tried again without that one.
 
 What has passed is kept in ~/.cache/pbook, by a sum of the crate, its bodies, what it stands on,
 the toolchain and this script. --anew looks at nothing kept. RT_JOBS says how many runs go side by
@@ -279,7 +270,8 @@ class Said:
         for line, goal in re.findall(at, self.text, re.M):
             found += [goal] if function.first <= int(line) <= function.last else []
         searched = re.search(r"`search` did not prove ([^;]+)", self.line_of(function) or "")
-        return found + re.findall(r"`([^`]+)`", searched[1] if searched else "")
+        found += re.findall(r"`([^`]+)`", searched[1] if searched else "")
+        return list(dict.fromkeys(found))
 
     def waits_of(self, function):
         """The names of the functions whose proof this one's goals may wait for."""
