@@ -515,8 +515,8 @@ table() {
     holds named 1 "$one" "$two" "$three" "$three"
 }
 
-# checks_nothing PART..: whether scripts/check.sh tells of each of these parts that it fails over such
-# a program, and ends so
+# checks_nothing PART..: whether scripts/check.sh tells of each of these parts that it fails over
+# such a program, and ends so
 checks_nothing() {
     status=0
     (cd "$work/whole" && env PATH="$work/path:$PATH" sh scripts/check.sh "$@") \
