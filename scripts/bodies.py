@@ -239,11 +239,6 @@ class Said:
     text: str
     seconds: float
 
-    @property
-    def has_judged(self):
-        """Whether the prover came to its end: its last line counts the functions."""
-        return re.search(r"^only=\d+ proved=\d+\n\Z", self.text, re.M) is not None
-
     def line_of(self, function):
         """What the report says of this function, or None."""
         found = re.search(rf"^fn {re.escape(function.name)}: (.*)", self.text, re.M)
@@ -284,7 +279,8 @@ class Said:
         for line, label, why in re.findall(errors, self.text, re.M):
             if not label or GONE.search(why):
                 return line
-        if self.has_judged:
+        # (the last line of a run that came to its end counts the functions)
+        if re.search(r"^only=\d+ proved=\d+\n\Z", self.text, re.M):
             return None
         lines = self.text.strip().split("\n")
         return next((it for it in lines if "error" in it), lines[-1])
