@@ -525,8 +525,9 @@ def try_crate(crate):
 
 def prove(crates):
     """Has these crates proved whose libraries don't stand."""
-    if not all(it.made.is_built() for it in crates):
-        subprocess.run(["sh", "scripts/build.sh", *(it.name for it in crates)], check=True)
+    names = dict.fromkeys(it.name for it in crates if not it.made.is_built())
+    if names:
+        subprocess.run(["sh", "scripts/build.sh", *names], check=True)
 
 
 def lanes():
