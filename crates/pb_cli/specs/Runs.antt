@@ -7,6 +7,6 @@ pub use Rattle.pb_collecting.specs.Ends.{Change, EndStates, JournalStates, betwe
 pub use Rattle.pb_collecting.specs.Ends.{journal_states, states}
 pub use Rattle.pb_collecting.specs.ExportRun.{BlamesEither}
 pub use Rattle.pb_collecting.specs.Into.{ContinuesInto, Exported, Into}
-pub use Rattle.pb_collecting.specs.JournalHeadline.{HasHeadlineOfJournal}
+pub use Rattle.pb_collecting.specs.JournalHeadline.{HasHeadlineOfJournal, LosesNoneLater}
 pub use Rattle.pb_collecting.specs.Runs.{CollectRun, ContinueRun, ExportRun, JournalRun}
 pub use Rattle.pb_collecting.specs.Games.{PicksAll, PicksUntil}

@@ -1,6 +1,5 @@
 //! What a run tells on standard error: each message is a line of its own.
 
-use crate::part::Part;
 use arrayvec::ArrayString;
 use std::fmt::{self, Display, Write};
 use std::io;
@@ -36,51 +35,6 @@ impl Display for Cause {
     }
 }
 
-/// Says what a failure has left of a file that was to be replaced.
-#[derive(Clone, Copy, Debug, Error)]
-pub enum Left {
-    /// Nothing that a user could miss.
-    #[error("")]
-    All,
-    #[error("; the old {} is unchanged", .0.noun())]
-    Old(Part),
-    #[error("; there is no {}", .0.noun())]
-    Nothing(Part),
-    #[error("; it may be incomplete")]
-    Front,
-    #[error("; the new one is there, and a crash may undo it")]
-    New,
-}
-
-/// Says what another program has done to a file that this run holds.
-#[derive(Clone, Copy, Debug, Error)]
-pub enum Change {
-    #[error("it was removed or renamed while this run held it")]
-    Removed,
-    #[error("another file took its name while this run held it")]
-    Replaced,
-    #[error("another program changed it while this run held it")]
-    Content,
-}
-
-/// Says why no new file can take the place of an old one.
-#[derive(Debug, Drop, Error)]
-pub enum Unreplaceable {
-    #[error("the path doesn't end in a name")]
-    NoName,
-    #[error("it is a link that can't be followed")]
-    Link,
-    /// Which would keep the old file.
-    #[error("the file has a second name")]
-    SecondName,
-    #[error("its owner or its group would be another")]
-    Owner,
-    #[error("something is mounted on it")]
-    Mount,
-    #[error("no file can be made beside it: {0}")]
-    Folder(Cause),
-}
-
 /// Says what a file or an input looks like.
 #[derive(Clone, Copy, Debug, Error)]
 pub enum Looks {
@@ -101,31 +55,14 @@ pub enum Looks {
 /// Writes a message in one line.
 #[derive(Debug, Drop, Error)]
 pub enum Message<'m> {
-    #[error("{0}: {1}{2}")]
-    Failed(&'m str, Cause, Left),
-    #[error("{}: no such file (an empty one begins a {})", .0, .1.noun())]
-    NoFile(&'m str, Part),
-    #[error("{0} is in use by another run")]
-    InUse(&'m str),
-    #[error("{0} isn't open")]
-    NotOpen(&'static str),
+    #[error("{0}: {1}")]
+    Failed(&'m str, Cause),
     #[error("out of memory")]
     Memory,
     #[error("an input has no end")]
     Endless,
     #[error("{0}")]
     Usage(&'m str),
-    #[error("{0} can't be made: {1}")]
-    CannotBeMade(&'m str, Cause),
-    #[error("{0} can't be replaced by a new ledger: {1}")]
-    CannotBeReplaced(&'m str, Unreplaceable),
-    /// Of a draft of this run.
-    #[error("{0} can't be removed: {1}")]
-    NotRemoved(&'m str, Cause),
-    #[error("{0}: {1}")]
-    Changed(&'m str, Change),
-    #[error("{}: a {} has to be an ordinary file", .0, .1.noun())]
-    NoOrdinaryFile(&'m str, Part),
     #[error("{0}: its last line has no end; it is left out")]
     CutLine(&'m str),
     #[error("the last line of {0} has no end; it may be a cut game")]

@@ -1,7 +1,7 @@
 //! What became of a command, and why its files, its record or its moves are refused.
 
 use pb_cli::{Answer, Made, Refused, Unread};
-use pb_messages::{Looks, Messages, Part, Progress, looks_of};
+use pb_messages::{Looks, Messages, Progress, looks_of};
 use std::fmt::Display;
 use std::fs::{self, File};
 use std::io::Read;
@@ -13,8 +13,8 @@ const LOOKED_AT: usize = 512;
 pub(crate) fn tell_answer(messages: Messages<'_>, table: &str, book: &str, answer: Answer) -> bool {
     if let Answer::Refused(why) = answer {
         match why {
-            Refused::Table(_) => tell_file(messages, Part::Table, table, &why),
-            Refused::Book(_) => tell_file(messages, Part::Book, book, &why),
+            Refused::Table(_) => tell_file(messages, Due::Table, table, &why),
+            Refused::Book(_) => tell_file(messages, Due::Book, book, &why),
             _ => messages.tell(&why),
         }
     }
@@ -38,32 +38,46 @@ pub(crate) fn tell_made(
         }
     };
     match why {
-        Unread::Table(_) => tell_file(messages, Part::Table, table, &why),
-        Unread::Ledger(_) => tell_file(messages, Part::Ledger, ledger, &why),
+        Unread::Table(_) => tell_file(messages, Due::Table, table, &why),
+        Unread::Ledger(_) => tell_file(messages, Due::Games, ledger, &why),
     }
     false
 }
 
-fn tell_file<E: Display>(messages: Messages<'_>, part: Part, name: &str, why: &E) {
-    match looks_of_file(messages.rt, name, part) {
-        Some(looks) => messages.tell(&format_args!("{name}: {why}; it {looks}")),
-        None => messages.tell(&format_args!("{name}: {why}")),
+fn tell_file<E: Display>(messages: Messages<'_>, due: Due, name: &str, why: &E) {
+    match looks_of_file(messages.rt, name) {
+        Some(looks) if !due.may_be(looks) => {
+            messages.tell(&format_args!("{name}: {why}; it {looks}"));
+        }
+        _ => messages.tell(&format_args!("{name}: {why}")),
     }
 }
 
-/// What a file looks like, if not like one of this part. Only an ordinary file is looked at again,
-/// since a pipe gives its bytes once.
-fn looks_of_file(rt: &HostRuntime, name: &str, part: Part) -> Option<Looks> {
+/// What a file has to look like.
+#[derive(Clone, Copy)]
+enum Due {
+    Table,
+    Book,
+    Games,
+}
+
+impl Due {
+    fn may_be(self, looks: Looks) -> bool {
+        matches!(
+            (self, looks),
+            (Due::Table, Looks::Table | Looks::Text)
+                | (Due::Book, Looks::Book)
+                | (Due::Games, Looks::Games | Looks::Text)
+        )
+    }
+}
+
+/// Only an ordinary file is looked at again, since a pipe gives its bytes once.
+fn looks_of_file(rt: &HostRuntime, name: &str) -> Option<Looks> {
     if !fs::metadata(rt, name).ok()?.is_file() {
         return None;
     }
     let mut front = [0; LOOKED_AT];
     let count = File::open(rt, name).ok()?.read(&mut front).ok()?;
-    let looks = looks_of(&front[..count]);
-    let may_be = match part {
-        Part::Table => matches!(looks, Looks::Table | Looks::Text),
-        Part::Book => matches!(looks, Looks::Book),
-        _ => matches!(looks, Looks::Games | Looks::Text),
-    };
-    (!may_be).then_some(looks)
+    Some(looks_of(&front[..count]))
 }

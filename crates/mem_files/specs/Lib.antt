@@ -1,2 +1,0 @@
-pub mod MemFolder
-pub mod MemStore

@@ -1,3 +1,0 @@
-mod KeepLemmas
-mod RunLemmas
-mod WriteLemmas
