@@ -1,10 +1,14 @@
 //! The draft of a file that is to be made anew.
 
-ghost use Rattle.std.specs.Prelude.{◌≡◌, true};
+ghost use Rattle.std.specs.Prelude.{◌≡◌, IfErr, IfOk};
+ghost use Rattle.pb_collecting.specs.declared.store.StoreError.TheVariants.{Write};
+ghost use Rattle.pb_files.specs.Ends.{IsSynced};
 
-use crate::holding::{hold, is_same};
+use crate::holding::{hold, is_same, not_ordinary};
+use crate::stop::told;
 use crate::system_file::SystemFile;
-use pb_messages::{Messages, Named};
+use pb_collecting::StoreError;
+use pb_messages::{Cause, Message, Named};
 use std::fs::{self, File, OpenOptions};
 use std::io::{self, ErrorKind, Seek};
 use std::os::unix::fs::{MetadataExt, OpenOptionsExt};
@@ -16,7 +20,7 @@ const ANYBODY: u32 = 0o666;
 /// A name that this run alone gives to a new file. It holds what has the name, and beside that the
 /// draft: `.NAME.pbook`, which goes unless it gets the name.
 pub(crate) struct Draft<'a> {
-    rt: &'a HostRuntime,
+    named: Named<'a>,
     path: PathBuf,
     draft: PathBuf,
     old: Option<File>,
@@ -27,10 +31,10 @@ pub(crate) struct Draft<'a> {
 impl Drop for Draft<'_> {
     fn drop(self) {
         if self.is_there() {
-            let _ = fs::remove_file(self.rt, self.draft.as_path());
+            let _ = fs::remove_file(self.named.messages.rt, self.draft.as_path());
         }
         let Draft {
-            rt: _,
+            named: _,
             path: _,
             draft: _,
             old: _,
@@ -41,30 +45,30 @@ impl Drop for Draft<'_> {
 }
 
 impl<'a> Draft<'a> {
-    /// Gives the empty draft of the file that this path leads to, or None where it leads to a device
+    /// Gives the empty draft of the file that this name leads to, or None where it leads to a device
     /// or a pipe.
-    pub(crate) fn of(
-        rt: &'a HostRuntime,
-        path: &str,
-        reads: bool,
-    ) -> io::Result<Option<Draft<'a>>> {
-        let (path, old) = match fs::metadata(rt, path) {
-            Ok(told) if !told.is_file() && !told.is_dir() => return Ok(None),
-            Err(error) if error.kind() == ErrorKind::NotFound => {
-                (Path::new(path).to_path_buf(rt.alloc())?, None)
-            }
+    pub(crate) fn of(named: Named<'a>, reads: bool) -> io::Result<Option<Draft<'a>>> {
+        let rt = named.messages.rt;
+        let told = fs::metadata(rt, named.name);
+        if told
+            .as_ref()
+            .is_ok_and(|told| !told.is_file() && !told.is_dir())
+        {
+            return Ok(None);
+        }
+        let path = resolve(rt, named.name)?;
+        let old = match told {
+            Err(error) if error.kind() == ErrorKind::NotFound => None,
             _ => {
-                let path = fs::canonicalize(rt, path)?;
                 let mut options = OpenOptions::new();
                 options.read(reads).write(true);
-                let old = hold(rt, &options, path.as_path())?;
-                (path, Some(old))
+                Some(hold(rt, &options, path.as_path())?)
             }
         };
         let draft = draft_path(rt, path.as_path())?;
         let file = open_draft(rt, draft.as_path(), old.as_ref())?;
         let draft = Draft {
-            rt,
+            named,
             path,
             draft,
             old,
@@ -78,7 +82,8 @@ impl<'a> Draft<'a> {
     /// Gives the file of the draft, which is made anew where somebody has removed it.
     pub(crate) fn file(&mut self) -> io::Result<File> {
         if !self.is_there() {
-            self.file = open_draft(self.rt, self.draft.as_path(), self.old.as_ref())?;
+            let rt = self.named.messages.rt;
+            self.file = open_draft(rt, self.draft.as_path(), self.old.as_ref())?;
             self.fit()?;
         }
         self.file.try_clone()
@@ -86,7 +91,7 @@ impl<'a> Draft<'a> {
 
     /// Whether the draft is this run's still: another may have made one where this is removed.
     fn is_there(&self) -> bool {
-        let found = fs::symlink_metadata(self.rt, self.draft.as_path());
+        let found = fs::symlink_metadata(self.named.messages.rt, self.draft.as_path());
         match (self.file.metadata(), found) {
             (Ok(told), Ok(found)) => is_same(&told, &found),
             _ => false,
@@ -106,49 +111,86 @@ impl<'a> Draft<'a> {
         Ok(())
     }
 
-    /// What has the name.
-    pub(crate) fn old(&self) -> Option<&File> {
-        self.old.as_ref()
+    /// Gives another handle of what has the name.
+    pub(crate) fn old(&self) -> io::Result<File> {
+        match &self.old {
+            Some(old) => old.try_clone(),
+            None => Err(io::Error::other(
+                "no such file (an empty one begins a ledger)",
+            )),
+        }
     }
 
     /// Gives another name to a file that isn't as long any more as this run has read it, and tells
     /// it: it may have what this run doesn't know.
-    pub(crate) fn keep_changed(&self, messages: Messages<'_>) -> io::Result<()> {
-        let (Some(mut old), true) = (self.old(), self.reads) else {
+    pub(crate) fn keep_changed(&self) -> Result<(), StoreError>
+        ensures { IfErr result (λ why. why ≡ Write) }
+    {
+        if !told(self.named, self.is_changed(), StoreError::Write)? {
             return Ok(());
-        };
-        let path = self.path.as_path();
-        match fs::metadata(self.rt, path) {
-            Ok(told) if told.len() != old.stream_position()? => {}
-            _ => return Ok(()),
         }
-        let name = format!(in self.rt.alloc(); "{}.changed", path.as_str())?;
-        if let Err(error) = fs::hard_link(self.rt, path, name.as_str()) {
-            Named::new(messages, name.as_str()).fail(&error);
-            return Err(io::Error::other("another program has changed it"));
+        let (messages, path) = (self.named.messages, self.path.as_path());
+        let changed = format!(in messages.rt.alloc(); "{}.changed", path.as_str());
+        let changed = told(self.named, changed.map_err(io::Error::from), StoreError::Write)?;
+        let (name, kept) = (self.named.name, changed.as_str());
+        match fs::hard_link(messages.rt, path, kept) {
+            Ok(()) => {
+                messages.tell(&Message::Changed(name, kept));
+                Ok(())
+            }
+            Err(error) => {
+                messages.tell(&Message::Unkept(name, kept, Cause::of(&error)));
+                Err(StoreError::Write)
+            }
         }
-        let path = path.as_str();
-        messages.tell(&format_args!("{path}: another program has changed it; {name} keeps that"));
-        Ok(())
     }
 
-    /// Gives the name to the draft, which is this file, and answers its path.
-    pub(crate) fn name(self, _file: &SystemFile<'_>) -> io::Result<PathBuf>
-        requires { _file.now.synced ≡ true }
+    fn is_changed(&self) -> io::Result<bool> {
+        let (Some(mut old), true) = (self.old.as_ref(), self.reads) else {
+            return Ok(false);
+        };
+        match fs::metadata(self.named.messages.rt, self.path.as_path()) {
+            Ok(told) => Ok(told.len() != old.stream_position()?),
+            Err(_) => Ok(false),
+        }
+    }
+
+    /// Gives the name to the draft, which is this file, and answers the path that leads to it. Where
+    /// the name can't be given the draft stays, and is told: all that the run took is there.
+    pub(crate) fn name(
+        self,
+        file: SystemFile<'a>,
+    ) -> Result<(SystemFile<'a>, PathBuf), StoreError>
+        requires { IsSynced file }
+        ensures ok { IfOk result (λ named. named.0 ≡ file.entry) }
+        ensures err { IfErr result (λ why. why ≡ Write) }
     {
         if !self.is_there() {
-            return Err(io::Error::other("its draft is gone"));
+            return told(
+                self.named,
+                Err(io::Error::other("its draft is gone")),
+                StoreError::Write,
+            );
         }
-        fs::rename(self.rt, self.draft.as_path(), self.path.as_path())?;
+        let rt = self.named.messages.rt;
+        let renamed = fs::rename(rt, self.draft.as_path(), self.path.as_path());
         let Draft {
-            rt: _,
+            named,
             path,
-            draft: _,
+            draft,
             old: _,
             reads: _,
             file: _,
         } = self;
-        Ok(path)
+        match renamed {
+            Ok(()) => Ok((file, path)),
+            Err(error) => {
+                let draft = draft.as_path();
+                let message = Message::Unnamed(named.name, Cause::of(&error), draft.as_str());
+                named.messages.tell(&message);
+                Err(StoreError::Write)
+            }
+        }
     }
 }
 
@@ -160,6 +202,21 @@ fn open_draft(rt: &HostRuntime, draft: Path<'_>, old: Option<&File>) -> io::Resu
     let mut options = OpenOptions::new();
     options.read(true).write(true).create(true).mode(mode);
     hold(rt, &options, draft)
+}
+
+/// Gives the path of the draft that a file of this name has.
+pub(crate) fn draft_of(rt: &HostRuntime, name: &str) -> io::Result<PathBuf> {
+    draft_path(rt, resolve(rt, name)?.as_path())
+}
+
+/// Follows links, where they lead to something.
+fn resolve(rt: &HostRuntime, name: &str) -> io::Result<PathBuf> {
+    match fs::canonicalize(rt, name) {
+        Err(error) if error.kind() == ErrorKind::NotFound => {
+            Ok(Path::new(name).to_path_buf(rt.alloc())?)
+        }
+        path => path,
+    }
 }
 
 /// Fails where the path doesn't end in a file's name.

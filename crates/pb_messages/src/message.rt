@@ -57,6 +57,17 @@ pub enum Looks {
 pub enum Message<'m> {
     #[error("{0}: {1}")]
     Failed(&'m str, Cause),
+    /// The new file stays under its draft's name.
+    #[error("{0}: {1}; the new one is {2}")]
+    Unnamed(&'m str, Cause, &'m str),
+    #[error("{0}: another program has changed it; {1} keeps that")]
+    Changed(&'m str, &'m str),
+    #[error("{0}: another program has changed it; {1}: {2}")]
+    Unkept(&'m str, &'m str, Cause),
+    #[error("{0} holds games, and stays")]
+    HoldsGames(&'m str),
+    #[error("{0}: a book takes its place; it {1}")]
+    Replaced(&'m str, Looks),
     #[error("out of memory")]
     Memory,
     #[error("an input has no end")]
