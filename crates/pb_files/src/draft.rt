@@ -115,9 +115,7 @@ impl<'a> Draft<'a> {
     pub(crate) fn old(&self) -> io::Result<File> {
         match &self.old {
             Some(old) => old.try_clone(),
-            None => Err(io::Error::other(
-                "no such file (an empty one begins a ledger)",
-            )),
+            None => Err(io::Error::other("no such file (an empty one begins a ledger)")),
         }
     }
 
@@ -131,7 +129,11 @@ impl<'a> Draft<'a> {
         }
         let (messages, path) = (self.named.messages, self.path.as_path());
         let changed = format!(in messages.rt.alloc(); "{}.changed", path.as_str());
-        let changed = told(self.named, changed.map_err(io::Error::from), StoreError::Write)?;
+        let changed = told(
+            self.named,
+            changed.map_err(io::Error::from),
+            StoreError::Write,
+        )?;
         let (name, kept) = (self.named.name, changed.as_str());
         match fs::hard_link(messages.rt, path, kept) {
             Ok(()) => {
@@ -157,10 +159,7 @@ impl<'a> Draft<'a> {
 
     /// Gives the name to the draft, which is this file, and answers the path that leads to it. Where
     /// the name can't be given the draft stays, and is told: all that the run took is there.
-    pub(crate) fn name(
-        self,
-        file: SystemFile<'a>,
-    ) -> Result<(SystemFile<'a>, PathBuf), StoreError>
+    pub(crate) fn name(self, file: SystemFile<'a>) -> Result<(SystemFile<'a>, PathBuf), StoreError>
         requires { IsSynced file }
         ensures ok { IfOk result (λ named. named.0 ≡ file.entry) }
         ensures err { IfErr result (λ why. why ≡ Write) }
@@ -205,7 +204,7 @@ fn open_draft(rt: &HostRuntime, draft: Path<'_>, old: Option<&File>) -> io::Resu
 }
 
 /// Gives the path of the draft that a file of this name has.
-pub(crate) fn draft_of(rt: &HostRuntime, name: &str) -> io::Result<PathBuf> {
+pub fn draft_of(rt: &HostRuntime, name: &str) -> io::Result<PathBuf> {
     draft_path(rt, resolve(rt, name)?.as_path())
 }
 

@@ -1,18 +1,18 @@
 //! The command `collect` over the files that it names.
 
 ghost use Rattle.std.specs.Prelude.{◌≡◌};
-ghost use Rattle.pb_files.specs.Ends.{new_file, syncs};
-ghost use Rattle.pb_program.specs.Ordered.{is_synced};
+ghost use Rattle.pb_files.specs.Ends.{syncs};
+ghost use Rattle.pb_program.specs.Ordered.{IsLedgerPath, is_synced};
 
 use crate::command::{FileSource, input, source};
 use crate::ordered;
-use crate::outcome::tell_made;
-use pb_cli::{CollectOrder, Ends, JournalEnds, Keeping, LedgerEnds, Made, Watcher};
+use crate::outcome::{spare_games, tell_made};
+use pb_cli::{CollectOrder, Ends, Keeping, LedgerEnds, LoadError, Made, Unread, Watcher};
 use pb_files::{
-    FileEnd, Journal, KeptFile, Replies, SYNCED, Stop, Submissions, WRITTEN, keep_apart,
+    Journal, KeptFile, Replies, SYNCED, Stop, Submissions, WRITTEN, draft_of, keep_apart,
 };
-use pb_io::{Fault, FromRead, Sink, Source, ToWrite};
-use pb_messages::{Messages, Named, Progress, Told, Watching};
+use pb_io::{Fault, Sink, Source, ToWrite};
+use pb_messages::{Messages, Named, Progress, Watching};
 use std::cell::RefCell;
 
 /// Where the file of standard input is found.
@@ -35,9 +35,14 @@ pub(crate) fn collect<'a>(
     };
     // A line that tells of it would be written into that file.
     let unwritten = Stop::Fault(Fault::Write);
-    keep_apart(messages, &[order.table, kept, OUTPUT], unwritten)?;
+    let draft = draft_of(messages.rt, order.book);
+    let draft = draft.as_ref().map_or("", |draft| draft.as_str());
+    for path in [order.table, kept, draft] {
+        keep_apart(messages, &[path, OUTPUT], unwritten)?;
+    }
     keep_apart(messages, &[order.table, kept, order.book], Stop::NotOpened)?;
     keep_apart(messages, &[kept, order.book, INPUT], Stop::NotOpened)?;
+    spare_games(messages, order.book)?;
     let mut ends = Ends {
         table: source(messages, order.table)?,
         lines: Submissions::new(input(messages), &output, &progress),
@@ -48,55 +53,65 @@ pub(crate) fn collect<'a>(
     Ok(tell_made(&progress, made, order.table, kept, Some(order.book)))
 }
 
-/// A saved ledger is made anew after the run and before the book.
+/// What can't be opened or held of BOOK is told before a submission is read, and ends the run after
+/// the last one.
 fn run<'a>(
     messages: Messages<'a>,
     order: &CollectOrder<'a>,
     ends: &mut Ends<FileSource<'a>, impl Source, impl Sink, impl Watcher>,
 ) -> Result<Made, Stop> {
-    let alloc = messages.rt.alloc();
-    let book = Named::new(messages, order.book);
     match order.kept {
         Keeping::Book => {
-            let mut book = KeptFile::new(book, false);
-            Ok(ordered::collect(alloc, order, ends, &mut book)?)
+            let mut book = KeptFile::new(Named::new(messages, order.book), false);
+            Ok(ordered::collect(messages.rt.alloc(), order, ends, &mut book)?)
         }
-        Keeping::Ledger(path) => {
-            let named = Named::new(messages, path);
-            let store = KeptFile::new(named, true);
-            let mut saved = Told::new(named, store.reader()?);
-            saved.are_games = true;
-            let mut ledger = LedgerEnds {
-                saved: FromRead::new(saved),
-                store,
-            };
-            let mut book = KeptFile::new(book, false);
-            Ok(ordered::go_on(alloc, order, ends, &mut ledger, &mut book)?)
-        }
+        Keeping::Ledger(path) => go_on(Named::new(messages, path), order, ends),
         Keeping::Journal { path, sync } => {
             let named = Named::new(messages, path);
             if sync {
-                journal::<SYNCED>(named, order, ends)
+                add_games::<SYNCED>(named, order, ends)
             } else {
-                journal::<WRITTEN>(named, order, ends)
+                add_games::<WRITTEN>(named, order, ends)
             }
         }
     }
 }
 
-fn journal<'a, const MODE: u8>(
+/// A saved ledger is made anew after the run and before the book.
+fn go_on<'a>(
+    named: Named<'a>,
+    order: &CollectOrder<'a>,
+    ends: &mut Ends<FileSource<'a>, impl Source, impl Sink, impl Watcher>,
+) -> Result<Made, Stop>
+    requires { IsLedgerPath order.now.kept named.name.now }
+{
+    let store = KeptFile::new(named, true);
+    let mut ledger = LedgerEnds {
+        saved: store.reader()?,
+        store,
+    };
+    let mut book = KeptFile::new(Named::new(named.messages, order.book), false);
+    let alloc = named.messages.rt.alloc();
+    Ok(ordered::go_on(alloc, order, ends, &mut ledger, &mut book)?)
+}
+
+fn add_games<'a, const MODE: u8>(
     named: Named<'a>,
     order: &CollectOrder<'a>,
     ends: &mut Ends<FileSource<'a>, impl Source, impl Sink, impl Watcher>,
 ) -> Result<Made, Stop>
     requires { syncs MODE ≡ is_synced order.now.kept }
 {
-    let opened = Journal::open(named, MODE == SYNCED)?;
+    let journal = Journal::open(named)?;
+    if !journal.looks_right()? {
+        ends.replies.put(b"refused journal line 1\n")?;
+        ends.replies.flush()?;
+        return Ok(Made::Unread(Unread::Ledger(LoadError::Line(1))));
+    }
     let mut book = KeptFile::new(Named::new(named.messages, order.book), false);
-    let mut journal = JournalEnds {
-        kept: opened.reader,
-        journal: FileEnd::<'_, MODE>::new(named, opened.file)?,
-    };
+    let mut journal = journal.start::<MODE>()?;
     let alloc = named.messages.rt.alloc();
-    Ok(ordered::journal(alloc, order, ends, &mut journal, &mut book)?)
+    let made = ordered::journal(alloc, order, ends, &mut journal, &mut book)?;
+    journal.journal.settle()?;
+    Ok(made)
 }

@@ -1,12 +1,13 @@
 //! What became of a command, and why its files, its record or its moves are refused.
 
 use pb_cli::{Answer, Made, Refused, Unread};
-use pb_messages::{Looks, Messages, Progress, looks_of};
+use pb_files::Stop;
+use pb_messages::{Looks, Message, Messages, Progress, looks_of};
 use std::fmt::Display;
 use std::fs::{self, File};
 use std::io::Read;
 
-/// In bytes, of a refused file.
+/// In bytes, of a file that is refused or replaced.
 const LOOKED_AT: usize = 512;
 
 /// Answers whether all was taken. A line that is refused is an answer.
@@ -72,9 +73,24 @@ impl Due {
     }
 }
 
-/// Only an ordinary file is looked at again, since a pipe gives its bytes once.
+/// Makes sure that no book takes the place of games, as where `--ledger` was left out, and warns
+/// where it takes that of something else.
+pub(crate) fn spare_games(messages: Messages<'_>, book: &str) -> Result<(), Stop> {
+    match looks_of_file(messages.rt, book) {
+        Some(Looks::Games) => {
+            messages.tell(&Message::HoldsGames(book));
+            return Err(Stop::NotOpened);
+        }
+        Some(Looks::Book) | None => {}
+        Some(looks) => messages.warn(&Message::Replaced(book, looks)),
+    }
+    Ok(())
+}
+
+/// Only an ordinary file that has bytes is looked at: a pipe gives its bytes once.
 fn looks_of_file(rt: &HostRuntime, name: &str) -> Option<Looks> {
-    if !fs::metadata(rt, name).ok()?.is_file() {
+    let told = fs::metadata(rt, name).ok()?;
+    if !told.is_file() || told.len() == 0 {
         return None;
     }
     let mut front = [0; LOOKED_AT];
