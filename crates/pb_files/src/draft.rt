@@ -224,7 +224,7 @@ fn draft_path(rt: &HostRuntime, path: Path<'_>) -> io::Result<PathBuf> {
         .file_name()
         .filter(|name| path.as_str().ends_with(*name))
     else {
-        return Err(io::Error::from(ErrorKind::InvalidInput));
+        return Err(io::Error::other("a file has to be named"));
     };
     let name = format!(in rt.alloc(); ".{name}.pbook")?;
     Ok(path.with_file_name(rt.alloc(), name.as_str())?)
