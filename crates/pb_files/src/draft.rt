@@ -4,7 +4,7 @@ ghost use Rattle.std.specs.Prelude.{◌≡◌, IfErr, IfOk};
 ghost use Rattle.pb_collecting.specs.declared.store.StoreError.TheVariants.{Write};
 ghost use Rattle.pb_files.specs.Ends.{IsSynced};
 
-use crate::holding::{hold, is_same, not_ordinary};
+use crate::holding::{hold, is_same, sync_folder};
 use crate::stop::told;
 use crate::system_file::SystemFile;
 use pb_collecting::StoreError;
@@ -26,11 +26,13 @@ pub(crate) struct Draft<'a> {
     old: Option<File>,
     reads: bool,
     file: File,
+    // It could not be given the name.
+    stays: bool,
 }
 
 impl Drop for Draft<'_> {
     fn drop(self) {
-        if self.is_there() {
+        if !self.stays && self.is_there() {
             let _ = fs::remove_file(self.named.messages.rt, self.draft.as_path());
         }
         let Draft {
@@ -40,6 +42,7 @@ impl Drop for Draft<'_> {
             old: _,
             reads: _,
             file: _,
+            stays: _,
         } = self;
     }
 }
@@ -49,15 +52,9 @@ impl<'a> Draft<'a> {
     /// or a pipe.
     pub(crate) fn of(named: Named<'a>, reads: bool) -> io::Result<Option<Draft<'a>>> {
         let rt = named.messages.rt;
-        let told = fs::metadata(rt, named.name);
-        if told
-            .as_ref()
-            .is_ok_and(|told| !told.is_file() && !told.is_dir())
-        {
-            return Ok(None);
-        }
         let path = resolve(rt, named.name)?;
-        let old = match told {
+        let old = match fs::metadata(rt, named.name) {
+            Ok(told) if !told.is_file() && !told.is_dir() => return Ok(None),
             Err(error) if error.kind() == ErrorKind::NotFound => None,
             _ => {
                 let mut options = OpenOptions::new();
@@ -74,6 +71,7 @@ impl<'a> Draft<'a> {
             old,
             reads,
             file,
+            stays: false,
         };
         draft.fit()?;
         Ok(Some(draft))
@@ -111,7 +109,7 @@ impl<'a> Draft<'a> {
         Ok(())
     }
 
-    /// Gives another handle of what has the name.
+    /// Gives another handle of what had the name at the start.
     pub(crate) fn old(&self) -> io::Result<File> {
         match &self.old {
             Some(old) => old.try_clone(),
@@ -121,75 +119,48 @@ impl<'a> Draft<'a> {
 
     /// Gives another name to a file that isn't as long any more as this run has read it, and tells
     /// it: it may have what this run doesn't know.
-    pub(crate) fn keep_changed(&self) -> Result<(), StoreError>
-        ensures { IfErr result (λ why. why ≡ Write) }
-    {
-        if !told(self.named, self.is_changed(), StoreError::Write)? {
-            return Ok(());
-        }
-        let (messages, path) = (self.named.messages, self.path.as_path());
-        let changed = format!(in messages.rt.alloc(); "{}.changed", path.as_str());
-        let changed = told(
-            self.named,
-            changed.map_err(io::Error::from),
-            StoreError::Write,
-        )?;
-        let (name, kept) = (self.named.name, changed.as_str());
-        match fs::hard_link(messages.rt, path, kept) {
-            Ok(()) => {
-                messages.tell(&Message::Changed(name, kept));
-                Ok(())
-            }
-            Err(error) => {
-                messages.tell(&Message::Unkept(name, kept, Cause::of(&error)));
-                Err(StoreError::Write)
-            }
-        }
-    }
-
-    fn is_changed(&self) -> io::Result<bool> {
+    pub(crate) fn keep_changed(&self) -> io::Result<()> {
         let (Some(mut old), true) = (self.old.as_ref(), self.reads) else {
-            return Ok(false);
+            return Ok(());
         };
-        match fs::metadata(self.named.messages.rt, self.path.as_path()) {
-            Ok(told) => Ok(told.len() != old.stream_position()?),
-            Err(_) => Ok(false),
+        let (Named { messages, name }, path) = (self.named, self.path.as_path());
+        match fs::metadata(messages.rt, path) {
+            Ok(told) if told.len() != old.stream_position()? => {}
+            _ => return Ok(()),
         }
+        let changed = format!(in messages.rt.alloc(); "{}.changed", path.as_str())?;
+        let changed = changed.as_str();
+        if let Err(error) = fs::hard_link(messages.rt, path, changed) {
+            Named::new(messages, changed).fail(&error);
+            return Err(io::Error::other("another program has changed it"));
+        }
+        messages.tell(&Message::Changed(name, changed));
+        Ok(())
     }
 
-    /// Gives the name to the draft, which is this file, and answers the path that leads to it. Where
-    /// the name can't be given the draft stays, and is told: all that the run took is there.
-    pub(crate) fn name(self, file: SystemFile<'a>) -> Result<(SystemFile<'a>, PathBuf), StoreError>
+    /// Gives the name to the draft, which is this file. Where that fails the draft stays, and is told:
+    /// it has all that the run took.
+    pub(crate) fn name(&mut self, file: SystemFile<'a>) -> Result<SystemFile<'a>, StoreError>
         requires { IsSynced file }
-        ensures ok { IfOk result (λ named. named.0 ≡ file.entry) }
+        ensures ok { IfOk result (λ named. named ≡ file.entry) }
         ensures err { IfErr result (λ why. why ≡ Write) }
     {
+        let Named { messages, name } = self.named;
         if !self.is_there() {
-            return told(
-                self.named,
-                Err(io::Error::other("its draft is gone")),
-                StoreError::Write,
-            );
+            let gone = Err(io::Error::other("its draft is gone"));
+            return told(self.named, gone, StoreError::Write);
         }
-        let rt = self.named.messages.rt;
-        let renamed = fs::rename(rt, self.draft.as_path(), self.path.as_path());
-        let Draft {
-            named,
-            path,
-            draft,
-            old: _,
-            reads: _,
-            file: _,
-        } = self;
-        match renamed {
-            Ok(()) => Ok((file, path)),
-            Err(error) => {
-                let draft = draft.as_path();
-                let message = Message::Unnamed(named.name, Cause::of(&error), draft.as_str());
-                named.messages.tell(&message);
-                Err(StoreError::Write)
-            }
+        let draft = self.draft.as_path();
+        if let Err(error) = fs::rename(messages.rt, draft, self.path.as_path()) {
+            self.stays = true;
+            messages.tell(&Message::Unnamed(name, Cause::of(&error), draft.as_str()));
+            return Err(StoreError::Write);
         }
+        Ok(file)
+    }
+
+    pub(crate) fn sync_name(&self) -> io::Result<()> {
+        sync_folder(self.named.messages.rt, self.path.as_path())
     }
 }
 

@@ -62,8 +62,6 @@ pub enum Message<'m> {
     Unnamed(&'m str, Cause, &'m str),
     #[error("{0}: another program has changed it; {1} keeps that")]
     Changed(&'m str, &'m str),
-    #[error("{0}: another program has changed it; {1}: {2}")]
-    Unkept(&'m str, &'m str, Cause),
     #[error("{0} holds games, and stays")]
     HoldsGames(&'m str),
     #[error("{0}: a book takes its place; it {1}")]

@@ -9,7 +9,7 @@ use crate::ordered;
 use crate::outcome::{spare_games, tell_made};
 use pb_cli::{CollectOrder, Ends, Keeping, LedgerEnds, LoadError, Made, Unread, Watcher};
 use pb_files::{
-    Journal, KeptFile, Replies, SYNCED, Stop, Submissions, WRITTEN, draft_of, keep_apart,
+    KeptFile, Replies, SYNCED, Stop, Submissions, WRITTEN, draft_of, keep_apart, open_journal,
 };
 use pb_io::{Fault, Sink, Source, ToWrite};
 use pb_messages::{Messages, Named, Progress, Watching};
@@ -102,14 +102,14 @@ fn add_games<'a, const MODE: u8>(
 ) -> Result<Made, Stop>
     requires { syncs MODE ≡ is_synced order.now.kept }
 {
-    let journal = Journal::open(named)?;
-    if !journal.looks_right()? {
-        ends.replies.put(b"refused journal line 1\n")?;
-        ends.replies.flush()?;
+    let Some(mut journal) = open_journal::<MODE>(named)? else {
+        ends.replies
+            .put(b"refused journal line 1\n")
+            .map_err(Fault::from)?;
+        ends.replies.flush().map_err(Fault::from)?;
         return Ok(Made::Unread(Unread::Ledger(LoadError::Line(1))));
-    }
+    };
     let mut book = KeptFile::new(Named::new(named.messages, order.book), false);
-    let mut journal = journal.start::<MODE>()?;
     let alloc = named.messages.rt.alloc();
     let made = ordered::journal(alloc, order, ends, &mut journal, &mut book)?;
     journal.journal.settle()?;
