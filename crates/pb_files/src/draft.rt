@@ -5,7 +5,6 @@ ghost use Rattle.pb_collecting.specs.declared.store.StoreError.TheVariants.{Writ
 ghost use Rattle.pb_files.specs.Ends.{IsSynced};
 
 use crate::holding::{hold, is_same, sync_folder};
-use crate::stop::told;
 use crate::system_file::SystemFile;
 use pb_collecting::StoreError;
 use pb_messages::{Cause, Message, Named};
@@ -147,8 +146,8 @@ impl<'a> Draft<'a> {
     {
         let Named { messages, name } = self.named;
         if !self.is_there() {
-            let gone = Err(io::Error::other("its draft is gone"));
-            return told(self.named, gone, StoreError::Write);
+            self.named.fail(&io::Error::other("its draft is gone"));
+            return Err(StoreError::Write);
         }
         let draft = self.draft.as_path();
         if let Err(error) = fs::rename(messages.rt, draft, self.path.as_path()) {

@@ -45,15 +45,6 @@ pub(crate) fn tell_made(
     false
 }
 
-fn tell_file<E: Display>(messages: Messages<'_>, due: Due, name: &str, why: &E) {
-    match looks_of_file(messages.rt, name) {
-        Some(looks) if !due.may_be(looks) => {
-            messages.tell(&format_args!("{name}: {why}; it {looks}"));
-        }
-        _ => messages.tell(&format_args!("{name}: {why}")),
-    }
-}
-
 /// What a file has to look like.
 #[derive(Clone, Copy)]
 enum Due {
@@ -62,14 +53,15 @@ enum Due {
     Games,
 }
 
-impl Due {
-    fn may_be(self, looks: Looks) -> bool {
-        matches!(
-            (self, looks),
-            (Due::Table, Looks::Table | Looks::Text)
-                | (Due::Book, Looks::Book)
-                | (Due::Games, Looks::Games | Looks::Text)
-        )
+fn tell_file<E: Display>(messages: Messages<'_>, due: Due, name: &str, why: &E) {
+    match (due, looks_of_file(messages.rt, name)) {
+        (_, None)
+        | (Due::Table, Some(Looks::Table | Looks::Text))
+        | (Due::Book, Some(Looks::Book))
+        | (Due::Games, Some(Looks::Games | Looks::Text)) => {
+            messages.tell(&format_args!("{name}: {why}"));
+        }
+        (_, Some(looks)) => messages.tell(&format_args!("{name}: {why}; it {looks}")),
     }
 }
 
