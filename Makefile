@@ -205,7 +205,7 @@ bench: build $(EXAMPLES)
 	@sh bench/export.sh
 
 # Running worked_examples proves and builds it, and ends for want of rows.
-$(EXAMPLES): $(SOURCES) $(wildcard crates/rows/src/*.rt crates/worked_examples/src/*.rt)
+$(EXAMPLES): $(SOURCES) $(wildcard crates/rows/src/*.rt crates/topics/src/*.rt crates/worked_examples/src/*.rt)
 	@$(WANTS_TOOLCHAIN)
 	@mkdir -p build
 	@rm -f $@

@@ -52,7 +52,7 @@ answers() {
 if [ -n "${ROWS:-}" ]; then
     check "rows of $ROWS" answers "$ROWS"
 else
-    for topic in record epd moves table book stream file game points ledger words command; do
+    for topic in record epd moves table book stream game points ledger words command; do
         check "$topic" answers "^[^$tab]*$tab$topic$tab" "$slow"
     done
 fi

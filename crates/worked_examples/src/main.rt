@@ -17,15 +17,6 @@
 //! manual page, which lie there in `installed`. `make bench` has rows of its own for `bench`.
 #![tactic(auto)]
 
-mod bench;
-mod collecting;
-mod command;
-mod ends;
-mod files;
-mod game;
-mod journals;
-mod ledger;
-mod points;
 mod words;
 
 use pb_program::run;
@@ -37,25 +28,12 @@ use std::io::{self, BufRead, BufReader};
 
 fn answer(rt: &HostRuntime, page: &mut Page, topic: &str, call: &[&str]) -> Done {
     match topic {
-        "record" => rows::record::answer(page, call),
-        "moves" => rows::moves::answer(page, call),
-        "epd" => rows::epd::answer(page, call),
-        "file" => journals::answer(rt, page, call),
-        "table" => rows::table::answer(page, call),
-        "book" => rows::book::answer(page, call),
-        "stream" => rows::stream::answer(page, call),
-        "game" => game::answer(page, call),
-        "ledger" => ledger::answer(page, call),
-        "points" => points::answer(page, call),
-        "files" => files::answer(rt, page, call),
-        "command" => command::answer(page, call),
         "words" => words::answer(rt, page, call),
-        "bench" => bench::answer(rt, page, call),
         "run" => {
             page.put_count("status ", &run(rt, call));
             Ok(())
         }
-        _ => NO_ROW,
+        _ => topics::answer(rt, page, topic, call),
     }
 }
 

@@ -1,13 +1,19 @@
-//! The commands and options of the program's help, beside those in a text that tells them to a
-//! shell or to a reader.
+//! The words of the command line: the order that they give, and the commands and options of the
+//! program's help, beside those in a text that tells them to a shell or to a reader.
 
 use pb_cli::{ParseFault, parse};
+use pb_program::FILLS;
 use rows::page::{Done, NO_ROW, Page, Trouble};
 use std::alloc::{AllocError, Global};
 use std::fs;
 
 pub(crate) fn answer(rt: &HostRuntime, page: &mut Page, call: &[&str]) -> Done {
     match call {
+        ["parse", words @ ..] => tell_parsed(page, words),
+        ["fills"] => {
+            page.put_display(&FILLS);
+            Ok(())
+        }
         ["text", text] => tell_found(page, text),
         ["file", path] => match fs::read_to_string(rt, *path) {
             Ok(text) => tell_found(page, text.as_str()),
@@ -15,6 +21,16 @@ pub(crate) fn answer(rt: &HostRuntime, page: &mut Page, call: &[&str]) -> Done {
         },
         _ => NO_ROW,
     }
+}
+
+/// The order that a command line gives, or whether its text is shown instead.
+fn tell_parsed(page: &mut Page, words: &[&str]) -> Done {
+    match parse(page.alloc, words) {
+        Ok(order) => page.put_debug(&order),
+        Err(ParseFault::Usage(_text)) => page.put("usage"),
+        Err(ParseFault::Memory) => page.put("memory"),
+    }
+    Ok(())
 }
 
 /// The commands and the options of the help, each with whether the text has it, and the options

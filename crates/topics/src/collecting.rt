@@ -7,12 +7,13 @@
 use crate::command::tell_next;
 use crate::ends::{Output, fills_in, is_told, rules_in};
 use crate::game::stream_of;
-use mem_files::MemStore;
-use pb_cli::{
-    Continued, Ends, Fault, JournalEnds, LedgerEnds, Made, NoBook, StoreError, Watcher,
+use crate::mem_store::MemStore;
+use pb_collecting::{
+    Accepted, Continued, Ends, JournalEnds, LedgerEnds, Made, NoBook, Refusal, StoreError, Watcher,
     collect_into, continue_into, journal_into, run_collect, run_continue,
 };
-use pb_ledger::{Accepted, Refusal, save};
+use pb_commands::Fault;
+use pb_ledger::save;
 use pb_poly::{Book, FromRead, MemSink, ToWrite, read_book};
 use rows::book;
 use rows::ends::{NamedSource, source_in};
@@ -91,7 +92,7 @@ fn run(page: &mut Page, name: &str, word: &str, ends: &mut RowEnds, first: Named
             tell_continued(page, answer)?;
         }
         "collect-into" => {
-            let mut book = MemStore::new(alloc);
+            let mut book = MemStore::of(alloc, word, "book");
             let answer = collect_into(alloc, rules, ends, &mut book, fills);
             tell_kept(page, word, &answer, &book);
         }
@@ -124,10 +125,10 @@ fn tell_continued(page: &mut Page, answer: Result<Option<Continued>, Fault>) -> 
 fn continue_from(page: &mut Page, word: &str, ends: &mut RowEnds, saved: NamedSource) -> Done {
     let alloc = page.alloc;
     let (rules, fills) = (rules_in(word)?, fills_in(word));
-    let mut book = MemStore::new(alloc);
+    let mut book = MemStore::of(alloc, word, "book");
     let mut ledger = LedgerEnds {
         saved,
-        store: MemStore::new(alloc),
+        store: MemStore::of(alloc, word, "ledger"),
     };
     let answer = continue_into(alloc, rules, ends, &mut ledger, &mut book, fills);
     tell_kept(page, word, &answer, &book);
@@ -145,7 +146,7 @@ fn journal(page: &mut Page, call: [&str; 2], ends: &mut RowEnds, kept: NamedSour
     let [name, word] = call;
     let alloc = page.alloc;
     let (rules, fills) = (rules_in(word)?, fills_in(word));
-    let mut book = MemStore::new(alloc);
+    let mut book = MemStore::of(alloc, word, "book");
     let mut gained = Output::of(alloc, word, "journal");
     let mut journal = JournalEnds {
         kept,
@@ -201,7 +202,7 @@ fn tell_as_run(page: &mut Page, answer: &Result<Made, NoBook>, book: &MemStore) 
     tell_book(page, &answer);
 }
 
-pub(crate) fn is_book(made: &Made) -> bool {
+fn is_book(made: &Made) -> bool {
     matches!(made, Made::Book(_))
 }
 

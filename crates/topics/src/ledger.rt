@@ -10,7 +10,7 @@ use crate::ends::{Output, fills_in, rules_in};
 use crate::game::{lines_of, stream_of};
 use pb_ledger::{
     CollectFault, Ledger, ListTally, MAX_CAP, MapTally, Tally, Totals, collect, export, load,
-    load_whole, replay, save,
+    replay, save,
 };
 use pb_poly::{MemSink, Sink, ToWrite};
 use rows::book::tell;
@@ -66,7 +66,7 @@ fn answer_by<T: Tally>(page: &mut Page, name: &str, ends: &str, lines: &[&str]) 
             load_new::<T>(page, ends, stream.as_bytes())?;
             Ok(())
         }
-        "load-whole" | "replay" => read_back::<T>(page, name, ends, lines),
+        "replay" => replayed::<T>(page, ends, lines),
         _ => NO_ROW,
     }
 }
@@ -232,18 +232,13 @@ fn load_new<T: Tally>(page: &mut Page, ends: &str, bytes: &[u8]) -> Result<Ledge
     Ok(ledger)
 }
 
-/// The same where a saved ledger that was cut short is refused; or of the replay of a journal, with
-/// what that has gained.
-fn read_back<T: Tally>(page: &mut Page, name: &str, ends: &str, lines: &[&str]) -> Done {
+/// The answer to the replay of a journal into a new ledger, how many games are held, and what the
+/// journal has gained.
+fn replayed<T: Tally>(page: &mut Page, ends: &str, lines: &[&str]) -> Done {
     let (alloc, fills) = (page.alloc, fills_in(ends));
     let stream = stream_of(alloc, lines)?;
     let mut ledger = new_ledger::<T>(alloc, ends)?;
     let mut source = source_in(ends, "input", "memory:64", stream.as_bytes());
-    if name == "load-whole" {
-        page.put_debug(&load_whole(alloc, &mut source, &mut ledger, fills));
-        page.put_count(", held: ", &ledger.len());
-        return Ok(());
-    }
     let mut journal = Output::of(alloc, ends, "journal");
     let mut sink = ToWrite::new(&mut journal);
     let answer = replay(alloc, &mut source, &mut sink, &mut ledger, &mut (), fills);

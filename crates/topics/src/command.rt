@@ -1,17 +1,13 @@
-//! The command line, and each command over the ends that a word of the row names, such as
-//! `input=reader:5 output=room:9`. With `put=hidden` what was put isn't told, and with `next=told`
-//! the next three bytes of the input are.
+//! Each command over the ends that a word of the row names, such as `input=reader:5 output=room:9`.
+//! With `put=hidden` what was put isn't told, and with `next=told` the next three bytes of the input
+//! are.
 
 use crate::collecting::{self, Passed};
 use crate::ends::{Output, fills_in, is_told, rules_in};
 use crate::game::stream_of;
-use pb_cli::{
-    Fault, ParseFault, parse, run_check, run_epd, run_export, run_fen, run_lookup, run_probe,
-    run_show, status,
-};
-use pb_collecting::{collect_bytes, pick_games};
+use pb_collecting::{collect_bytes, pick_games, run_check, run_export};
+use pb_commands::{Fault, run_epd, run_fen, run_lookup, run_probe, run_show, status};
 use pb_poly::{FromRead, Source, ToWrite};
-use pb_program::FILLS;
 use rows::book::{self, file_of};
 use rows::ends::{NamedSource, end_of, source_in};
 use rows::page::{Done, NO_ROW, Page};
@@ -25,10 +21,8 @@ const FAULTS: [Fault; 4] = [Fault::Read, Fault::Write, Fault::Endless, Fault::Me
 
 pub(crate) fn answer(page: &mut Page, call: &[&str]) -> Done {
     match call {
-        ["parse", words @ ..] => tell_parsed(page, words),
         ["status"] => statuses(page),
         ["faults"] => faults(page),
-        ["fills"] => page.put_display(&FILLS),
         ["epd-streams", text] => epd_streams(page, text),
         ["collect-bytes", ends, table, lines @ ..] => {
             return tell_collected(page, ends, table, lines);
@@ -64,15 +58,6 @@ pub(crate) fn tell_next(page: &mut Page, ends: &str, source: &mut NamedSource<'_
         let filled = source.fill(&mut next);
         let _ = write!(page, "\n{filled:?} ");
         page.put_bytes(next.as_slice());
-    }
-}
-
-/// The order that a command line gives, or whether its text is shown instead.
-fn tell_parsed(page: &mut Page, words: &[&str]) {
-    match parse(page.alloc, words) {
-        Ok(order) => page.put_debug(&order),
-        Err(ParseFault::Usage(_text)) => page.put("usage"),
-        Err(ParseFault::Memory) => page.put("memory"),
     }
 }
 
