@@ -74,7 +74,7 @@ theorem:
 	@python3 -B scripts/theorem.py
 
 # Builds the program once without proof, with a check in the place of each, and tries it in a few
-# minutes. Nothing is proved.
+# minutes. Nothing is proved. PATIENCE=seconds has a check wait so long, which is 300 else.
 check:
 	@$(WANTS_TOOLCHAIN)
 	@sh scripts/check.sh

@@ -76,13 +76,15 @@ work_on() {
 
 # run NAME: does this, and tells how it ended
 run() {
-    begin=$(date +%s)
+    begin=$(date +%s) status=0
     work_on "$1" > "$logs/$1.log" 2>&1 9>&- &
     running=$!
-    if wait "$running"; then word=ok; else word=FAILED; fi
+    wait "$running" || status=$?
     running=
     took=$(($(date +%s) - begin))
-    if [ "$word" = FAILED ]; then
+    if [ "$status" -ne 0 ]; then
+        # 124 is of timeout, which has ended it.
+        [ "$status" -ne 124 ] || echo "ended after $limit seconds" >> "$logs/$1.log"
         echo "FAILED: $1, $took s"
         return 1
     fi
