@@ -13,8 +13,9 @@
 //!
 //! The topic `run` runs the program `pbook` over the words that follow. What it prints comes after
 //! the row's name in a line of its own. Standard input has its submissions, and the folder of the
-//! run what it reads. The topic `words` compares the program's help with the completions and the
-//! manual page, which lie there in `installed`. `make bench` has rows of its own for `bench`.
+//! run what it reads. The topic `words` has command lines, and compares the program's help with the
+//! completions and the manual page, which lie there in `installed`. `topics` answers all others.
+//! `make bench` has rows of its own for `bench`.
 #![tactic(auto)]
 
 mod words;
