@@ -1,27 +1,26 @@
 #!/bin/sh
 # Tries what `pbook collect` leaves of BOOK, and of the FILE of an option, in a hostile world:
-# devices, links, folders, missing permissions, full disks, a killed run. As root it tries more,
-# on file systems that it mounts, and where strace is installed it has calls of the system fail.
-# It also tries that options say what counts, and what `pbook games` takes of torn journals.
-# The first check that doesn't hold ends it.
-# Usage: PROGRAM=program KILLS=number GAMES=number tests/files.sh [CHECK..] (at the top of the
-# repository; all checks where none is given). A run that is killed goes over 4000 games, or as many
-# as GAMES says, for slow programs. KILLS runs that make BOOK are killed, and three fifths as many
-# that make FILE too; 100 and 60 where it isn't given.
+# devices, links, folders, missing permissions, full disks, files that are no journal, calls of the
+# system that fail, runs that are killed at each call. As root it tries more, on file systems that
+# it mounts. It also tries that options say what counts, and what `pbook games` takes of torn
+# journals. The first check that doesn't hold ends it.
+# Usage: PROGRAM=program tests/files.sh [CHECK..] (at the top of the repository; all checks where
+# none is given).
 set -eu
 PROGRAM=${PROGRAM:-build/pbook}
-kills=${KILLS:-100}
-games=${GAMES:-4000}
 . tests/lib/harness.sh
 . tests/lib/places.sh
+. tests/lib/collector.sh
 cp tests/data/few.bin tests/data/few.epd "$work"
 start='rnbqkbnr/pppppppp/8/8/8/8/PPPPPPPP/RNBQKBNR w KQkq - 0 1'
 grep "^${start% 0 1} " examples/export.epd > "$work/first.epd"
+head -n 9 "$work/games" > "$work/nine"
+sed -n 10,14p "$work/games" > "$work/few"
 
-# Distinct games: kings that walk round between random rows of pawns. As many are made as are
-# asked for.
-long_games() {
-    awk -v games="$1" 'BEGIN {
+# Games of two kings that walk round a pawn of each, whose book has more than 64 kilobytes.
+awk '
+    function row(file, piece) { return (file ? file : "") piece (file < 7 ? 7 - file : "") }
+    BEGIN {
         white = split("e1 d1 c1 b1 a1 a2 b2 c2 d2 e2 f2 g2 h2 h1 g1 f1", w, " ")
         black = split("e8 d8 c8 b8 a8 a7 b7 c7 d7 e7 f7 g7 g8 f8", b, " ")
         for (ply = 0; ply < 112; ply++) {
@@ -29,20 +28,11 @@ long_games() {
             moves = moves b[ply % black + 1] b[(ply + 1) % black + 1] " "
         }
         sub(/ $/, "", moves)
-        for (i = 0; i < 256; i++) {
-            row = ""
-            empty = 0
-            for (bit = 1; bit < 256; bit *= 2) {
-                if (int(i / bit) % 2) { row = row (empty ? empty : "") "p"; empty = 0 } else empty++
-            }
-            rows[i] = row (empty ? empty : "")
-        }
-        for (n = 0; n < games; n++) {
-            setup = sprintf("4k3/8/%s/8/8/%s/8/4K3", rows[n % 256], toupper(rows[int(n / 256)]))
+        for (n = 0; n < 24; n++) {
+            setup = sprintf("4k3/8/%s/8/8/%s/8/4K3", row(n % 8, "p"), row(int(n / 8), "P"))
             printf "long-%d\t1/2-1/2\t%s w - - 0 1\t%s\n", n, setup, moves
         }
-    }'
-}
+    }' > "$work/long"
 
 # makes BOOK [FILE]: a run makes the new book of BOOK, which is this file, and leaves no draft
 makes() {
@@ -51,18 +41,22 @@ makes() {
     holds no_draft
 }
 
-# cannot_open BOOK [INPUT [OPTION..]]: a run ends since a file can't be opened
-cannot_open() {
-    holds collects 3 "$@"
-    holds says 'fault open'
+# with_ledger: a new folder has an old BOOK and the FILE of a run over the first games, a copy of
+# which is `first`
+with_ledger() {
+    with_old
+    : > "$ledger"
+    holds collects 0 "$work/nine.bin" "$work/nine" --ledger "$ledger"
+    cp "$ledger" first
 }
 
 new_book() {
     makes "$book"
     holds has_mode 644 "$book"
+    makes book.bin
+    # The longest name that has room for its draft's.
+    makes "$(printf '%0248d' 0)"
 }
-
-here() { makes book.bin; }
 
 old_book() {
     with_old
@@ -79,12 +73,11 @@ full_device() {
     holds test -c /dev/full
 }
 
-null_device() {
+# The reader of a pipe gets all. One that leaves it before the book is written, which doesn't fit
+# into it, ends the run, which has no end of it to read.
+streams() {
     holds collects 0 /dev/null
     holds test -c /dev/null
-}
-
-pipe() {
     mkfifo pipe
     timeout "$patience" cat pipe > piped &
     runner="timeout $patience"
@@ -92,164 +85,145 @@ pipe() {
     wait
     holds is_new piped
     holds test -p pipe
-}
-
-# The reader of a pipe leaves it, before the book is written that doesn't fit into it. The run has
-# no end of it to read.
-closed_pipe() {
-    mkfifo pipe
-    long_games 40 > lines
     (: < pipe) &
-    runner="timeout $patience"
-    holds collects 3 "$place/pipe" lines
+    holds collects 3 "$place/pipe" "$work/long"
     holds tells "$place/pipe: broken pipe"
     wait
 }
 
+# A file gets the book only, and a pipe the replies before it.
 standard_output() {
-    "$PROGRAM" collect "$table" /dev/stdout < "$work/games" > output 2> errors
-    holds is_new output
-    holds test ! -s errors
-    # So it is by each other link, which stays one, and leads to the file that was opened.
     ln -s /dev/stdout link
-    for name in /dev/fd/1 /proc/self/fd/1 link; do
-        : > output
-        before=$(node output)
-        "$PROGRAM" collect "$table" "$name" < "$work/games" >> output 2> errors
-        holds has_node "$before" output
+    for name in /dev/stdout /dev/fd/1 link; do
+        "$PROGRAM" collect "$table" "$name" < "$work/games" > output 2> errors
         holds is_new output
         holds test ! -s errors
     done
     holds test -L link
+    "$PROGRAM" collect "$table" /dev/stdout < "$work/games" 2> errors | cat > piped
+    holds collects 0 "$book"
+    cat "$work/replies" "$book" > due
+    holds cmp piped due
+    holds test ! -s errors
 }
 
 # A link stays one. The file that it leads to is replaced, by a draft beside it.
-symlink() {
+links() {
+    with_ledger
     mkdir far
-    cp "$work/old" far/real
-    chmod 640 far/real
-    before=$(node far/real)
-    ln -s real far/second
-    ln -s far/second link
-    makes link far/real
-    holds not has_node "$before" far/real
-    holds has_mode 640 far/real
-    holds test "$(readlink link) $(readlink far/second)" = 'far/second real'
+    for file in book.bin games.ledger; do
+        cp "$file" "far/real.$file"
+        chmod 640 "far/real.$file"
+        ln -s "real.$file" "far/second.$file"
+        ln -s "far/second.$file" "link.$file"
+        before=$(node "far/real.$file")
+        option=
+        [ "$file" = book.bin ] || option='--ledger link.games.ledger'
+        # shellcheck disable=SC2086 # each word is one
+        holds collects 0 link.book.bin "$work/games" $option
+        holds not has_node "$before" "far/real.$file"
+        holds has_mode 640 "far/real.$file"
+        holds test "$(readlink "link.$file") $(readlink "far/second.$file")" = \
+            "far/second.$file real.$file"
+    done
+    holds is_new far/real.book.bin
+    holds collects 0 "$book" "$work/games" --ledger "$ledger"
+    holds cmp far/real.games.ledger "$ledger"
+    holds no_draft
 }
 
-dangling_symlink() {
-    mkdir far
-    ln -s far/real link
-    makes "$place/link" far/real
-    holds test -L link
+# A second name keeps the old file, such as that of a backup.
+second_names() {
+    with_ledger
+    ln "$book" book.backup
+    ln "$ledger" ledger.backup
+    holds collects 0 "$book" "$work/games" --ledger "$ledger"
+    holds is_new "$book"
+    holds is_old book.backup
+    holds cmp ledger.backup first
+    holds not cmp -s "$ledger" first
+    holds no_draft
 }
 
-# In place, by a link too.
-linked_hard_link() {
-    mkdir far
-    cp "$work/old" far/real
-    ln far/real far/other
-    ln -s far/real link
-    makes link far/other
-    holds has_node "$(node far/other)" far/real
-    holds test -L link
+# is_line_told: whether a whole line is on standard error
+is_line_told() { [ "$(wc -l < told)" -gt 0 ]; }
+
+# cannot_make BOOK [OPTION..]: a run tells in one line, before it has a submission, that this BOOK
+# can't be made, answers what it is sent, and ends with `fault open`
+cannot_make() {
+    to=$1
+    shift
+    # shellcheck disable=SC2086 # a runner may be more than a word
+    begin $runner "$PROGRAM" collect "$@" "$table" "$to"
+    holds awaits is_line_told
+    cp told "$work/errors"
+    holds tells_name "$to"
+    holds say 1 "ok $(id_of 1) 1"
+    holds end 3
+    holds test "$(cat rest)" = 'fault open'
+    cp told "$work/errors"
+    holds is_told 3
 }
 
-hard_link() {
-    with_old
-    ln "$book" other
-    makes "$book" other
-    holds has_node "$(node other)" "$book"
-}
-
-folder() {
+# Whatever keeps BOOK from being made is told before a line is read.
+unmakable() {
     mkdir folder
-    holds stops_unread "$place/folder" "$place/folder"
-    holds no_draft
-}
-
-# That the folder isn't there is told before the submissions are read too, unless -q is given.
-missing_folder() {
-    cannot_open "$place/missing/book.bin" "$work/games" -q
-    holds not test -e missing
-}
-
-no_name() {
-    for name in '' "$place/nothing/" "$place/nothing/."; do cannot_open "$name"; done
-    holds not test -e nothing
-    holds no_draft
-}
-
-long_name() {
-    makes "$place/$(printf '%0255d' 0)"
-}
-
-no_permission() {
+    ln -s loop loop
+    for name in folder missing/book.bin '' nothing/ nothing/. folder/ loop \
+        "$(printf '%0249d' 0)" "$(printf '%0256d' 0)"; do
+        cannot_make "$name"
+    done
+    holds not test -e missing -o -e nothing
+    cannot_make missing/book.bin -q
+    : > kept
+    cannot_make missing/book.bin --journal kept
+    holds test "$(cat kept)" = "$(games_of 1)"
+    : > kept
+    cannot_make missing/book.bin --ledger kept
+    holds test "$(wc -l < kept)" -eq 2
+    # What has the draft's name is none: a run that took the pipe for one would wait for its reader.
     with_old
-    chmod 444 "$book"
-    chmod 777 "$place"
-    runner=as_other
-    holds stops_unread "$book" "$book"
-    holds is_old "$book"
+    cp "$work/old" precious
+    for how in 'ln -s precious' mkfifo mkdir; do
+        $how .book.bin.pbook
+        cannot_make book.bin
+        holds is_old precious
+        holds is_old book.bin
+        rm -r .book.bin.pbook
+    done
     holds no_draft
 }
 
-# A BOOK that its user may write and not read is made anew all the same.
-unreadable_book() {
+unmakable_by_other() {
+    mkdir far
+    cp "$work/old" far/book.bin
+    cp "$work/old" book.bin
+    ln -s book.bin link
+    chmod 444 book.bin
+    ! is_root || chmod 666 far/book.bin
+    chmod 777 "$place"
+    chmod 555 far
+    runner=as_other
+    for name in book.bin link far/book.bin far/new.bin; do cannot_make "$name"; done
+    holds is_old book.bin
+    holds is_old far/book.bin
+    chmod 755 far
+}
+
+# A BOOK that its user may write and not read is made anew all the same, and so is one in a folder
+# that may be written and not read.
+unreadable() {
     with_old
     ! is_root || chown 65534:65534 "$book"
     chmod 200 "$book"
-    chmod 777 "$place"
-    before=$(node "$book")
-    runner=as_other
-    holds collects 0 "$book"
-    holds has_mode 200 "$book"
-    holds not has_node "$before" "$book"
-    chmod 644 "$book"
-    holds is_new "$book"
-    holds no_draft
-}
-
-folder_without_drafts() {
-    with_old
-    chmod 666 "$book"
-    chmod 555 "$place"
-    before=$(node "$book")
-    runner=as_other
-    makes "$book"
-    holds has_node "$before" "$book"
-    chmod 755 "$place"
-}
-
-# A folder that may be written and not read can't be synced, and takes a draft all the same.
-unread_folder() {
     chmod 333 "$place"
     runner=as_other
     holds collects 0 "$book"
     chmod 755 "$place"
+    holds has_mode 200 "$book"
+    chmod 644 "$book"
     holds is_new "$book"
     holds no_draft
-}
-
-other_owner() {
-    with_old
-    chmod 666 "$book"
-    chmod 777 "$place"
-    before=$(node "$book")
-    runner=as_other
-    makes "$book"
-    holds has_node "$before" "$book"
-}
-
-other_group() {
-    with_old
-    chown 65534:0 "$book"
-    chmod 777 "$place"
-    before=$(node "$book")
-    runner=as_other
-    makes "$book"
-    holds has_node "$before" "$book"
-    holds test "$(stat -c %g "$book")" -eq 0
 }
 
 # with_umask MASK COMMAND..: runs the command, whose new files lack these permissions
@@ -266,14 +240,6 @@ own_umask() {
     rm "$book"
     holds with_umask 077 collects 0 "$book"
     holds has_mode 600 "$book"
-}
-
-all_names_taken() {
-    with_old
-    for number in $(seq 0 99); do mkdir ".book.bin.pbook-$number"; done
-    cannot_open "$book"
-    holds tells "$book is in use by another run"
-    holds is_old "$book"
 }
 
 # Where no book comes of a run, no draft of one is left.
@@ -300,377 +266,198 @@ limit() {
 }
 
 full_disk() {
+    with_ledger
     mkdir disk
-    mount -t tmpfs -o size=16k tmpfs "$place/disk"
+    mount -t tmpfs -o size=40k tmpfs "$place/disk"
     cp "$work/old" disk/book.bin
-    long_games 20 > lines
-    holds collects 3 "$place/disk/book.bin" lines
+    cp first disk/games.ledger
+    holds collects 3 "$place/disk/book.bin" "$work/long"
+    holds collects 3 "$place/disk/book.bin" "$work/games" --ledger "$place/disk/games.ledger"
     holds not says 'fault open'
     holds is_old disk/book.bin
+    holds cmp disk/games.ledger first
     holds no_draft
-}
-
-full_of_names() {
-    mkdir disk
+    # There is no room for a draft's name.
+    umount disk
     mount -t tmpfs -o nr_inodes=2 tmpfs "$place/disk"
     cp "$work/old" disk/book.bin
-    cannot_open "$place/disk/book.bin"
+    cannot_make disk/book.bin
     holds is_old disk/book.bin
 }
 
-mount_point() {
-    with_old
-    cp "$work/old" "$work/mounted.bin"
-    mount --bind "$work/mounted.bin" "$book"
-    makes "$book" "$work/mounted.bin"
+# A file system that is mounted over a name is told at the start. One file over another of the same
+# file system is met by the rename.
+mount_points() {
+    with_ledger
+    mkdir disk
+    mount -t tmpfs tmpfs "$place/disk"
+    cp first disk/kept
+    cp "$work/old" disk/book
+    mount --bind disk/kept "$ledger"
+    mount --bind disk/book "$book"
+    cannot_make "$book"
+    holds is_old "$book"
+    holds stops_unread "$ledger" "$place/new.bin" --ledger "$ledger"
+    umount "$ledger" "$book"
+    cp "$work/old" far.bin
+    mount --bind far.bin "$book"
+    holds collects 3 "$book"
+    holds stays_drafted "$book" "$work/old" "$work/new"
 }
 
-# where CALL STATUS CONDITION: a run over an old BOOK ends with this status where the system's
-# call fails so, and this holds of BOOK
+# stays_drafted FILE OLD NEW: whether the run that has just ended has left the old FILE and the new
+# one as its draft, whose name it has told
+stays_drafted() {
+    draft=${1%/*}/.${1##*/}.pbook
+    tells_name "$1" && grep -qF "$draft" "$work/errors" && cmp "$1" "$2" && cmp "$draft" "$3"
+}
+
+# Where the new file can't get the name, the draft stays until the next run.
+unrenamed() {
+    with_old
+    failing "$place/.book.bin.pbook" rename EBUSY
+    holds collects 3 "$book"
+    holds stays_drafted "$book" "$work/old" "$work/new"
+    runner=
+    makes "$book"
+    with_ledger
+    cp first whole
+    holds collects 0 "$work/made" "$work/games" --ledger "$place/whole"
+    failing "$place/.games.ledger.pbook" rename EIO
+    holds collects 3 "$book" "$work/games" --ledger "$ledger"
+    holds stays_drafted "$ledger" first whole
+    holds is_old "$book"
+    runner=
+    holds collects 0 "$book" "$work/games" --ledger "$ledger"
+    holds cmp "$ledger" whole
+    holds no_draft
+}
+
+# where STATUS CONDITION PATH CALLS ERROR: a run over an old BOOK ends with this status where these
+# calls fail so over what has this path, and this holds of BOOK; none is written in place
 where() {
     with_old
-    runner="strace -f -o /dev/null -e trace=${1%%:*} -e inject=$1"
-    holds collects "$2" "$book"
-    holds "$3" "$book"
-    holds no_draft
-}
-
-device_faults() {
-    # The draft's bytes can't be written to the disk, or it can't be given BOOK's name.
-    where fsync:error=EIO:when=1 3 is_old
-    where rename:error=EIO 3 is_old
-    # The folder's names can't be written to the disk.
-    where fsync:error=EIO:when=2 3 is_new
-    # The file system syncs no folders; BOOK's name is held by a mount; the file system has no
-    # locks.
-    where fsync:error=EINVAL:when=2 0 is_new
-    where rename:error=EBUSY 0 is_new
-    where flock:error=ENOLCK 0 is_new
-    # A signal interrupts the lock of BOOK, which is tried again.
-    where flock:error=EINTR:when=2 0 is_new
-}
-
-# unremoved ERROR STATUS [OPTION..]: no draft can be removed, which fails so. A run that has none to
-# rename ends with this status.
-unremoved() {
-    error=$1 due=$2 status=0
-    shift 2
-    with_old
-    strace -f -o /dev/null -e trace=unlink,rename -e "inject=unlink:error=$error" \
-        -e inject=rename:error=EIO "$PROGRAM" collect "$@" "$table" "$book" \
-        < "$work/games" > "$work/replies" 2> told || status=$?
-    holds test "$status" -eq "$due"
-    holds is_old "$book"
-}
-
-# That a draft of this run stays is told, also of the one by which FILE is tried, but not where it
-# is gone, of a draft of another run, or with -q.
-draft_stays() {
-    fault="pbook: $book: input/output error; the old book is unchanged"
-    stays="pbook: $place/.book.bin.pbook-%s can't be removed: operation not permitted\n"
-    unremoved EPERM 3
-    # shellcheck disable=SC2059 # the format is the text
-    { echo "$fault" && printf "$stays" 0; } > due
-    holds cmp told due
-    unremoved EPERM 3
-    # shellcheck disable=SC2059
-    { echo "$fault" && printf "$stays" 1; } > due
-    holds cmp told due
-    unremoved EPERM 3 -q
-    echo "$fault" > due
-    holds cmp told due
-    rm .book.bin.pbook-*
-    unremoved ENOENT 3
-    holds cmp told due
-    : > kept
-    unremoved EPERM 3 --ledger "$place/kept"
-    holds grep -qx "pbook: $place/.kept.pbook-0 can't be removed: operation not permitted" told
-}
-
-# interrupted_at NUMBER WORD..: whether a run whose write of this number a signal interrupts makes
-# the new book, and answers all
-interrupted_at() {
-    runner="strace -f -o calls -e trace=write -e inject=write:error=EINTR:when=$1"
-    shift
-    with_old
-    : > kept
-    collects 0 "$book" "$work/games" "$@" && is_new "$book" && no_draft &&
-        [ "$(wc -l < "$work/replies")" -eq "$(wc -l < "$work/games")" ]
-}
-
-# A write that a signal interrupts has written nothing, and is made again: of replies, of a draft, of
-# lines of a journal.
-interrupted() {
-    at=1
-    while
-        holds interrupted_at "$at"
-        grep -q EINTR calls
-    do
-        at=$((at + 1))
-    done
-    note "$((at - 1)) writes were interrupted"
-    holds test "$at" -gt 2
-    for at in 1 2 300 301; do
-        holds interrupted_at "$at" --journal kept
-        holds grep -q EINTR calls
-        holds test "$(wc -l < kept)" -eq 300
-    done
-}
-
-# BOOK is opened at first and can't be at the end, where the system has no room for one more open
-# file. That is a fault, and nothing is written in place.
-full_of_files() {
-    with_old
-    runner="strace -f -o /dev/null -P $book -e trace=openat -e inject=openat:error=ENFILE:when=2"
-    holds collects 3 "$book"
-    holds is_old "$book"
-    holds no_draft
-}
-
-# A draft that can't get the old file's permissions is a fault, and nothing is written in place.
-unset_mode() {
-    with_ledger
+    chmod 640 "$book"
+    failing "$3" "$4" "$5"
     before=$(node "$book")
-    where fchmod:error=EIO 3 is_old
-    holds has_node "$before" "$book"
-    runner="strace -f -o /dev/null -e trace=fchmod -e inject=fchmod:error=EIO"
-    before=$(node "$ledger")
-    holds collects 3 "$book" "$work/games" --ledger "$ledger"
-    holds cmp "$ledger" before
-    holds has_node "$before" "$ledger"
-    holds is_old "$book"
+    holds collects "$1" "$book"
+    holds "$2" "$book"
     holds no_draft
+    [ "$2" = is_new ] || holds has_node "$before" "$book"
 }
 
-# unopened ERROR: the folder `far` can't be opened, which fails so
-unopened() {
-    runner="strace -f -o /dev/null -P $place/far -e trace=openat -e inject=openat:error=$1"
-}
-
-# unsettled STATUS: a run ends with this status where the folder of BOOK, FILE or a synced journal
-# can't be opened. A fault is told, and what could be made is made.
-unsettled() {
-    cp "$work/old" far/book.bin
-    holds collects "$1" "$place/far/book.bin"
-    holds is_new far/book.bin
-    [ "$1" -eq 0 ] || holds may_be_undone far/book.bin
-    cp before far/kept
-    holds collects "$1" "$book" "$work/games" --ledger "$place/far/kept"
-    holds cmp far/kept after
-    [ "$1" -eq 0 ] || holds may_be_undone far/kept
-    cp "$work/first" far/journal
-    holds collects "$1" "$book" "$work/games" --journal "$place/far/journal" --sync
-    [ "$1" -eq 0 ] || holds unanswered far/journal
-    # Nobody wants this folder synced.
-    holds collects 0 "$book" "$work/games" --journal "$place/far/journal"
-}
-
-# may_be_undone FILE: whether it is told that a crash may undo this file
-may_be_undone() {
-    grep -q "^pbook: $place/$1: .*; the new one is there, and a crash may undo it$" "$work/errors"
-}
-
-# unanswered FILE: whether a run was ended by this file, which is as before, and answered nothing
-unanswered() {
-    tells_name "$place/$1" && not grep -q '^ok ' "$work/replies" && cmp "$1" "$work/first"
-}
-
-# A folder whose sync can't be tried has to be one that may not be read.
-unopened_folder() {
+failed_calls() {
+    for call in ftruncate fchmod write fsync,fdatasync; do
+        where 3 is_old "$place/.book.bin.pbook" "$call" EIO
+    done
+    # The folder's names can't be put on the disk. It has to be one that may not be read, or that
+    # knows no such sync, where that can't be tried.
+    where 3 is_new "$place" fsync EIO
+    where 0 is_new "$place" fsync EINVAL
+    for error in EIO EMFILE; do where 3 is_new "$place" openat "$error"; done
+    for error in EACCES EPERM; do where 0 is_new "$place" openat "$error"; done
+    # So it is of FILE's folder and a synced journal's.
     with_ledger
     mkdir far
-    cp before after
-    holds collects 0 "$book" "$work/games" --ledger after
-    for error in EIO ENOMEM EMFILE ENFILE; do
-        unopened "$error"
-        unsettled 3
-    done
-    for error in EACCES EPERM; do
-        unopened "$error"
-        unsettled 0
-    done
+    mv games.ledger far/kept
+    failing "$place/far" openat EIO
+    holds collects 3 "$book" "$work/few" --ledger "$place/far/kept"
+    holds not cmp -s far/kept first
+    holds is_old "$book"
+    cp "$work/nine" far/kept
+    holds collects 3 "$book" "$work/few" --journal "$place/far/kept" --sync
+    holds not grep -q '^ok ' "$work/replies"
+    holds cmp far/kept "$work/nine"
 }
 
-draft_left() {
-    with_old
-    cp "$work/old" .book.bin.pbook-0
-    makes "$book"
-}
-
-draft_in_use() {
-    with_old
-    cp "$work/old" .book.bin.pbook-0
-    exec 9>> .book.bin.pbook-0
-    flock -x 9
+# A write of replies that a signal interrupts has written nothing, and is made again.
+interrupted() {
+    runner='strace -f -o calls -e trace=write -e inject=write:error=EINTR:when=1..6'
     holds collects 0 "$book"
+    holds grep -q EINTR calls
     holds is_new "$book"
-    holds is_old .book.bin.pbook-0
-    holds test "$(find "$place" -name '.*.pbook-*')" = "$place/.book.bin.pbook-0"
+    holds test "$(wc -l < "$work/replies")" -eq "$(wc -l < "$work/games")"
 }
 
-# A run that took the pipe for a draft would wait for another end of it.
-draft_is_a_link() {
-    with_old
-    runner="timeout $patience"
-    cp "$work/old" precious
-    ln -s precious .book.bin.pbook-0
-    mkfifo .book.bin.pbook-1
-    holds collects 0 "$book"
-    holds is_new "$book"
-    holds is_old precious
-    holds test -L .book.bin.pbook-0
-    holds test -p .book.bin.pbook-1
-}
-
-# A file that has a draft's name and another one besides is none: no run that was killed has left it.
-draft_has_another_name() {
-    with_old
-    cp "$work/old" precious
-    ln precious .book.bin.pbook-0
-    holds collects 0 "$book"
-    holds is_new "$book"
-    holds test precious -ef .book.bin.pbook-0
-}
-
-# Where the replies can't be written, a torn last line isn't taken for a game.
-torn_at_full_output() {
-    : > "$journal"
-    head -n 1 "$work/games" > lines
-    cp lines due
-    # Its moves but for the last one are a game too.
-    sed -n '2s/ [^ ]*$//p' "$work/games" | tr -d '\n' >> lines
-    status=0
-    "$PROGRAM" collect --journal "$journal" "$table" "$book" \
-        < lines > /dev/full 2> told || status=$?
-    holds test "$status" -eq 3
-    holds test "$(cat told)" = 'pbook: standard output: no space left on device'
-    holds cmp "$journal" due
-    holds not test -e "$book"
-}
-
-# What keeps nothing is no journal.
-special_journal() {
-    with_old
-    mkfifo pipe
-    mkdir folder
-    ln -s /dev/null link
-    runner="timeout $patience"
-    for name in /dev/null link /dev/zero /dev/full pipe folder; do
-        for option in '' --sync -q; do
-            # shellcheck disable=SC2086 # no option is no word
-            holds stops_unread "$name" "$book" --journal "$name" $option
-            holds is_old "$book"
+# A BOOK that holds games stays, whichever option was forgotten or exchanged.
+games_stay() {
+    with_ledger
+    head -n 1 first > header
+    cp "$work/nine" list
+    : > kept
+    ln -s list link
+    for name in games.ledger header list link; do
+        for option in '' -q '--ledger kept' '--journal kept'; do
+            # shellcheck disable=SC2086 # each word is one
+            holds stops_unread "$name" "$name" $option
+            holds tells "$name holds games, and stays"
         done
     done
-    holds test -p pipe
 }
 
-side_by_side() {
-    with_old
-    for _ in 1 2 3 4 5 6 7 8 9 10; do
-        for _ in 1 2 3 4 5; do
-            "$PROGRAM" collect "$table" "$book" < "$work/games" > /dev/null 2>> told &
-        done
-        wait
-        holds test ! -s told
-        holds is_new "$book"
-        holds no_draft
-    done
-}
-
-# moments COUNT SEED: so many random numbers about 1000
-moments() {
-    awk -v count="$1" -v seed="$2" \
-        'BEGIN { srand(seed); for (i = 0; i < count; i++) print int(800 + 400 * rand()) }'
-}
-
-# whole_run BOOK OPTION..: makes BOOK of the lines in $work/lines, and sets `about` to the
-# microseconds that it takes
-whole_run() {
-    begin=$(date +%s%N)
-    whole=$1
+# killed_at NUMBER COMMAND..: runs the command, which is killed as it makes the call of this number,
+# of those that open, lock and change files; whether it was
+killed_at() {
+    changing='/^(openat|flock|p?writev?(64)?|ftruncate|fchmod|f(data)?sync|rename|(un)?link)(at2?)?$'
+    number=$1 status=0
     shift
-    holds collects 0 "$whole" "$work/lines" "$@"
-    about=$((($(date +%s%N) - begin) / 1000))
-}
-
-# killed_run THOUSANDTHS OPTION..: such a run that makes $book, and is killed, unless it has
-# ended, when so many thousandths of $about have gone. It sets `moment` to the microseconds.
-killed_run() {
-    moment=$((about * $1 / 1000)) status=0
-    shift
-    timeout --foreground -s KILL "$(printf '%d.%06d' $((moment / 1000000)) $((moment % 1000000)))" \
-        "$PROGRAM" collect "$@" "$table" "$book" < "$work/lines" > /dev/null 2> "$work/told" ||
-        status=$?
-    holds test ! -s "$work/told"
+    strace -f -o /dev/null -e "trace=$changing" -e "inject=$changing:signal=SIGKILL:when=$number" \
+        "$@" < "$work/few" > "$work/replies" 2> "$work/errors" || status=$?
     case $status in
-        0 | 124) ;; # It has ended before the kill, or just as it came.
-        *) holds test "$status" -eq 137 ;;
+        0) return 1 ;;
+        137) ;;
+        *) cat "$work/errors" && exit 1 ;;
     esac
 }
 
-# saw WORD: writes down what a killed run left; the moments get later after a kill that left the
-# old file, and earlier after one that came too late, in longer steps where fewer runs are killed
-saw() {
-    echo "$1" >> "$work/seen"
-    step=$((about / (1 + kills * 2 / 5)))
-    if [ "$1" = old ]; then about=$((about + step)); else about=$((about - step)); fi
+# old_or_new: whether a killed run has left the old FILE and BOOK or new ones, and BOOK is new only
+# where FILE is. A journal is a front of the new one, and has all games that were answered.
+old_or_new() {
+    case $option in
+        *--journal*)
+            answered=$(($(wc -l < "$work/nine") + $(count '^ok ' "$work/replies")))
+            [ "$(wc -l < far/kept)" -ge "$answered" ] || return 1
+            head -c "$(wc -c < far/kept)" kept.new | cmp far/kept - || return 1
+            ;;
+        *) cmp -s far/kept kept.new || { cmp far/kept kept.old && is_old far/book; } || return 1 ;;
+    esac
+    is_old far/book || cmp far/book book.new
 }
 
-# seen WORD: how often that was so
-seen() { count "$1" "$work/seen"; }
-
-# is_enough COUNT: whether so many runs were killed, and some left the old file and some the new one
-is_enough() {
-    [ "$(seen 'old|new')" -ge "$1" ] && [ "$(seen old)" -gt 0 ] && [ "$(seen new)" -gt 0 ]
-}
-
-# odd_size FILE WHOLE: ends the check at a file that is neither the old one nor the whole new one
-odd_size() {
-    echo "    killed after $moment us: ${1##*/} has $(stat -c %s "$1") bytes"
-    echo "    the new one has $(stat -c %s "$2")"
-    exit 1
-}
-
-# Runs are killed, and each leaves the old BOOK or the new one. The moments are random, about the
-# one at which BOOK gets to be the new one. Where that was guessed wrong more runs are killed, ten
-# times as many at most, until both were left.
+# A run whose FILE and BOOK are links is killed at each call. The next one takes its drafts over.
 killed() {
-    long_games "$games" > "$work/lines"
-    : > "$work/seen"
-    whole_run "$work/whole"
-    moments $((kills * 10)) 1 > "$work/moments"
-    while read -r thousandths; do
-        if is_enough "$kills"; then break; fi
-        with_old
-        killed_run "$thousandths"
-        if is_old "$book"; then
-            saw old
-        elif cmp -s "$book" "$work/whole"; then
-            saw new
-        else
-            odd_size "$book" "$work/whole"
-        fi
-        no_draft || echo draft >> "$work/seen"
-        holds test "$(find "$place" | wc -l)" -le 3
-    done < "$work/moments"
-    note "$(seen old) times the old BOOK, $(seen new) times the new one; $(seen draft) left a draft"
-    holds grep -q old "$work/seen"
-    holds grep -q new "$work/seen"
-    whole_run "$book"
-    holds cmp "$book" "$work/whole"
-    holds no_draft
-}
-
-# A new folder has an old BOOK and the FILE of a run over the first games, a copy of which is
-# `before`.
-with_ledger() {
-    with_old
-    : > "$ledger"
-    head -n 100 "$work/games" > "$work/first"
-    holds collects 0 "$work/first.bin" "$work/first" --ledger "$ledger"
-    holds test -s "$ledger"
-    cp "$ledger" before
+    ln -s far/kept kept
+    ln -s far/book book
+    mkdir far
+    for option in '' '--ledger kept' '--journal kept' '--journal kept --sync'; do
+        cp "$work/nine" kept.old
+        cp kept.old far/kept
+        cp "$work/old" far/book
+        # shellcheck disable=SC2086 # each word is one
+        set -- $option
+        holds collects 0 book "$work/few" "$@"
+        mv far/kept kept.new
+        mv far/book book.new
+        at=1
+        while
+            cp kept.old far/kept
+            cp "$work/old" far/book
+            killed_at "$at" "$PROGRAM" collect "$@" "$table" book
+        do
+            holds old_or_new
+            cmp -s far/book book.new || was_old=true
+            holds collects 0 book "$work/few" "$@"
+            holds cmp far/kept kept.new
+            holds cmp far/book book.new
+            holds test -L kept -a -L book
+            holds no_draft
+            at=$((at + 1))
+        done
+        runs=$((${runs-0} + at - 1))
+        holds test "$was_old" = true
+        was_old=
+    done
+    note "$runs runs"
 }
 
 # A run that is cut in three leaves the replies, the book and the games of one run, and FILE keeps
@@ -694,42 +481,25 @@ cut_in_three() {
 }
 
 # An input of an earlier run is taken as it is, where no line of it was refused, and games come
-# again in it.
+# again in it. It may have no LF at its end.
 old_list() {
     with_ledger
-    sed 1d before > list
+    sed 1d first > list
     cat list list > "$ledger"
     holds collects 0 "$place/list.bin" /dev/null --ledger "$ledger"
-    holds cmp "$ledger" before
-}
-
-# BOOK, FILE and TABLE are different files, by whatever names they go.
-one_file() {
-    with_ledger
-    cp "$table" table
-    ln games.ledger second
-    ln -s games.ledger link
-    for name in games.ledger ../one_file/games.ledger second link; do
-        cannot_open "$place/$name" "$work/games" --ledger "$ledger"
-        holds collects 3 "$ledger" "$work/games" --journal "$place/$name"
-        holds says_only 'fault open'
-    done
-    table=$place/table
-    holds collects 3 "$place/table"
-    holds says_only 'fault open'
-    holds cmp table "$work/table"
-    holds collects 0 /dev/null "$work/games" --ledger /dev/null
-    holds cmp "$ledger" before
-    holds no_draft
+    holds cmp "$ledger" first
+    head -c -1 list > "$ledger"
+    holds collects 0 "$place/list.bin" /dev/null --ledger "$ledger"
+    holds cmp "$ledger" first
 }
 
 broken_ledger() {
     with_ledger
     sed -i '5s/.*/no game/' "$ledger"
-    cp "$ledger" before
+    cp "$ledger" first
     holds collects 1 "$book" "$work/games" --ledger "$ledger"
     holds says_only 'refused ledger line 5'
-    holds cmp "$ledger" before
+    holds cmp "$ledger" first
     holds is_old "$book"
     holds no_draft
 }
@@ -755,13 +525,9 @@ rules() {
 # torn_journal NAME FIRST LAST: the journal of a collector that took these lines of the games. It
 # was killed twice as it wrote a line, and the first of the two was sealed by a later run.
 torn_journal() {
-    sed -n "$2,$3p" "$work/games" > "$1.lines"
-    : > "$1.journal"
-    holds collects 0 "$place/$1.bin" "$1.lines" --journal "$place/$1.journal"
-    for _ in 1 2; do
-        holds collects 0 "$place/$1.bin" /dev/null --journal "$place/$1.journal"
-        printf '%s-torn\t1-0\t%s\ta2a3' "$1" "$start" >> "$1.journal"
-    done
+    sed -n "$2,$3p" "$work/games" > "$1.journal"
+    printf '%s-torn\t1-0\t%s\ta2a3\t\t\t\t\n%s-torn\t1-0\t%s\ta2a3' \
+        "$1" "$start" "$1" "$start" >> "$1.journal"
     cp "$1.journal" "$1.before"
 }
 
@@ -770,12 +536,12 @@ torn_journal() {
 two_journals() {
     torn_journal one 1 150
     torn_journal two 151 322
-    status=0
-    "$PROGRAM" games one.journal two.journal > lines 2> told || status=$?
-    holds test "$status" -eq 0
-    holds test "$(wc -l < told)" -eq 2
+    "$PROGRAM" games one.journal two.journal > lines 2> told
+    # Two lines of the games were refused, and are in no journal; these tell of them.
+    grep -v "can't be taken" told > cut
+    holds test "$(wc -l < cut)" -eq 2
     for part in one two; do
-        holds grep -q "^pbook: $part.journal: its last line has no end" told
+        holds grep -q "^pbook: $part.journal: its last line has no end" cut
         holds cmp "$part.journal" "$part.before"
     done
     holds collects 0 "$book" lines
@@ -785,276 +551,178 @@ two_journals() {
 
 # A journal that a run holds can be read all the same.
 live_journal() {
-    head -n 9 "$work/games" > "$journal"
+    cp "$work/nine" "$journal"
     exec 9>> "$journal"
     flock -x 9
     holds ran 0 "$PROGRAM" games "$journal"
     holds cmp "$work/replies" "$journal"
 }
 
+# Where the replies can't be written, a torn last line isn't taken for a game.
+torn_at_full_output() {
+    : > "$journal"
+    head -n 1 "$work/games" > lines
+    cp lines due
+    # Its moves but for the last one are a game too.
+    sed -n '2s/ [^ ]*$//p' "$work/games" | tr -d '\n' >> lines
+    status=0
+    "$PROGRAM" collect --journal "$journal" "$table" "$book" \
+        < lines > /dev/full 2> told || status=$?
+    holds test "$status" -eq 3
+    holds test "$(cat told)" = 'pbook: standard output: no space left on device'
+    holds cmp "$journal" due
+    holds not test -e "$book"
+}
+
 # A saved ledger that doesn't end in LF was cut short. Its last line may spell a shorter game.
 cut_ledger() {
     with_ledger
-    whole=$(wc -c < before)
-    move=$(tail -n 1 before | grep -o ' [^ ]*$' | wc -c)
-    for gone in 1 2 3 "$move"; do
-        head -c $((whole - gone)) before > "$ledger"
-        is_cut $(($(wc -l < before)))
+    whole=$(wc -c < first)
+    move=$(tail -n 1 first | grep -o ' [^ ]*$' | wc -c)
+    for gone in 1 2 "$move" $((whole - 14)); do
+        head -c $((whole - gone)) first > "$ledger"
+        cp "$ledger" found
+        holds ends 1 "$PROGRAM" collect --ledger "$ledger" "$table" "$book" \
+            < "$work/games" > "$work/replies" 2> "$work/errors"
+        holds says_only "refused ledger line $(awk 'END { print NR }' found)"
+        holds grep -q "^pbook: $ledger: .*cut" "$work/errors"
+        holds cmp "$ledger" found
+        holds is_old "$book"
+        holds no_draft
     done
-    printf 'pbook-ledger 1' > "$ledger"
-    is_cut 1
-    # What is no saved ledger may end so.
-    sed 1d before | head -c -1 > "$ledger"
-    holds collects 0 "$place/list.bin" /dev/null --ledger "$ledger"
-    holds cmp "$ledger" before
 }
 
-# continued: a run over FILE, which may tell more than one line
-continued() {
-    "$PROGRAM" collect --ledger "$ledger" "$table" "$book" \
-        < "$work/games" > "$work/replies" 2> "$work/errors"
-}
-
-# is_cut LINE: FILE is refused since this line of it has no end, and nothing is read or changed
-is_cut() {
-    cp "$ledger" found
-    holds ends 1 continued
-    holds says_only "refused ledger line $1"
-    holds grep -q "^pbook: $ledger: .*cut" "$work/errors"
-    holds cmp "$ledger" found
-    holds is_old "$book"
-    holds no_draft
-}
-
-missing_ledger() {
+# What can't be FILE ends the run before a submission is read: what keeps nothing, what isn't there
+# (`/dev/fd/9` leads to a file that has lost its name), and a ledger that takes no draft.
+special_files() {
     with_old
-    cannot_open "$book" "$work/games" --ledger "$ledger"
-    holds not test -e "$ledger"
-    holds is_old "$book"
-}
-
-closed_ledger() {
-    with_ledger
-    chmod 000 "$ledger"
-    runner=as_other
-    holds collects 3 "$book" "$work/games" --ledger "$ledger"
-    holds says_only 'fault open'
-    holds is_old "$book"
-}
-
-# A link to FILE stays one. The file that it leads to is replaced, by a draft beside it.
-linked_ledger() {
-    with_ledger
-    mkdir far
-    cp before far/real
-    chmod 640 far/real
-    ln -s real far/second
-    ln -s far/second link
-    before=$(node far/real)
-    holds collects 0 "$book" "$work/games" --ledger link
-    holds not has_node "$before" far/real
-    holds has_mode 640 far/real
-    holds test "$(readlink link) $(readlink far/second)" = 'far/second real'
-    holds collects 0 "$book" "$work/games" --ledger "$ledger"
-    holds cmp far/real "$ledger"
-    holds no_draft
+    mkfifo pipe
+    mkdir folder
+    ln -s /dev/null link
     ln -s nothing dangling
-    cannot_open "$book" "$work/games" --ledger dangling
-    holds not test -e nothing
+    exec 9<> gone
+    rm gone
+    runner="timeout $patience"
+    for name in /dev/null link /dev/zero /dev/full pipe folder missing dangling /dev/fd/9; do
+        for option in --ledger --journal '--sync --journal' '-q --journal'; do
+            # shellcheck disable=SC2086 # each word is one
+            holds stops_unread "$name" "$book" $option "$name"
+        done
+    done
+    exec 9>&-
+    long=$(printf '%0249d' 0)
+    : > "$long"
+    holds stops_unread "$long" "$book" --ledger "$long"
+    holds collects 0 "$book" "$work/games" --journal "$long"
 }
 
-# stays NAME: no draft can replace the FILE of this name, so a run ends before it reads a
-# submission, and FILE stays
-stays() {
-    before=$(node "$1")
-    holds stops_unread "$1" "$book" --ledger "$1"
-    holds has_node "$before" "$1"
-    holds cmp "$1" before
-    holds is_old "$book"
-    holds no_draft
-}
-
-ledger_of_two_names() {
-    with_ledger
-    ln games.ledger other
-    ln -s other link
-    for name in games.ledger "$place/other" link; do stays "$name"; done
-}
-
-ledger_of_long_name() {
-    with_ledger
-    name=$(printf '%0255d' 0)
-    cp before "$name"
-    stays "$name"
-    ln -s "$name" link
-    stays link
-    name=$(printf '%0246d' 0)
-    cp before "$name"
-    holds collects 0 "$book" "$work/games" --ledger "$name"
-    holds not cmp -s before "$name"
-}
-
-ledger_without_drafts() {
-    with_ledger
-    chmod 666 "$ledger"
-    chmod 555 "$place"
-    runner=as_other
-    stays games.ledger
-    chmod 755 "$place"
-}
-
-ledger_of_another() {
+unwritable_files() {
     with_ledger
     chmod 777 "$place"
     runner=as_other
-    for owner in 0:65534 65534:0; do
-        chown "$owner" "$ledger"
-        chmod 666 "$ledger"
-        stays games.ledger
-        holds test "$(stat -c %u:%g "$ledger")" = "$owner"
+    for mode in 000 444; do
+        chmod "$mode" "$ledger"
+        for option in --ledger --journal; do
+            holds stops_unread "$ledger" "$place/new.bin" "$option" "$ledger"
+        done
     done
-}
-
-# A mount can't be renamed over. One of the same file system is met when the games are answered.
-mounted_ledger() {
-    with_ledger
-    mkdir disk
-    mount -t tmpfs tmpfs "$place/disk"
-    cp before disk/kept
-    mount --bind "$place/disk/kept" "$ledger"
-    stays games.ledger
-    holds cmp disk/kept before
-    umount "$ledger"
-    cp before far
-    mount --bind "$place/far" "$ledger"
-    holds collects 3 "$book" "$work/games" --ledger games.ledger
-    holds tells_name games.ledger
-    holds cmp far before
-    holds is_old "$book"
-    holds no_draft
+    chmod 666 "$ledger"
+    chmod 555 "$place"
+    holds stops_unread "$ledger" /dev/null --ledger "$ledger"
+    chmod 755 "$place"
 }
 
 # The ledger is kept though the book can't be.
 ledger_without_book() {
     with_ledger
     holds collects 3 /dev/full "$work/games" --ledger "$ledger"
-    holds test "$(wc -l < "$ledger")" -gt "$(wc -l < before)"
+    holds test "$(wc -l < "$ledger")" -gt "$(wc -l < first)"
 }
 
-full_disk_of_ledger() {
-    with_ledger
-    mkdir disk
-    mount -t tmpfs -o size=48k tmpfs "$place/disk"
-    cp "$work/old" disk/book.bin
-    cp before disk/games.ledger
-    holds collects 3 "$place/disk/book.bin" "$work/games" --ledger "$place/disk/games.ledger"
-    holds not says 'fault open'
-    holds cmp disk/games.ledger before
-    holds is_old disk/book.bin
-    holds no_draft
-}
-
-# Runs that go on are killed likewise: FILE is the old or the new one, and so is BOOK, which is new
-# only where FILE is.
-killed_while_saving() {
-    with_ledger
-    long_games "$games" > "$work/lines"
-    : > "$work/seen"
-    cp before after
-    whole_run "$work/made" --ledger "$place/after"
-    moments $((kills * 6)) 2 > "$work/moments"
-    while read -r thousandths; do
-        if is_enough $((kills * 3 / 5)); then break; fi
-        cp before "$ledger"
-        with_old
-        killed_run "$thousandths" --ledger "$ledger"
-        if cmp -s "$ledger" before; then
-            saw old
-            holds is_old "$book"
-        elif cmp -s "$ledger" after; then
-            saw new
-            is_old "$book" || holds cmp "$book" "$work/made"
-        else
-            odd_size "$ledger" after
-        fi
-    done < "$work/moments"
-    note "$(seen old) times the old FILE, $(seen new) times the new one"
-    holds grep -q old "$work/seen"
-    holds grep -q new "$work/seen"
-    whole_run "$book" --ledger "$ledger"
-    holds cmp "$ledger" after
-    holds cmp "$book" "$work/made"
-    holds no_draft
-}
-
-# killed_at NUMBER COMMAND..: runs the command, which is killed as it makes the call of this number,
-# of those that change files; whether it was
-killed_at() {
-    changing='/^(p?write|ftruncate|fchmod|f(data)?sync|rename|unlink)'
-    number=$1 status=0
-    shift
-    strace -f -o /dev/null -e "trace=$changing" -e "inject=$changing:signal=SIGKILL:when=$number" \
-        "$@" < "$work/games" > "$work/replies" 2> "$work/errors" || status=$?
-    case $status in
-        0) return 1 ;;
-        137) ;;
-        *) cat "$work/errors" && exit 1 ;;
-    esac
-}
-
-# A run whose FILE and BOOK are links is killed at each call: what they lead to is whole, and BOOK
-# is new only where FILE is.
-killed_behind_links() {
-    with_ledger
-    mkdir far
-    ln -s far/kept link
-    ln -s far/book.bin book
-    cp before far/kept
-    holds collects 0 made "$work/games" --ledger link
-    cp far/kept after
-    at=1
-    : > "$work/seen"
-    while
-        cp before far/kept
-        cp "$work/old" far/book.bin
-        killed_at "$at" "$PROGRAM" collect --ledger link "$table" book
-    do
-        if cmp -s far/kept after; then
-            echo new >> "$work/seen"
-            is_old far/book.bin || holds cmp far/book.bin made
-        else
-            echo old >> "$work/seen"
-            holds cmp far/kept before
-            holds is_old far/book.bin
-        fi
-        holds test -L link -a -L book
-        at=$((at + 1))
+# A file that looks like no journal stays as it is.
+no_journal() {
+    with_old
+    cp "$work/new" book
+    printf '[Event "one game"]\n[Result "1-0"]\n' > pgn
+    printf 'two\tTABs\talone\n' > two
+    printf 'a\tline\twith\tfour\tTABs\n' > four
+    printf '\001torn' > control
+    printf '\033\n' > escape
+    printf '\n' > empty_line
+    head -c 8193 /dev/zero | tr '\0' 'a' > long
+    gzip -c < "$work/games" > packed
+    ending='1 refused journal line 1'
+    for name in book "$table" pgn two four control escape empty_line long packed; do
+        for option in '' --sync; do
+            # shellcheck disable=SC2086 # no option is no word
+            holds stops_unread "$name" "$book" --journal "$name" $option
+        done
     done
-    note "killed at $((at - 1)) calls, $(count new "$work/seen") times with the new FILE"
-    holds grep -q old "$work/seen"
-    holds grep -q new "$work/seen"
-    holds cmp far/kept after
-    holds cmp far/book.bin made
-    holds no_draft
+}
+
+# begins_with FORMAT: a file of this text is a journal, also once more
+begins_with() {
+    # shellcheck disable=SC2059 # the format is the text
+    printf "$1" > kept
+    cp kept begun
+    for option in '' --sync; do
+        status=0
+        # shellcheck disable=SC2086 # no option is no word
+        "$PROGRAM" collect --journal kept $option "$table" "$book" < "$work/games" > replies 2> told ||
+            status=$?
+        holds test "$status" -eq 0
+        holds test "$(grep -c '^ok ' replies)" -eq 320
+        head -c "$(wc -c < begun)" kept > front
+        holds cmp front begun
+    done
+}
+
+# A first line that a kill or a power cut tore, or that was sealed, is a journal's, and so is a
+# line of three TABs. What is sealed now is told.
+first_lines() {
+    for text in '' 'pbook-ledger 1\n' '\t\t\t\n' 'no\tgame\t\there\n' 'torn\t\t\t\t\n'; do
+        begins_with "$text"
+    done
+    for text in t 'pbook-led' '\000\000\000' 'torn\t1-0\r' "$(head -c 8192 /dev/zero | tr '\0' a)"; do
+        begins_with "$text"
+        # shellcheck disable=SC2059 # the format is the text
+        printf "$text" > kept
+        holds ran_told 0 "$PROGRAM" collect --journal kept "$table" "$book"
+        holds tells_name kept
+    done
+    { head -c 30 /dev/zero && cat "$work/nine"; } > kept
+    holds ends 0 "$PROGRAM" collect -q --journal kept "$table" "$book" < /dev/null
+}
+
+# ran_told STATUS COMMAND..: whether the command ends so over the games, and tells one line
+ran_told() {
+    due=$1 status=0
+    shift
+    "$@" < "$work/few" > "$work/replies" 2> "$work/errors" || status=$?
+    [ "$status" -eq "$due" ] && [ "$(wc -l < "$work/errors")" -eq 1 ]
+}
+
+# A disk whose errors come at the sync alone is told of, and no such run ends well.
+unsynced_journal() {
+    for error in EIO ENOSPC; do
+        : > "$journal"
+        failing "$journal" fsync,fdatasync "$error"
+        holds collects 3 "$book" "$work/games" --journal "$journal"
+        holds tells_name "$journal"
+        holds not says 'fault open'
+    done
 }
 
 if [ $# -eq 0 ]; then
-    choose true '' new_book here old_book full_device null_device pipe closed_pipe \
-        standard_output symlink dangling_symlink hard_link linked_hard_link folder \
-        missing_folder no_name long_name own_umask all_names_taken no_book_made limit draft_left draft_is_a_link \
-        draft_has_another_name special_journal side_by_side cut_in_three old_list one_file \
-        broken_ledger cut_ledger missing_ledger linked_ledger ledger_of_two_names \
-        ledger_of_long_name ledger_without_book rules two_journals
-    choose 'test -c /dev/full' '/dev/full is wanted' torn_at_full_output
-    choose 'has flock' 'flock is wanted' draft_in_use live_journal
-    choose can_trace 'strace is wanted' device_faults draft_stays full_of_files unset_mode \
-        unopened_folder interrupted killed_behind_links
-    choose can_be_other 'setpriv is wanted' no_permission unreadable_book \
-        folder_without_drafts unread_folder closed_ledger ledger_without_drafts
-    choose can_own 'root and setpriv are wanted' other_owner other_group ledger_of_another
-    choose can_mount 'nothing can be mounted' full_disk full_of_names mount_point \
-        full_disk_of_ledger mounted_ledger
-    choose true '' killed killed_while_saving
+    choose true '' new_book old_book streams standard_output links second_names unmakable \
+        own_umask no_book_made limit games_stay cut_in_three old_list broken_ledger cut_ledger \
+        special_files ledger_without_book first_lines rules two_journals
+    choose 'test -c /dev/full' '/dev/full is wanted' full_device torn_at_full_output
+    choose 'has flock' 'flock is wanted' live_journal
+    choose 'has gzip' 'gzip is wanted' no_journal
+    choose can_trace 'strace is wanted' failed_calls unrenamed interrupted unsynced_journal killed
+    choose can_be_other 'setpriv is wanted' unmakable_by_other unreadable unwritable_files
+    choose can_mount 'nothing can be mounted' full_disk mount_points
     # shellcheck disable=SC2086 # each name is a word
     set -- $chosen
 fi

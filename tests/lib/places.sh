@@ -58,23 +58,35 @@ collects() {
     ran "$wanted" "$PROGRAM" collect "$@" "$table" "$to" < "$input"
 }
 
-# stops_unread NAME BOOK [OPTION..]: whether `collect` ends with `fault open` before it reads a
-# submission, and tells of the file of this name
+# all_files: the names, numbers, modes and bytes of all files of the check
+all_files() {
+    find "$place" -printf '%p %i %y %m %l\n' | sort
+    find "$place" -type f -exec cksum {} + | sort -k 3
+}
+
+# stops_unread NAME BOOK [OPTION..]: whether `collect` ends with the status and the one line of
+# $ending before it reads a submission, tells of the file of this name, and changes no file
+ending='3 fault open'
 stops_unread() {
     blamed=$1 to=$2
     shift 2
+    all_files > "$work/before"
     {
-        ran 3 "$PROGRAM" collect "$@" "$table" "$to" || return 1
+        ran "${ending%% *}" "$PROGRAM" collect "$@" "$table" "$to" || return 1
         # What was read is gone from here.
         cat > "$work/unread"
     } < "$work/games"
-    if says_only 'fault open' && cmp -s "$work/unread" "$work/games" && tells_name "$blamed"; then
-        return
-    fi
-    echo "    this is put, and $(wc -c < "$work/unread") bytes of the submissions are left:"
+    all_files > "$work/after"
+    if says_only "${ending#* }" && cmp -s "$work/unread" "$work/games" && tells_name "$blamed" &&
+        cmp -s "$work/before" "$work/after"; then return; fi
+    echo "    this is put, $(wc -c < "$work/unread") bytes of the submissions are left, and changed:"
     head -n 3 "$work/replies" "$work/errors"
+    diff "$work/before" "$work/after"
     return 1
 }
+
+# failing PATH CALLS ERROR: runs fail so in these calls of the system over this file
+failing() { runner="strace -f -o /dev/null -P $1 -e trace=$2 -e inject=$2:error=$3"; }
 
 # with_old: BOOK is an old one before the run
 with_old() { cp "$work/old" "$book"; }
@@ -90,7 +102,7 @@ tells_name() { grep -q "^pbook: $1:\{0,1\} ." "$work/errors"; }
 node() { stat -L -c %i "$1"; }
 has_node() { [ "$(node "$2")" = "$1" ]; }
 has_mode() { [ "$(stat -c %a "$2")" = "$1" ]; }
-no_draft() { [ -z "$(find "$place" -name '.*.pbook-*')" ]; }
+no_draft() { [ -z "$(find "$place" -name '.*.pbook')" ]; }
 
 # can_mount: whether file systems can be mounted
 can_mount() {
