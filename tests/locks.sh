@@ -1,34 +1,34 @@
 #!/bin/sh
-# Tries that two runs don't spoil each other's files, and one run doesn't spoil its own: a journal
-# and the FILE of `--ledger` are held, as drafts are; no file of a run is taken for a draft that
-# was left; standard input and output are open, and are no file that the run keeps; no game is
-# answered by a journal that another program has changed, and no changed FILE is replaced. The first
-# check that doesn't hold ends it.
+# Tries that two runs don't spoil each other's files, and one run doesn't spoil its own: a FILE, and
+# what makes a BOOK, are held from a run's start on, and what a killed run left isn't; the files of
+# a run, its drafts, standard input and output are different ones. Other programs change the files of
+# a run meanwhile: no game is answered by a journal that one has changed, and what one has put into
+# the FILE of `--ledger` is kept. The first check that doesn't hold ends it.
 # Usage: PROGRAM=program tests/locks.sh [CHECK..] (at the top of the repository; all checks where
 # none is given).
 set -eu
 PROGRAM=${PROGRAM:-build/pbook}
-source=$PWD
 . tests/lib/harness.sh
 . tests/lib/places.sh
 . tests/lib/collector.sh
 
-# is_refused CAUSE OPTION..: whether a second run with these options makes nothing, and tells this
-# cause, before it reads a submission
-is_refused() {
-    cause=$1
+# is_in_use NAME OPTION..: whether a second run with these options reads and changes nothing, since
+# another run has the file of this name
+is_in_use() {
+    name=$1
     shift
-    collects 3 "$place/second.bin" "$work/games" "$@" || return 1
-    says_only 'fault open' && tells "$cause" && [ ! -e second.bin ]
+    stops_unread "$name" "$place/second.bin" "$@" && tells "$name: it is in use by another run"
 }
+
+# whole_ledger GAMES: the FILE of a run that took these games
+whole_ledger() { echo 'pbook-ledger 1' && games_of "$1"; }
 
 held_journal() {
     : > games.journal
     begin "$PROGRAM" collect --journal games.journal "$table" "$book"
     holds say 1 "ok $(id_of 1) 1"
-    holds is_refused 'games.journal is in use by another run' --journal games.journal
     ln -s games.journal link
-    holds is_refused 'link is in use by another run' --journal link
+    for name in games.journal link; do holds is_in_use "$name" --journal "$name"; done
     holds say 2 "ok $(id_of 2) 2"
     holds end 0
     games_of 1,2 > whole
@@ -42,13 +42,13 @@ held_ledger() {
     : > games.ledger
     begin "$PROGRAM" collect --ledger games.ledger "$table" "$book"
     holds say 1 "ok $(id_of 1) 1"
-    holds is_refused 'games.ledger is in use by another run' --ledger games.ledger
-    holds is_refused 'games.ledger is in use by another run' --journal games.ledger
     ln -s games.ledger link
-    holds is_refused 'link is in use by another run' --ledger link
+    for name in games.ledger link; do
+        for option in --ledger --journal; do holds is_in_use "$name" "$option" "$name"; done
+    done
     holds say 2 "ok $(id_of 2) 2"
     holds end 0
-    { echo 'pbook-ledger 1' && games_of 1,2; } > whole
+    whole_ledger 1,2 > whole
     holds cmp whole games.ledger
     holds collects 0 "$book" "$work/games" --ledger games.ledger
     holds is_new "$book"
@@ -66,144 +66,117 @@ held_new_ledger() {
     holds say 1 "ok $(id_of 1) 1"
     exec 3>&-
     holds awaits is_made "$before"
-    holds is_refused 'games.ledger is in use by another run' --ledger games.ledger
+    holds is_in_use games.ledger --ledger games.ledger
     timeout "$patience" cat book.bin > piped &
     holds end 0
     wait
     holds test -s piped
-    { echo 'pbook-ledger 1' && games_of 1; } > whole
-    holds cmp whole games.ledger
-    holds collects 0 "$place/other.bin" "$work/games" --ledger games.ledger
-}
-
-# A run that has opened FILE, and is held there, finds another file by that name once it has locked
-# the one that it has opened: it goes on with the other one.
-new_ledger_under_way() {
-    games_of 1 > games
-    : > games.ledger
-    holds collects 0 "$book" "$place/games" --ledger games.ledger
-    cp games.ledger later
-    games_of 2 >> later
-    games_of 3 > games
-    holds begin_held openat "-P $ledger" "$PROGRAM" collect --ledger "$ledger" "$table" "$book"
-    mv later games.ledger
-    holds go_on 0
-    holds test "$(cat replies)" = "ok $(id_of 3) 3"
-    { echo 'pbook-ledger 1' && games_of 1,3; } > whole
+    whole_ledger 1 > whole
     holds cmp whole games.ledger
 }
 
-# The first run is held once its draft is on the disk, before that takes BOOK's name; the second one
-# leaves the draft alone.
-two_drafts() {
-    with_old
-    cp "$work/games" games
-    holds begin_held fsync '' "$PROGRAM" collect "$table" book.bin
-    holds test -s .book.bin.pbook-0
-    holds ran 0 traced calls "$PROGRAM" collect "$table" book.bin < "$work/games"
-    holds is_new "$book"
-    holds test -e .book.bin.pbook-0
-    holds in_order calls '^(open \S+ new|rename|unlink)' << END
-open .book.bin.pbook-1 new 0600
-rename .book.bin.pbook-1 to book.bin
-END
-    holds go_on 0
-    holds test ! -s told
-    holds is_new "$book"
-    holds no_draft
-}
-
-# A draft that no run holds is cleared away, and one that is held by a lock of either kind isn't.
-left_draft() {
-    with_old
-    cp "$work/old" .book.bin.pbook-0
+# One run at a time makes a BOOK, by whatever name. The other one is told at its start, and answers
+# its games; a third one makes BOOK anew.
+one_book() {
+    ln -s book.bin link
+    for state in new old; do
+        begin "$PROGRAM" collect "$table" book.bin
+        holds say 1 "ok $(id_of 1) 1"
+        # A link that leads to no file is none of its names.
+        for name in book.bin "$place/book.bin" link; do
+            [ "$name $state" != 'link new' ] || continue
+            holds collects 3 "$name"
+            holds says 'fault open'
+            holds tells "$name: it is in use by another run"
+            holds test "$(wc -l < "$work/replies")" -eq $(($(wc -l < "$work/games") + 1))
+        done
+        holds say 2 "ok $(id_of 2) 2"
+        holds end 0
+        games_of 1,2 | "$PROGRAM" collect "$table" "$state.bin" > /dev/null
+        holds cmp book.bin "$state.bin"
+        holds no_draft
+    done
     holds collects 0 "$book"
     holds is_new "$book"
-    holds no_draft
-}
-
-# A draft that was left may have gone by the time that it is locked, and another have its name.
-left_draft_replaced() {
-    with_old
-    cp "$work/games" games
-    cp "$work/old" .book.bin.pbook-0
-    cp "$table" another
-    draft=$place/.book.bin.pbook-0
-    holds begin_held openat "-P $draft" "$PROGRAM" collect "$table" "$book"
-    mv another "$draft"
-    holds go_on 0
-    holds is_new "$book"
-    holds cmp "$draft" "$table"
-}
-
-held_draft() {
-    for kind in -s -x; do
-        with_old
-        cp "$work/old" .book.bin.pbook-0
-        exec 9<> .book.bin.pbook-0
-        flock "$kind" 9
-        holds collects 0 "$book"
+    # No two that begin at once spoil it.
+    for _ in 1 2 3 4 5 6; do
+        for _ in 1 2 3 4; do
+            "$PROGRAM" collect "$table" "$book" < "$work/games" > /dev/null 2>> told &
+        done
+        wait
         holds is_new "$book"
-        holds is_old .book.bin.pbook-0
-        exec 9>&-
+        holds no_draft
     done
+    holds not grep -vqF "$book: it is in use by another run" told
 }
 
-# No file of a run is taken for a draft that was left, whatever its name.
-table_like_draft() {
-    cp "$table" .book.bin.pbook-0
-    cp "$table" before
-    table=$place/.book.bin.pbook-0
-    holds collects 0 "$book"
-    holds is_new "$book"
-    holds cmp "$table" before
-}
-
-ledger_like_draft() {
-    : > .book.bin.pbook-0
-    holds collects 0 "$book" "$work/games" --ledger .book.bin.pbook-0
-    holds is_new "$book"
-    holds test "$(head -n 1 .book.bin.pbook-0)" = 'pbook-ledger 1'
-    holds test "$(wc -l < .book.bin.pbook-0)" -gt 250
-}
-
-journal_like_draft() {
-    : > .book.bin.pbook-0
-    holds collects 0 "$book" "$work/games" --journal .book.bin.pbook-0
-    holds is_new "$book"
-    holds test "$(wc -l < .book.bin.pbook-0)" -gt 250
-}
-
-# has_open PROCESS FILE: whether the process has this file open
-has_open() {
-    for opened in "/proc/$1/fd"/*; do
-        [ "$(readlink "$opened")" != "$2" ] || return 0
-    done
-    return 1
-}
-
-# Nor is the TABLE of another collector.
-table_of_another() {
+# The drafts of a run that was killed are taken over, with all that is in them.
+left_claim() {
     with_old
-    cp "$table" .book.bin.pbook-0
-    begin "$PROGRAM" collect "$place/.book.bin.pbook-0" other.bin
-    holds awaits has_open "$collector" "$place/.book.bin.pbook-0"
-    games_of 1 >&3
-    holds collects 0 "$book"
+    chmod 600 "$book"
+    : > games.ledger
+    begin "$PROGRAM" collect --ledger games.ledger "$table" "$book"
+    holds say 1 "ok $(id_of 1) 1"
+    kill -9 "$collector"
+    wait "$collector" 2> /dev/null || true
+    trap - EXIT
+    exec 3>&- 4<&-
+    for draft in .book.bin.pbook .games.ledger.pbook; do
+        holds test -f "$draft"
+        cat "$work/new" "$work/new" > "$draft"
+        chmod 644 "$draft"
+    done
+    holds collects 0 "$book" "$work/games" --ledger games.ledger
     holds is_new "$book"
-    holds cmp .book.bin.pbook-0 "$table"
-    holds end 0
+    holds has_mode 600 "$book"
+    holds test "$(wc -l < games.ledger)" -eq 301
+    holds no_draft
 }
 
-# FILE is opened by a link of the system that leads nowhere any more. Its file has no name, and no
-# other run holds it.
-nameless_file() {
-    exec 9<> gone
-    rm gone
-    for option in --journal --ledger; do
-        holds is_refused '/dev/fd/9: no such file or directory' "$option" /dev/fd/9
+# begin_at_open NUMBER PATH OPTION..: starts a run over `few`, which stops once it has opened the file
+# of this path so often; whether it does
+begin_at_open() {
+    number=$1 path=$2
+    shift 2
+    rm -f held process
+    cp few games
+    begin_held "openat:$number" "-P $path" "$PROGRAM" collect "$@" "$table" "$book"
+}
+
+# A run that has opened a FILE, or a draft, finds another file by its name once it has locked that:
+# the other one stays as it is, and so does BOOK or FILE.
+replaced_when_opened() {
+    with_old
+    games_of 1,9 > few
+    games_of 1 > other
+    for file in journal ledger .book.bin.pbook; do
+        option=
+        [ "$file" = .book.bin.pbook ] || option="--$file $place/$file"
+        for synced in '' --sync; do
+            at=1
+            [ "$synced" = '' ] || [ "$file" = journal ] || continue
+            # shellcheck disable=SC2086 # each word is one
+            while
+                games_of 2 > "$file"
+                begin_at_open "$at" "$place/$file" $option $synced
+            do
+                cp "$file" found
+                mv "$file" first
+                cp other "$file"
+                holds go_on 3
+                holds is_old "$book"
+                holds cmp "$file" other
+                holds cmp first found
+                holds test "$(wc -l < told)" -eq 1
+                at=$((at + 1))
+            done
+            wait "$collector"
+            trap - EXIT
+            holds test "$at" -gt 1
+            with_old
+        done
+        rm -f "$file"
     done
-    exec 9>&-
 }
 
 # What a command only reads may become the FILE of a collector that starts meanwhile. The command
@@ -227,237 +200,176 @@ read_meanwhile() {
     holds test "$(tail -n 1 printed)" = "$(games_of 2)"
 }
 
-# The draft of FILE, too, could take the name of another file of the run.
-table_like_ledger_draft() {
-    cp "$table" .games.ledger.pbook-0
-    : > games.ledger
-    table=$place/.games.ledger.pbook-0
-    holds collects 0 "$book" "$work/games" --ledger games.ledger
-    holds is_new "$book"
-    holds cmp "$table" "$work/table"
-}
-
-input_like_draft() {
-    cp "$work/games" .book.bin.pbook-0
-    holds collects 0 "$book" "$place/.book.bin.pbook-0"
-    holds is_new "$book"
-    holds cmp .book.bin.pbook-0 "$work/games"
-}
-
-output_like_draft() {
-    "$PROGRAM" collect "$table" "$book" < "$work/games" > .book.bin.pbook-0 2> told
-    holds test ! -s told
-    holds is_new "$book"
-    holds test "$(wc -l < .book.bin.pbook-0)" -eq "$(wc -l < "$work/games")"
+# has_open PROCESS FILE: whether the process has this file open
+has_open() {
+    for opened in "/proc/$1/fd"/*; do
+        [ "$(readlink "$opened")" != "$2" ] || return 0
+    done
+    return 1
 }
 
 # A BOOK that another run has as its journal or FILE stays as it is, by whatever name.
 book_is_held() {
     : > games.journal
     : > games.ledger
-    cp games.ledger before
-    begin "$PROGRAM" collect --journal games.journal "$table" "$book"
-    holds say 1 "ok $(id_of 1) 1"
-    ln -s games.journal link
-    for name in games.journal link; do
-        holds collects 3 "$name"
-        holds says 'fault open'
-        holds tells "$name is in use by another run"
-    done
-    holds test "$(wc -l < "$work/replies")" -eq $(($(wc -l < "$work/games") + 1))
-    holds say 2 "ok $(id_of 2) 2"
-    holds end 0
-    games_of 1,2 > whole
-    holds cmp whole games.journal
-    holds no_draft
-    begin "$PROGRAM" collect --ledger games.ledger "$table" "$book"
-    holds say 1 "ok $(id_of 1) 1"
-    holds collects 3 games.ledger
-    holds says 'fault open'
-    holds tells 'games.ledger is in use by another run'
-    holds cmp games.ledger before
-    holds end 0
-    { echo 'pbook-ledger 1' && games_of 1; } > whole
-    holds cmp whole games.ledger
-    holds no_draft
-}
-
-# with_locks HOW COMMAND..: runs the command with locks as tests/fail_io.c makes them so
-with_locks() {
-    [ -e "$work/locks.so" ] ||
-        cc -std=c11 -O1 -Wall -Wextra -shared -fPIC -o "$work/locks.so" "$source/tests/fail_io.c"
-    how=$1
-    shift
-    LOCKS=$how LD_PRELOAD=$work/locks.so "$@"
-}
-
-# So does one over a network, where a shared lock is for files alone that are open to be read, and a
-# BOOK that nobody holds is made there.
-book_over_network() {
-    games_of 1 > games.journal
-    cp games.journal before
-    begin "$PROGRAM" collect --journal games.journal "$table" "$book"
-    runner='with_locks network'
-    holds collects 3 games.journal
-    holds says 'fault open'
-    holds tells 'games.journal is in use by another run'
-    holds cmp games.journal before
-    with_old
-    holds collects 0 "$book"
-    holds is_new "$book"
-    runner=
-    holds end 0
-    holds no_draft
-}
-
-# A run that can't know whether another one holds its FILE or BOOK doesn't go on. It does where
-# there are no locks. 5 is EIO, 22 EINVAL, 37 ENOLCK, 38 ENOSYS, 95 EOPNOTSUPP.
-failed_locks() {
-    games_of 1 > games.journal
-    cp games.journal before
-    runner='with_locks 5'
     for option in --journal --ledger; do
-        holds is_refused 'games.journal: input/output error' "$option" games.journal
-        holds cmp games.journal before
+        file=games.${option#--}
+        begin "$PROGRAM" collect "$option" "$file" "$table" "$book"
+        ln -sf "$file" link
+        holds awaits has_open "$collector" "$place/.book.bin.pbook"
+        for name in "$file" link; do
+            holds collects 3 "$name"
+            holds says 'fault open'
+            holds tells "$name: it is in use by another run"
+        done
+        holds say 1 "ok $(id_of 1) 1"
+        holds end 0
+        holds no_draft
     done
+    whole_ledger 1 > whole
+    holds cmp whole games.ledger
+    sed 1d whole > whole.journal
+    holds cmp whole.journal games.journal
+}
+
+# A run that can't know whether another one holds its FILE or BOOK doesn't go on, nor does one over
+# a file system without locks, where two runs would write one draft.
+failed_locks() {
     with_old
-    holds collects 3 "$book"
-    holds says 'fault open'
-    holds tells "$book: input/output error; the old book is unchanged"
-    holds is_old "$book"
-    holds collects 3 "$place/new.bin"
-    holds says 'fault open'
-    holds tells "$place/new.bin: input/output error; there is no book"
-    holds not test -e new.bin
-    for error in 22 37 38 95; do
-        runner="with_locks $error"
-        with_old
-        holds collects 0 "$book" "$work/games" --journal games.journal
-        holds is_new "$book"
-        cp before games.journal
-        with_old
-        holds collects 0 "$book" "$work/games" --ledger games.journal
-        holds is_new "$book"
-        cp before games.journal
-    done
-}
-
-# with_kept OPTION: the file of this option, `kept`, has the first games, and a copy is `before`;
-# BOOK is an old one
-with_kept() {
-    rm -f kept
-    : > kept
-    games_of 1,9 > games
-    holds collects 0 "$place/other.bin" "$place/games" "--$1" kept
-    cp kept before
-    with_old
-}
-
-# stops OPTION CAUSE: whether the run that has just ended, with its status in $status, has stopped
-# for this cause before it did anything
-stops() {
-    [ "$status" -eq 3 ] && [ "$(cat told)" = "pbook: $2" ] && is_old "$book" && no_draft
-}
-
-# What is kept isn't spoilt by replies.
-# shellcheck disable=SC2094 # that it is read and written is what is tried
-kept_is_output() {
-    for option in journal ledger; do
-        with_kept "$option"
-        status=0
-        "$PROGRAM" collect "--$option" kept "$table" "$book" \
-            < "$work/games" >> kept 2> told || status=$?
-        holds stops "$option" "the $option is standard output"
-        holds cmp kept before
-        status=0
-        "$PROGRAM" collect "--$option" kept "$table" "$book" \
-            < "$work/games" 1<> kept 2> told || status=$?
-        holds stops "$option" "the $option is standard output"
-        holds cmp kept before
-        status=0
-        "$PROGRAM" collect "--$option" kept "$table" "$book" \
-            < "$work/games" > kept 2> told || status=$?
-        holds stops "$option" "the $option is standard output"
-        holds test ! -s kept
-    done
-}
-
-# Nor is BOOK or FILE made of the file that the games come from, by whatever names.
-written_is_input() {
-    for option in journal ledger; do
-        with_kept "$option"
-        holds collects 3 "$book" kept "--$option" kept
-        holds says_only 'fault open'
-        holds tells "the $option is standard input"
-        holds cmp kept before
+    games_of 1,9 > games.journal
+    for error in EIO EINVAL ENOLCK ENOSYS EOPNOTSUPP; do
+        runner="strace -f -o /dev/null -e trace=flock -e inject=flock:error=$error"
+        for option in --journal --ledger; do
+            holds stops_unread games.journal "$book" "$option" games.journal
+        done
+        for name in "$book" "$place/new.bin"; do
+            holds collects 3 "$name"
+            holds says 'fault open'
+            holds tells_name "$name"
+            holds no_draft
+        done
         holds is_old "$book"
+        holds not test -e new.bin
+        # The journal can be locked, and the draft of BOOK can't.
+        cp games.journal found
+        failing "$place/.book.bin.pbook" flock "$error"
+        holds collects 3 "$book" /dev/null --journal games.journal
+        holds is_old "$book"
+        holds cmp games.journal found
+        holds no_draft
     done
-    cp "$work/games" games
-    ln games second
-    ln -s games link
-    for name in games second link /dev/stdin; do
-        holds collects 3 "$name" games
-        holds says_only 'fault open'
-        holds tells 'BOOK is standard input'
-        holds cmp games "$work/games"
-    done
-    holds test -L link
-    holds collects 0 /dev/null /dev/null
-    holds no_draft
 }
 
-# each_input_run TRY: calls TRY with the words of each command that reads standard input
-each_input_run() {
-    "$1" epd
-    "$1" check
-    "$1" lookup "$table" "$work/new"
-    "$1" export "$table"
-    "$1" collect "$table" "$book"
-    "$1" collect "$table" "$place/new.bin"
-    "$1" collect --ledger kept "$table" "$book"
-    "$1" collect --journal kept "$table" "$book"
-    "$1" collect --journal kept --sync "$table" "$place/new.bin"
-}
-
-# nothing_made CAUSE: whether the run that has just ended, with its status in $status, has stopped
-# for this cause, and left all files as they were
-nothing_made() {
-    if [ "$status" -eq 3 ] && [ "$(cat told)" = "pbook: $1" ] && is_old "$book" &&
-        cmp -s kept before && [ ! -e new.bin ] && no_draft; then return; fi
-    echo "    the status is $status, and this is told:"
-    cat told
+# one_file CAUSE INPUT OUTPUT WORD..: a run with these words ends with status 3 since two of its
+# files are one, and changes none
+one_file() {
+    cause=$1 input=$2 output=$3 status=0
+    shift 3
+    all_files > "$work/before"
+    "$PROGRAM" collect "$@" < "$input" >> "$output" 2> "$work/errors" || status=$?
+    all_files > "$work/after"
+    [ "$status" -eq 3 ] && grep -Eqx "pbook: ($cause) are one file" "$work/errors" &&
+        [ "$(wc -l < "$work/errors")" -eq 1 ] && cmp -s "$work/before" "$work/after" && return
+    echo "    the status is $status; these are told, and changed:"
+    cat "$work/errors"
+    diff "$work/before" "$work/after"
     return 1
 }
 
-without_input() {
-    status=0
-    "$PROGRAM" "$@" <&- > put 2> told || status=$?
-    holds test "$(cat put)" = 'fault read'
-    holds nothing_made "standard input isn't open"
+# TABLE, FILE, BOOK, their drafts, standard input and standard output are different files, by
+# whatever names they go.
+different_files() {
+    cp "$table" table
+    cp "$work/new" book.bin
+    games_of 1,9 > kept
+    for draft in book.bin kept table; do
+        games_of 1,9 > ".$draft.pbook"
+        ln -s ".$draft.pbook" "draft.$draft"
+    done
+    for file in table kept book.bin; do
+        ln "$file" "hard.$file"
+        ln -s "$file" "link.$file"
+    done
+    games=$work/games out=$work/replies
+    for of in . hard. link.; do
+        at=${of#.}
+        holds one_file ".*table and .*table" "$games" "$out" table "${at}table"
+        holds one_file "/dev/stdin and .*book.bin|.*book.bin and /dev/stdin" "${at}book.bin" "$out" table book.bin
+        for option in --ledger --journal; do
+            holds one_file ".*table and .*table" "$games" "$out" "$option" "${at}table" table book.bin
+            holds one_file ".*kept and .*kept" "$games" "$out" "$option" kept table "${at}kept"
+            holds one_file ".*kept and /dev/stdin|/dev/stdin and .*kept" "${at}kept" "$out" \
+                "$option" kept table book.bin
+            holds one_file ".*kept and /dev/stdout|/dev/stdout and .*kept" "$games" "${at}kept" \
+                "$option" kept table book.bin
+        done
+    done
+    holds one_file ".*table and /dev/stdout|/dev/stdout and .*table" "$games" table table book.bin
 }
 
-closed_input() {
-    with_kept ledger
-    each_input_run without_input
+# The draft of BOOK, or of a ledger, is no other file of the run: that would be emptied.
+different_drafts() {
+    with_old
+    cp "$table" table
+    games_of 1,9 > kept
+    for draft in .book.bin.pbook .kept.pbook; do
+        for file in table kept "$work/games"; do
+            for how in cp 'ln -s' ln; do
+                case "$how $file" in
+                    "ln $work/games") cp "$file" games && file=games ;;
+                    'ln -s kept' | 'ln -s table') file=$place/$file ;;
+                esac
+                rm -f "$draft"
+                $how "$file" "$draft"
+                option='--ledger kept'
+                set -- table
+                input=$work/games output=$work/replies
+                case ${file##*/} in
+                    table) set -- "$draft" ;;
+                    kept) [ "$draft" = .kept.pbook ] && continue || option="--ledger $draft" ;;
+                    games) input=$draft ;;
+                esac
+                # shellcheck disable=SC2086 # each word is one
+                holds one_file '.*pbook and .*|.* and .*pbook' "$input" "$output" $option "$@" book.bin
+            done
+        done
+    done
 }
 
-without_output() {
-    status=0
-    "$PROGRAM" "$@" < "$work/games" >&- 2> told || status=$?
-    holds nothing_made "standard output isn't open"
+# is_closed STREAM WORD..: a run with these words, for which this stream is closed, ends with status
+# 3, tells of the stream in a line, makes no book, and leaves the games of FILE, to which others may
+# have come
+is_closed() {
+    stream=$1 status=0
+    shift
+    whole_ledger 1,9 > kept
+    case $stream in
+        input) "$PROGRAM" "$@" <&- > "$work/put" 2> "$work/errors" || status=$? ;;
+        output) "$PROGRAM" "$@" < "$work/games" >&- 2> "$work/errors" || status=$? ;;
+        *) "$PROGRAM" "$@" <&- >&- 2> "$work/errors" || status=$? ;;
+    esac
+    whole_ledger 1,9 > due
+    head -n 10 kept > front
+    [ "$status" -eq 3 ] && [ "$(wc -l < "$work/errors")" -eq 1 ] && tells_name "standard $stream" &&
+        is_old book.bin && [ ! -e new.bin ] && no_draft && cmp front due && return
+    echo "    the status is $status, and this is told:"
+    cat "$work/errors"
+    return 1
 }
 
-closed_output() {
-    with_kept ledger
-    each_input_run without_output
-    without_output fen 'rnbqkbnr/pppppppp/8/8/8/8/PPPPPPPP/RNBQKBNR w KQkq - 0 1' e2e4
-    without_output show "$work/new"
-    without_output probe "$table" "$work/new" '4k3/8/8/8/8/8/8/4K3 w - - 0 1'
-}
-
-# What reads no submissions needs no standard input.
-unread_input() {
+closed_streams() {
+    with_old
+    for words in epd check "lookup $table $work/new" "export $table" "collect $table book.bin" \
+        "collect $table new.bin" "collect --ledger kept $table book.bin" \
+        "collect --journal kept $table book.bin" "collect --journal kept --sync $table new.bin"; do
+        # shellcheck disable=SC2086 # each word is one
+        for stream in input output '\(input\|output\)'; do holds is_closed "$stream" $words; done
+    done
     start='rnbqkbnr/pppppppp/8/8/8/8/PPPPPPPP/RNBQKBNR w KQkq - 0 1'
+    holds is_closed output fen "$start" e2e4
+    holds is_closed output show "$work/new"
+    holds is_closed output probe "$table" "$work/new" "$start"
+    # What reads no submissions needs no standard input.
     "$PROGRAM" show "$work/new" <&- > listed 2> told
     holds test "$(wc -l < listed)" -eq $(($(wc -c < "$work/new") / 16))
     "$PROGRAM" probe "$table" "$work/new" "$start" <&- > listed 2>> told
@@ -467,69 +379,19 @@ unread_input() {
     holds test ! -s told
 }
 
-closed_both() {
-    with_kept ledger
-    for command in "collect --ledger kept $table $book" "export $table"; do
-        status=0
-        # shellcheck disable=SC2086 # each word is one
-        "$PROGRAM" $command <&- >&- 2> told || status=$?
-        holds test "$status" -eq 3
-        holds grep -Eqx "pbook: standard (input|output) isn't open" told
-        holds test "$(wc -l < told)" -eq 1
-        holds cmp kept before
-        holds is_old "$book"
-    done
-}
-
-# A FILE that can't be written ends the run before a game is answered.
-unwritable_ledger() {
-    with_kept ledger
-    chmod 444 kept
-    chmod 777 .
-    runner=as_other
-    holds collects 3 "$book" "$work/games" --ledger kept
-    holds says_only 'fault open'
-    holds tells 'kept: permission denied'
-    holds cmp kept before
-    holds is_old "$book"
-}
-
-# A BOOK that is there and can't be written ends it likewise, as its owner's and by any name.
-unwritable_book() {
-    with_kept ledger
-    ! is_root || chown 65534:65534 kept
-    chmod 444 book.bin
-    chmod 777 .
-    ln -s book.bin link
-    mkdir folder
-    cp "$work/old" other.bin
-    chmod 644 other.bin
-    runner=as_other
-    for option in '' '--ledger kept' '--journal kept' -q; do
-        # shellcheck disable=SC2086 # each word is one
-        for name in book.bin link folder; do
-            holds stops_unread "$name" "$name" $option
-        done
-        # shellcheck disable=SC2086
-        ! is_root || holds stops_unread other.bin other.bin $option
-        holds cmp kept before
-        holds is_old "$book"
-        holds is_old other.bin
-        holds no_draft
-    done
-}
-
 # change HOW FILE: another program does this to the file of a run
 change() {
     case $1 in
         removed) rm "$2" ;;
         renamed) mv "$2" elsewhere ;;
-        replaced) cp "$2" copy && mv copy "$2" ;;
+        replaced) cp "$2" copy && printf 'more' >> copy && mv copy "$2" ;;
         emptied) : > "$2" ;;
         shorter) truncate -s -1 "$2" ;;
         longer) printf 'torn' >> "$2" ;;
-        edited) printf '#' | dd of="$2" bs=1 seek=20 conv=notrunc status=none ;;
         linked) ln -sf "$work/first" "$2" ;;
+        touched) touch -d tomorrow "$2" ;;
+        named) ln "$2" second ;;
+        given) chmod 640 "$2" && chown 65534 "$2" ;;
     esac
 }
 
@@ -545,138 +407,189 @@ has_stopped() {
     [ ! -s rest ] && [ "$(wc -l < told)" -eq 1 ] && tells_name "$1" && [ ! -e book.bin ]
 }
 
-# changed_journal HOW OPTION..: another program changes the journal in the midst of a run
-changed_journal() {
-    how=$1
+# changed_file HOW OPTION FILE [OPTION..]: another program changes the FILE of a run over two games in
+# the midst of it; what it left is `left`
+changed_file() {
+    how=$1 file=$3
+    mkdir "$*"
+    cd "$*"
     shift
-    mkdir "$how$*"
-    cd "$how$*"
-    : > games.journal
-    begin "$PROGRAM" collect --journal games.journal "$@" "$table" book.bin
-    holds say 1 "ok $(id_of 1) 1"
-    change "$how" games.journal
-    [ ! -e games.journal ] || cp games.journal left
-    holds say 2 ''
-    holds end 3
-    holds has_stopped games.journal
-    case $how in
-        removed | renamed | replaced | linked) holds is_changed games.journal ;;
-    esac
-    cd ..
+    : > "$file"
+    [ "$file" != games.ledger ] || whole_ledger 9 > "$file"
+    games=$(($(wc -l < "$file") / 2))
+    begin "$PROGRAM" collect "$@" "$table" book.bin
+    holds say 1 "ok $(id_of 1) $((games + 1))"
+    change "$how" "$file"
+    [ ! -e "$file" ] || cp "$file" left
 }
 
+# A journal that is changed so ends the run: no later game is answered.
 changed_journals() {
     games_of 1 > "$work/first"
     for how in removed renamed replaced linked emptied shorter longer; do
-        changed_journal "$how"
-        changed_journal "$how" --sync
+        for option in '' --sync; do
+            # shellcheck disable=SC2086 # no option is no word
+            changed_file "$how" --journal games.journal $option
+            holds say 2 ''
+            holds end 3
+            holds has_stopped games.journal
+            holds is_changed games.journal
+            cd ..
+        done
+    done
+    for option in '' --sync; do
+        for how in touched named given; do
+            # shellcheck disable=SC2086
+            ! is_root && [ "$how" = given ] || unharmed "$how" --journal games.journal $option
+        done
     done
 }
 
-# Replies that wait when the journal is changed don't go out. The run is held once it has added the
-# first of three games, and once it has put it on the disk.
-waiting_replies() {
-    for held_at in write write--sync fdatasync--sync; do
-        mkdir "$held_at"
-        cd "$held_at"
-        journal=$place/$held_at/games.journal
-        games_of 1,3 > games
-        : > games.journal
-        option=${held_at#"${held_at%--sync}"}
-        # shellcheck disable=SC2086 # no option is no word
-        holds begin_held "${held_at%--sync}" "-P $journal" \
-            "$PROGRAM" collect --journal "$journal" $option "$table" book.bin
-        rm games.journal
-        holds go_on 3
-        cp replies rest
-        holds has_stopped "$journal"
-        holds not test -e games.journal
-        cd ..
-    done
+# unharmed HOW OPTION FILE [OPTION..]: what another program does so harms nobody
+unharmed() {
+    changed_file "$@"
+    holds say 2 "ok $(id_of 2) $((games + 2))"
+    holds end 0
+    holds test ! -s told
+    holds test "$(tail -n 2 "$file")" = "$(games_of 1,2)"
+    cd ..
 }
 
 # What another program adds in the midst of a run is written over by none of its lines. The run is
-# held once it has added the first of three games.
+# held right before it adds the second of three games.
 added_meanwhile() {
     games_of 1,3 > games
     for option in '' --sync; do
-        rm -f held process
         games_of 4 > games.journal
-        # shellcheck disable=SC2086 # no option is no word
-        holds begin_held write "-P $journal" \
-            "$PROGRAM" collect --journal "$journal" $option "$table" book.bin
+        set -- "$PROGRAM" collect --journal "$journal" ${option:+"$option"} "$table" "$book"
+        holds ran 0 strace -o calls -P "$journal" -e trace=write,statx "$@" < games
+        looks=$(awk '/^write/ && wrote++ { exit } /^statx/ { looks++ } END { print looks }' calls)
+        games_of 4 > games.journal
+        rm -f held process book.bin
+        holds begin_held "statx:$looks" "-P $journal" "$@"
         games_of 5 >> games.journal
         holds go_on 3
-        cp replies rest
-        holds has_stopped "$journal"
-        { games_of 4 && games_of 1 && games_of 5 && games_of 2,3; } > whole
-        holds cmp whole games.journal
+        holds not test -e book.bin
+        for game in 4 1 5; do holds grep -qxF "$(games_of "$game")" games.journal; done
+        holds test "$(count '^ok' replies)" -le "$(($(wc -l < games.journal) - 2))"
     done
 }
 
-# With --sync a journal is opened once more, to be written over itself. It is held right before. A
-# file that has got its name by then isn't written over in its place, and the run ends.
-replaced_when_reopened() {
-    games_of 1 > games.journal
-    cp games.journal before
-    games_of 2 > games
-    set -- "$PROGRAM" collect --journal "$journal" --sync "$table" "$book"
-    holds ran 0 strace -o calls -P "$journal" -e trace=openat,statx "$@" < /dev/null
-    looks=$(awk '/^openat/ && opened++ { exit } /^statx/ { looks++ } END { print looks }' calls)
-    rm "$book"
-    holds begin_held "statx:$looks" "-P $journal" "$@"
-    mv games.journal kept
-    cp kept games.journal
-    holds go_on 3
-    cp replies rest
-    holds has_stopped "$journal"
-    holds cmp kept before
-    holds cmp games.journal before
-}
-
-# A run that has no more games to answer doesn't end as if its journal were there.
-journal_gone_at_end() {
-    : > games.journal
-    begin "$PROGRAM" collect --journal games.journal "$table" book.bin
-    holds say 1 "ok $(id_of 1) 1"
-    rm games.journal
-    holds end 3
-    holds has_stopped games.journal
-}
-
-# FILE isn't replaced where another program has changed it in the midst of a run.
-changed_ledger() {
+# A FILE of `--ledger` that has another length than the run has read gets a second name before the
+# new one takes its place, and that is told. Nothing of either is lost.
+changed_ledgers() {
     games_of 9 > "$work/first"
-    for how in removed renamed replaced linked emptied shorter longer edited; do
-        mkdir "$how"
-        cd "$how"
-        games_of 1,2 > games.ledger
-        begin "$PROGRAM" collect --ledger games.ledger "$table" book.bin
-        holds say 3 "ok $(id_of 3) 3"
-        change "$how" games.ledger
-        [ ! -e games.ledger ] || cp games.ledger left
-        holds end 3
-        holds not grep -q '^ok' rest
-        : > rest
-        holds has_stopped games.ledger
-        holds is_changed games.ledger
-        holds test -z "$(find . -name '.*.pbook-*')"
+    for how in replaced linked emptied shorter longer; do
+        changed_file "$how" --ledger games.ledger
+        holds end 0
+        holds cmp games.ledger.changed left
+        { whole_ledger 9 && games_of 1; } > whole
+        holds cmp games.ledger whole
+        holds test "$(wc -l < told)" -eq 1
+        holds grep -q '^pbook: .*games\.ledger.*games\.ledger\.changed' told
+        holds test -z "$(find . -name '.*.pbook')"
         cd ..
     done
     holds test "$(cat "$work/first")" = "$(games_of 9)"
+    # Where that name is taken, the new one isn't made.
+    changed_file longer --ledger games.ledger -q
+    echo precious > games.ledger.changed
+    holds end 3
+    holds is_changed games.ledger
+    holds test "$(cat games.ledger.changed)" = precious
+    holds not test -e book.bin
+    cd ..
+    # One that is gone is made, and what only touches it harms nobody.
+    for how in removed renamed; do
+        changed_file "$how" --ledger games.ledger
+        holds end 0
+        holds test ! -s told
+        holds cmp games.ledger "../replaced --ledger games.ledger/whole"
+        cd ..
+    done
+    for how in touched named given; do
+        ! is_root && [ "$how" = given ] || unharmed "$how" --ledger games.ledger
+    done
+}
+
+# lost_claim STATUS COMMAND..: a run whose drafts this command finds in the midst of it ends with this
+# status; its book is the new one with status 0, and else the old one
+lost_claim() {
+    due=$1
+    shift
+    with_old
+    chmod 640 "$book"
+    : > games.ledger
+    begin "$PROGRAM" collect --ledger games.ledger "$table" "$book"
+    games_of 1,322 >&3
+    holds test "$(timeout "$patience" head -n 1 <&4)" = "ok $(id_of 1) 1"
+    "$@"
+    holds end "$due"
+    if [ "$due" -eq 0 ]; then
+        holds is_new "$book"
+        holds test "$(wc -l < games.ledger)" -eq 301
+        holds test ! -s told
+    else
+        holds is_old "$book"
+        cp told "$work/errors"
+        holds is_told 3
+    fi
+    holds has_mode 640 "$book"
+}
+
+# for_drafts COMMAND..: runs this command for the draft of BOOK and that of FILE
+for_drafts() {
+    for draft in .book.bin.pbook .games.ledger.pbook; do "$@" "$draft"; done
+}
+
+# replace FILE: puts another file in its place
+replace() { echo precious > other && mv other "$1"; }
+
+# A draft that somebody removes is claimed again. What was put in its place is no draft of the run.
+lost_claims() {
+    lost_claim 0 for_drafts rm
+    lost_claim 0 mv .book.bin.pbook elsewhere
+    lost_claim 0 for_drafts replace
+    holds no_draft
+    echo precious > precious
+    lost_claim 3 ln -sf precious .book.bin.pbook
+    holds test "$(cat precious)" = precious
+    rm -f .book.bin.pbook
+    lost_claim 3 sh -c 'rm .book.bin.pbook && mkdir .book.bin.pbook'
+    rmdir .book.bin.pbook
+}
+
+# Another run has claimed BOOK since its draft was removed: it keeps that, and makes BOOK.
+claimed_by_another() {
+    mkdir first
+    cd first
+    begin "$PROGRAM" collect "$table" "$book"
+    holds say 1 "ok $(id_of 1) 1"
+    rm ../.book.bin.pbook
+    cd ..
+    mkfifo lines
+    "$PROGRAM" collect "$table" "$book" < lines > answers 2> told 3>&- 4<&- &
+    second=$!
+    exec 5> lines
+    holds awaits test -e .book.bin.pbook
+    cd first
+    holds end 3
+    holds grep -qx "pbook: $book: it is in use by another run" told
+    cd ..
+    holds not test -s "$book"
+    cat "$work/games" >&5
+    exec 5>&-
+    wait "$second"
+    holds is_new "$book"
+    holds test ! -s told
+    holds no_draft
 }
 
 if [ $# -eq 0 ]; then
-    choose true '' held_journal held_ledger held_new_ledger left_draft table_like_draft \
-        ledger_like_draft journal_like_draft table_like_ledger_draft input_like_draft \
-        output_like_draft table_of_another read_meanwhile nameless_file book_is_held \
-        kept_is_output written_is_input closed_input closed_output closed_both unread_input \
-        changed_journals journal_gone_at_end changed_ledger
-    choose 'has flock' 'flock is wanted' held_draft
-    choose 'has cc' 'cc is wanted' book_over_network failed_locks
-    choose can_trace 'strace is wanted' new_ledger_under_way two_drafts left_draft_replaced \
-        waiting_replies added_meanwhile replaced_when_reopened
-    choose can_be_other 'setpriv is wanted' unwritable_ledger unwritable_book
+    choose true '' held_journal held_ledger held_new_ledger one_book left_claim read_meanwhile \
+        book_is_held different_files different_drafts closed_streams changed_journals \
+        changed_ledgers lost_claims claimed_by_another
+    choose can_trace 'strace is wanted' replaced_when_opened failed_locks added_meanwhile
     # shellcheck disable=SC2086 # each name is a word
     set -- $chosen
 fi
