@@ -93,7 +93,7 @@ write replies $(wc -c < "$work/replies" | tr -d ' ')
 END
 }
 
-# Without --sync a game is written before its reply, and nothing waits for the disk.
+# Without --sync a game is written before its reply, and nothing waits for the disk until the end.
 unsynced_journal() {
     : > games.journal
     mkdir books
@@ -109,6 +109,7 @@ write games.journal $(bytes_of 1)
 write replies $(reply_of "ok $(id_of 1) 1")
 write games.journal $(bytes_of 2)
 write replies $(reply_of "ok $(id_of 2) 2")
+fdatasync games.journal
 END
 }
 
@@ -137,7 +138,7 @@ END
     holds cmp whole games.journal
 }
 
-# Without --sync nothing is.
+# Without --sync all is synced at the end.
 repeat_unsynced() {
     mkdir books
     games_of 1,2 > games.journal
@@ -150,6 +151,7 @@ open games.journal rw
 flock games.journal LOCK_EX
 read games.journal
 write replies $(reply_of "ok $(id_of 2) 2")
+fdatasync games.journal
 END
     holds cmp whole games.journal
 }
@@ -216,13 +218,13 @@ END
 
 # A book is on the disk before it takes its name, and then its name is, also where BOOK stands in
 # another folder than that of the run.
-draft_order='^(write|fsync|fdatasync|ftruncate|rename) \S*book|^fsync '
+draft_order='^(write|fsync|fdatasync|rename) \S*book|^fsync '
 new_draft() {
     holds ran 0 traced calls "$PROGRAM" collect "$table" book.bin < "$work/games"
     holds in_order calls "$draft_order" << END
-write .book.bin.pbook-0 $(size_of book.bin)
-fsync .book.bin.pbook-0
-rename .book.bin.pbook-0 to book.bin
+write .book.bin.pbook $(size_of book.bin)
+fdatasync .book.bin.pbook
+rename .book.bin.pbook to book.bin
 fsync .
 END
 }
@@ -231,37 +233,18 @@ draft_elsewhere() {
     mkdir far
     holds ran 0 traced calls "$PROGRAM" collect "$table" far/book.bin < "$work/games"
     holds in_order calls "$draft_order" << END
-write far/.book.bin.pbook-0 $(size_of far/book.bin)
-fsync far/.book.bin.pbook-0
-rename far/.book.bin.pbook-0 to far/book.bin
+write far/.book.bin.pbook $(size_of far/book.bin)
+fdatasync far/.book.bin.pbook
+rename far/.book.bin.pbook to far/book.bin
 fsync far
 END
 }
 
-# The draft of a file that others can't read can't be read by them at any time. It has the old
-# permissions before it has the name.
-private_draft() {
-    with_old
-    chmod 640 book.bin
-    holds ran 0 traced calls "$PROGRAM" collect "$table" book.bin < "$work/games"
-    holds in_order calls "$draft_order|^fchmod|^open \S+ new" << END
-open .book.bin.pbook-0 new 0600
-fchmod .book.bin.pbook-0 0100640
-write .book.bin.pbook-0 $(size_of book.bin)
-fsync .book.bin.pbook-0
-rename .book.bin.pbook-0 to book.bin
-fsync .
-END
-    holds has_mode 640 book.bin
-    # Over a network a shared lock is for files alone that are open to be read.
-    holds grep -q '\.book\.bin\.pbook-0", O_RDWR|' calls
-}
-
-# Before a submission is read FILE is opened to be written, and a draft is made beside it and goes
-# again. FILE is made anew before BOOK is, and so that others can't read it where they can't read the
-# old one.
+# Before a submission is read FILE and BOOK are held, and their drafts are, which can be read at no
+# time by others who can't read the old files. FILE is made anew before BOOK is.
 saved_ledger() {
     with_old
+    chmod 600 book.bin
     games_of 1,3 > games
     : > games.ledger
     holds collects 0 "$book" "$place/games" --ledger games.ledger
@@ -269,28 +252,31 @@ saved_ledger() {
     games_of 4,9 > games
     holds ran 0 traced calls \
         "$PROGRAM" collect --ledger games.ledger "$table" book.bin < games
-    kept='^(open|fchmod|fsync|rename|unlink) \S*(games\.ledger|book)\S*( (rw|new|to|0).*)?$|^fsync'
-    holds in_order calls "$kept|^read games$" << END
+    kept='^(open|flock|ftruncate|fchmod|fdatasync|rename|unlink) \S*(games\.ledger|book)\S*'
+    holds in_order calls "$kept|^fsync|^read games$" << END
 open games.ledger rw
-open .games.ledger.pbook-0 new 0600
-fchmod .games.ledger.pbook-0 0100640
-unlink .games.ledger.pbook-0
-open book.bin rw
+flock games.ledger LOCK_EX
+open .games.ledger.pbook new 0100640
+flock .games.ledger.pbook LOCK_EX
+ftruncate .games.ledger.pbook
+fchmod .games.ledger.pbook 0100640
+open book.bin w
+flock book.bin LOCK_EX
+open .book.bin.pbook new 0100600
+flock .book.bin.pbook LOCK_EX
+ftruncate .book.bin.pbook
+fchmod .book.bin.pbook 0100600
 read games
 read games
-open .games.ledger.pbook-0 new 0600
-fchmod .games.ledger.pbook-0 0100640
-fsync .games.ledger.pbook-0
-rename .games.ledger.pbook-0 to games.ledger
+fdatasync .games.ledger.pbook
+rename .games.ledger.pbook to games.ledger
 fsync .
-open book.bin rw
-open .book.bin.pbook-0 new 0600
-fchmod .book.bin.pbook-0 0100644
-fsync .book.bin.pbook-0
-rename .book.bin.pbook-0 to book.bin
+fdatasync .book.bin.pbook
+rename .book.bin.pbook to book.bin
 fsync .
 END
     holds has_mode 640 games.ledger
+    holds has_mode 600 book.bin
 }
 
 # What a link leads to is replaced beside that file, in whose folder the draft and its new name are
@@ -303,35 +289,23 @@ behind_links() {
     ln -s ../far/real books/book.bin
     games_of 1,3 > games
     holds ran 0 traced calls "$PROGRAM" collect --ledger link "$table" books/book.bin < games
-    holds in_order calls '^(write|fsync|ftruncate|rename) \S*(far|book|link)|^fsync' << END
-write far/.kept.pbook-0 $(size_of far/kept)
-fsync far/.kept.pbook-0
-rename far/.kept.pbook-0 to far/kept
+    holds in_order calls '^(write|fdatasync|rename) \S*(far|book|link)|^fsync' << END
+write far/.kept.pbook $(size_of far/kept)
+fdatasync far/.kept.pbook
+rename far/.kept.pbook to far/kept
 fsync far
-write far/.real.pbook-0 $(size_of far/real)
-fsync far/.real.pbook-0
-rename far/.real.pbook-0 to far/real
+write far/.real.pbook $(size_of far/real)
+fdatasync far/.real.pbook
+rename far/.real.pbook to far/real
 fsync far
-END
-}
-
-# What is written in place is emptied, written and then put on the disk.
-in_place() {
-    with_old
-    ln book.bin other
-    holds ran 0 traced calls "$PROGRAM" collect "$table" book.bin < "$work/games"
-    holds in_order calls '^(write|fsync|fdatasync|ftruncate|rename) \S*book|^fsync' << END
-ftruncate book.bin
-write book.bin $(size_of book.bin)
-fsync book.bin
 END
 }
 
 if can_trace; then
     if [ $# -eq 0 ]; then
         set -- synced_journal synced_at_once unsynced_journal repeat_of_unsynced torn_journal \
-            repeat_unsynced long_journal journal_elsewhere new_draft draft_elsewhere private_draft \
-            saved_ledger behind_links in_place
+            repeat_unsynced long_journal journal_elsewhere new_draft draft_elsewhere \
+            saved_ledger behind_links
     fi
     for name; do check "$name" in_folder "$name"; done
     finish

@@ -57,7 +57,7 @@ events() {
             }
             if (came + 0 < 0) next
             if (done == "openat") {
-                how = given ~ /O_EXCL/ ? "new" : given ~ /O_RDWR/ ? "rw" : given ~ /O_WRONLY/ ? "w" : "r"
+                how = given ~ /O_CREAT/ ? "new" : given ~ /O_RDWR/ ? "rw" : given ~ /O_WRONLY/ ? "w" : "r"
                 if (given ~ /O_TRUNC/) how = how " emptied"
                 if (how == "new") { mode = given; sub(/\) = .*/, "", mode); sub(/.*, /, "", mode); how = how " " mode }
                 print "open", opened(came), how
