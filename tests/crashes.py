@@ -8,7 +8,7 @@ Usage: PROGRAM=program python3 -B tests/crashes.py [--seed N] [--only PATTERN] [
 strace tells the calls of a run. After each call a model of the files (tests/lib/crash_model.py)
 builds states that a kill and a power cut may leave. The book has to be the old or the new one in
 each, and the games are there that FORMATS says: `--journal` keeps what was answered from kills,
-with `--sync` from power cuts, and `--ledger` from both once the run has ended. Then a run goes on,
+with `--sync` or once the run has ended from power cuts, and `--ledger` from both then. A run goes on,
 to which all lines are sent again. Of some states it meets a second crash. At last the same is
 judged as if syncs had not been called, and has to be seen to fail. As root, real file systems lose
 what wasn't flushed (tests/lib/crash_disk.py).
@@ -47,7 +47,7 @@ from lib.crash_trace import Call, trace
 CHANGES = ("open", "write", "resize", "sync", "rename", "unlink", "reply")
 # What is seen to fail where syncs are left out: in which scenario, and how.
 DUE = (("book", "files", "the book"), ("book", "folders", "the book"),
-       ("ledger", "files", "lost"), ("ledger", "folders", "lost"),
+       ("ledger", "files", "lost"), ("ledger", "folders", "lost"), ("journal", "files", "lost"),
        ("journal --sync", "files", "lost"), ("journal --sync, made just before", "folders", "lost"))
 
 # Where a state is wrong, and how; and what was judged: how many states, and the wrong ones.

@@ -688,7 +688,7 @@ first_lines() {
         # shellcheck disable=SC2059 # the format is the text
         printf "$text" > kept
         holds ran_told 0 "$PROGRAM" collect --journal kept "$table" "$book"
-        holds tells_name kept
+        holds grep -q '^pbook: .*kept' "$work/errors"
     done
     { head -c 30 /dev/zero && cat "$work/nine"; } > kept
     holds ends 0 "$PROGRAM" collect -q --journal kept "$table" "$book" < /dev/null

@@ -8,8 +8,7 @@
 #   gave no order does the status stay, and where a file that was refused is looked at again, for a
 #   hint of what it is: then the hint is missing, and all else is as due.
 # - BOOK is the old one, or none where there was none; it is the new one only where a sync failed,
-#   that of the folder. A file with a second name, which is made in place, may be empty or a front
-#   of the new one too.
+#   that of the folder or of a journal.
 # - The FILE of `--ledger` is the one that is made of the first lines of the submissions, at least
 #   of all that were answered; or it is the old one, where nothing was answered, or where FILE
 #   itself couldn't be made. No draft of it or of BOOK is left.
@@ -63,8 +62,8 @@ name_of_hit() {
         '1 '*) echo 'standard output' ;;
         *' run') echo '(book|file)' ;;
         *' linked') echo book ;;
-        *' '.linked.pbook-*) echo book ;;
-        *' '.*.pbook-*) echo "$file_name" | sed 's/^\.\(.*\)\.pbook-.*/\1/' ;;
+        *' '.linked.pbook) echo book ;;
+        *' '.*.pbook) echo "$file_name" | sed 's/^\.\(.*\)\.pbook$/\1/' ;;
         *) echo "(\.\./)?$file_name" ;;
     esac
 }
@@ -131,9 +130,7 @@ judge_output() {
 judge_book() {
     if is_of old book; then return; fi
     if [ "$kind" = sync ] && is_of ample book; then return; fi
-    [ "$in_place" = true ] || fails 'BOOK is not the old one'
-    [ "$kind" != read ] || fails 'BOOK is not the old one, and a read failed'
-    is_front "$work/run/book" "$work/ample/book" || fails 'BOOK is no front of the new one'
+    fails 'BOOK is not the old one'
 }
 
 # helped: what a run may leave that prints a text and has no order, whose status stays

@@ -4,8 +4,7 @@
 # all calls from the n-th on refused. What may come of a run in which memory was refused, beside
 # what comes with ample memory, is
 # - status 3 and `fault memory` as the last line, after a front of the lines that are put else;
-#   BOOK is the old one, or none where there was none (a file with a second name, which is made in
-#   place, may be empty or a front of the new one too); so is the FILE of `--ledger`, or it is the
+#   BOOK is the old one, or none where there was none; so is the FILE of `--ledger`, or it is the
 #   new one with the games that were answered `ok`, and the journal has each of them in any case;
 # - where submissions are taken: status 0, `refused <id> memory` in place of an `ok`, the other
 #   replies as they are due after that, and the files or the export of the games that were
@@ -162,9 +161,6 @@ make_masked() {
     if grep -v '^ok ' "$work/made.put"; then fails 'a game that was answered ok is refused'; fi
 }
 
-# is_begun: whether BOOK is made in place, and nothing but a front of the new one is left
-is_begun() { [ "$in_place" = true ] && is_front "$work/run/book" "$work/made-$mask/book"; }
-
 # collected WORD..: what a command that takes submissions may put, and what it leaves
 collected() {
     if is_usual; then return; fi
@@ -174,7 +170,7 @@ collected() {
         came=games
         return
     fi
-    is_of old book || is_begun || fails 'BOOK is not the old one'
+    is_of old book || fails 'BOOK is not the old one'
     came=fault
     if is_of "made-$mask" file; then
         if [ "$replies" -eq ${#mask} ] && ! is_of old file; then saved=true; fi

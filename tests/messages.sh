@@ -8,6 +8,7 @@ set -eu
 PROGRAM=${PROGRAM:-build/pbook}
 . tests/lib/harness.sh
 . tests/lib/places.sh
+. tests/lib/collector.sh
 cp examples/export.epd "$work/export"
 start='rnbqkbnr/pppppppp/8/8/8/8/PPPPPPPP/RNBQKBNR w KQkq - 0 1'
 
@@ -49,8 +50,8 @@ missing_files() {
         holds says_only 'fault open'
     done
     for option in ledger journal; do
-        holds tells_of 3 "far/kept: no such file (an empty one begins a $option)" \
-            "$PROGRAM" collect "--$option" far/kept table.txt book.bin
+        holds tells_of 3 "none: no such file (an empty one begins a $option)" \
+            "$PROGRAM" collect "--$option" none table.txt book.bin
         holds says_only 'fault open'
     done
     holds is_old book.bin
@@ -71,9 +72,8 @@ no_permission() {
         holds says_only 'fault open'
     done
     chmod 444 book.bin
-    holds tells_of 3 'book.bin: permission denied; the old book is unchanged' \
-        "$PROGRAM" collect table.txt book.bin
-    holds says_only 'fault open'
+    holds tells_of 3 'book.bin: permission denied' "$PROGRAM" collect table.txt book.bin
+    holds says 'fault open'
 }
 
 one_file() {
@@ -81,22 +81,17 @@ one_file() {
     ln -s table.txt table.link
     cp games kept
     ln kept kept.link
-    for words in 'collect table.txt table.link' 'collect table.link table.txt'; do
-        # shellcheck disable=SC2086
-        holds tells_of 3 'TABLE and BOOK are one file' "$PROGRAM" $words
+    while read -r one other words; do
+        # shellcheck disable=SC2086 # each word is one
+        holds tells_of 3 "$one and $other are one file" "$PROGRAM" collect $words
         holds says_only 'fault open'
-    done
-    for option in ledger journal; do
-        holds tells_of 3 "TABLE and the $option are one file" \
-            "$PROGRAM" collect "--$option" table.link table.txt book.bin
-        holds says_only 'fault open'
-        holds tells_of 3 "the $option and BOOK are one file" \
-            "$PROGRAM" collect "--$option" kept table.txt kept.link
-        holds says_only 'fault open'
-        holds tells_of 3 'TABLE and BOOK are one file' \
-            "$PROGRAM" collect "--$option" kept table.txt table.link
-        holds says_only 'fault open'
-    done
+    done << END
+table.txt table.link table.txt table.link
+table.link table.txt table.link table.txt
+table.txt table.link --ledger table.link table.txt book.bin
+kept kept.link --ledger kept table.txt kept.link
+table.txt table.link --journal kept table.txt table.link
+END
     holds cmp table.txt "$work/table"
 }
 
@@ -184,7 +179,6 @@ closed_pipe() {
     holds is_old book.bin
 }
 
-# A device keeps nothing, so nothing is said of what it has.
 full_book() {
     prepare
     holds tells_of 3 '/dev/full: no space left on device' \
@@ -195,30 +189,20 @@ full_disk() {
     prepare
     mkdir disk
     mount -t tmpfs -o size=16k tmpfs "$place/disk"
-    cp "$work/old" disk/book.bin
     head -c 9000 /dev/zero > disk/zero
-    input=$work/games
-    holds tells_of 3 'disk/book.bin: no space left on device; the old book is unchanged' \
-        "$PROGRAM" collect table.txt disk/book.bin
-    holds is_old disk/book.bin
-    rm disk/book.bin
-    head -c 12000 /dev/zero > disk/zero
-    holds tells_of 3 'disk/book.bin: no space left on device; there is no book' \
-        "$PROGRAM" collect table.txt disk/book.bin
-    holds not test -e disk/book.bin
-    # A file with two names is written in place.
-    : > disk/book.bin
-    ln disk/book.bin disk/other
-    holds tells_of 3 'disk/book.bin: no space left on device; it may be incomplete' \
-        "$PROGRAM" collect table.txt disk/book.bin
-    : > disk/book.bin
     : > disk/games.ledger
-    holds tells_of 3 'disk/games.ledger: no space left on device; the old ledger is unchanged' \
-        "$PROGRAM" collect --ledger disk/games.ledger table.txt book.bin
-    holds test ! -s disk/games.ledger
     : > disk/games.journal
-    holds tells_of 3 'disk/games.journal: no space left on device' \
-        "$PROGRAM" collect --journal disk/games.journal table.txt book.bin
+    input=$work/games
+    while read -r file words; do
+        # shellcheck disable=SC2086 # each word is one
+        holds tells_of 3 "disk/$file: no space left on device" "$PROGRAM" collect $words
+    done << END
+book.bin table.txt disk/book.bin
+games.ledger --ledger disk/games.ledger table.txt book.bin
+games.journal --journal disk/games.journal table.txt book.bin
+END
+    holds not test -e disk/book.bin
+    holds test ! -s disk/games.ledger
     holds is_old book.bin
     umount disk
 }
@@ -287,6 +271,7 @@ END
     # A pipe gives its bytes once, so it isn't looked at again.
     mkfifo pipe
     cat pgn > pipe &
+    runner="timeout $patience"
     holds tells_of 1 'pipe: entry 2 has a lower key than the one before it' "$PROGRAM" show pipe
 }
 
@@ -513,6 +498,10 @@ with_crs|PGN
 table.txt|a table
 another_book|a book
 END
+    # More digits are no line of a table.
+    echo 0123456789abcdef0 > digits
+    input=digits
+    holds tells_of 0 "$empty" "$PROGRAM" collect table.txt book.bin
 }
 
 # The last line of submissions is taken without an LF, and told of.
@@ -569,42 +558,74 @@ told_yet() { grep -qxF "pbook: $1" told; }
 # What has to be told at once is told while the run waits for more.
 told_at_once() {
     prepare
-    mkfifo lines
-    "$PROGRAM" collect table.txt missing/book.bin < lines > replies 2> told &
-    collector=$!
-    trap 'kill -9 "$collector" 2> /dev/null || true' EXIT
-    exec 3> lines
+    begin "$PROGRAM" collect table.txt missing/book.bin
+    holds awaits told_yet 'missing/book.bin: no such file or directory'
     echo '[Event "one game"]' >&3
-    holds awaits told_yet "missing/book.bin can't be made: no such file or directory"
     holds awaits told_yet 'standard input looks like PGN, not like submissions'
-    exec 3>&-
-    status=0
-    wait "$collector" || status=$?
-    trap - EXIT
-    holds test "$status" -eq 3
+    holds end 3
+    holds test "$(wc -l < told)" -eq 2
 }
 
 # What FILE can't be is told before a submission is read.
 no_file() {
     prepare
-    holds tells_of 3 '/dev/null: a journal has to be an ordinary file' \
-        "$PROGRAM" collect --journal /dev/null table.txt book.bin
-    holds says_only 'fault open'
-    : > kept
-    ln kept second
-    holds tells_of 3 "kept can't be replaced by a new ledger: the file has a second name" \
-        "$PROGRAM" collect --ledger kept table.txt book.bin
-    holds says_only 'fault open'
+    for option in ledger journal; do
+        holds tells_of 3 '/dev/null: it has to be an ordinary file' \
+            "$PROGRAM" collect "--$option" /dev/null table.txt book.bin
+        holds says_only 'fault open'
+    done
+    for option in '' --sync -q; do
+        # shellcheck disable=SC2086 # no option is no word
+        holds tells_of 1 "book.bin: line 1 isn't a game that can be taken; it looks like a book" \
+            "$PROGRAM" collect $option --journal book.bin table.txt new.bin
+        holds says_only 'refused journal line 1'
+    done
 }
 
-no_place() {
+# A book takes the place of something else that is no book with a warning, and of games not at all.
+other_book() {
     prepare
-    holds tells_of 3 "missing/book.bin can't be made: no such file or directory
-missing/book.bin: no such file or directory" \
-        "$PROGRAM" collect table.txt missing/book.bin
-    holds says 'fault open'
-    holds tells_of 3 'missing/book.bin: no such file or directory' \
-        "$PROGRAM" collect -q table.txt missing/book.bin
+    others
+    cp table.txt table.bin
+    while read -r file looks; do
+        cp "$file" other.bin
+        holds tells_of 0 "other.bin: a book takes its place; it $looks" \
+            "$PROGRAM" collect table.txt other.bin
+        cp "$file" other.bin
+        holds tells_of 0 '' "$PROGRAM" collect -q table.txt other.bin
+    done << END
+pgn looks like PGN
+packed is packed by gzip; zcat unpacks it
+table.bin looks like a table
+text is text
+END
+    for file in /dev/null book.bin; do
+        cp "$file" other.bin
+        holds tells_of 0 '' "$PROGRAM" collect table.txt other.bin
+    done
+    for option in '' -q; do
+        # shellcheck disable=SC2086 # no option is no word
+        holds tells_of 3 'games holds games, and stays' "$PROGRAM" collect $option table.txt games
+    done
+}
+
+# A name with control characters is told in one line, which has none.
+odd_names() {
+    prepare
+    odd=$(printf 'no\npbook:fake.bin:\033[2Jno\r\t\177')
+    cp games "$odd"
+    for words in "show no$odd" "games no$odd" "collect table.txt no$odd/book" "collect no$odd book.bin" \
+        "collect --journal no$odd table.txt book.bin" "export no$odd" "collect table.txt $odd"; do
+        status=0
+        IFS=' '
+        # shellcheck disable=SC2086 # each word is one
+        "$PROGRAM" $words < games > replies 2> told || status=$?
+        unset IFS
+        holds test "$status" -eq 3
+        holds test "$(wc -l < told)" -eq 1
+        holds grep -q '^pbook: .*no.*fake\.bin' told
+        holds test -z "$(tr -d '[:print:]\n' < told)"
+    done
 }
 
 bad_journal_line() {
@@ -664,7 +685,7 @@ games_to_themselves() {
     prepare
     cp games before
     input=/dev/null
-    holds tells_of 3 'FILE is standard output' to_itself
+    holds tells_of 3 'games and /dev/stdout are one file' to_itself
     holds cmp games before
 }
 
@@ -854,9 +875,9 @@ counted() {
     input=one
     holds tells_of 0 '1 line: 1 ok (1 new, 0 again), 0 refused' \
         "$PROGRAM" export --summary table.txt
-    for lines in 999 1000 1005 12030; do
+    for lines in 999 1000 1005 12030 1005000; do
         yes 'no game' | head -n "$lines" > many
-        told=$(echo "$lines" | sed 's/\(.\)\(...\)$/\1,\2/')
+        told=$(echo "$lines" | sed 's/\(.\)\(...\)$/\1,\2/; s/\(.\)\(...,\)/\1,\2/')
         input=many
         holds tells_of 0 "no game was accepted
 $told lines: 0 ok (0 new, 0 again), $told refused ($told shape)" \
@@ -908,7 +929,8 @@ terminal_progress() {
     prepare
     slowly="for n in 1 2 3 4 5 6; do sed -n \${n}p '$work/games'; sleep 0.5; done"
     holds in_terminal "{ $slowly; } | '$PROGRAM' collect table.txt book.bin > replies"
-    holds grep -Eq "$progress" shown
+    # Each second one, and the one that tells of the book.
+    holds test "$(grep -E "$progress" shown | grep -vc 'making the book')" -ge 2
     holds grep -qF 'pbook: 6 lines: 6 ok (6 new' shown
     holds test "$(wc -l < replies)" -eq 6
     holds in_terminal "{ $slowly; } | '$PROGRAM' collect -q table.txt book.bin > replies"
@@ -942,6 +964,8 @@ terminal_shared() {
     grep '^ok' shown > seen
     holds cmp due seen
     holds grep -qE "$progress" shown
+    holds in_terminal "{ $slowly; } | '$PROGRAM' check"
+    holds test "$(grep -c '^ok [^ ]*$' shown)" -eq 3
 }
 
 # A line that is typed isn't written over by a count.
@@ -964,8 +988,8 @@ if [ $# -eq 0 ]; then
     choose true '' missing_files one_file failed_reads closed_pipe refused_tables \
         refused_books refused_ledger \
         refused_words wrong_use arguments_wanted words_too_many help_width asked_help no_game \
-        bad_journal_line no_place told_at_once left_out_lines games_to_themselves cut_ledger cut_input no_file \
-        reasons counted
+        bad_journal_line told_at_once other_book odd_names left_out_lines games_to_themselves \
+        cut_ledger cut_input no_file reasons counted
     choose 'test -c /dev/full' '/dev/full is wanted' full_output full_book quiet_faults \
         without_errors summaries
     choose 'has gzip' 'gzip is wanted' other_input

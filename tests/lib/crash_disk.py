@@ -212,7 +212,8 @@ def on_disks() -> list[Scenario]:
     refused = Scenario("journal --sync, after a write that the disk has refused", (
         Run(SYNCED, lines[:2]), Run(SYNCED, lines[2:3], failing=id_of(lines[2]).decode(), status=3),
         Run(SYNCED, lines[2:3])), found)
-    return [s for s in scenarios() if s.name in ("book", "ledger", "journal --sync")] + [refused]
+    names = ("book", "ledger", "journal", "journal --sync")
+    return [s for s in scenarios() if s.name in names] + [refused]
 
 
 def begun(pool: concurrent.futures.Executor, given: argparse.Namespace,

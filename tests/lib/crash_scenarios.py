@@ -17,6 +17,8 @@ TABLE = os.path.abspath("examples/table.txt")
 # A folder in memory is quick.
 ROOM = "/dev/shm" if os.access("/dev/shm", os.W_OK) else None
 BOOK, LEDGER, JOURNAL = "book.bin", "games.ledger", "games.journal"
+# A second name of the ledger, such as a backup.
+SECOND = "second"
 HEADER = b"pbook-ledger 1\n"
 TO_LEDGER, TO_JOURNAL = ("--ledger", LEDGER), ("--journal", JOURNAL)
 SYNCED = (*TO_JOURNAL, "--sync")
@@ -187,9 +189,11 @@ class Progress:
             self.add(games, games if "--sync" in run.options else {}, *self.kill.books)
 
     def end(self, run: Run) -> None:
+        """The run has ended: a ledger has its games, and a journal was put on the disk, if its name
+        was there."""
         if run.status == 0:
-            games = self.answered if self.scenario.keeper == LEDGER else {}
-            self.add(games, games, self.kill.books[-1])
+            kept = self.answered if self.scenario.keeper and not self.scenario.unsynced else {}
+            self.add(kept, kept, self.kill.books[-1])
 
 
 def complaint(scenario: Scenario, state: State, promise: Promise) -> str:
@@ -204,6 +208,9 @@ def complaints(scenario: Scenario, place: str, promise: Promise) -> Iterator[str
     kept = games_in(read(place, scenario.keeper) or b"") if scenario.keeper else []
     if lost := [game for game in promise.games if scenario.sent[game] not in kept]:
         yield f"lost: {b' '.join(lost).decode()}"
+    old = {entry.path: entry.data for entry in scenario.files}
+    if read(place, SECOND) != old.get(SECOND):
+        yield "a second name hasn't kept the old ledger"
     book = read(place, BOOK)
     if book not in promise.books:
         yield f"the book is neither the old nor the new one: {book and len(book)} bytes"
@@ -214,12 +221,14 @@ def complaints(scenario: Scenario, place: str, promise: Promise) -> Iterator[str
     if status != scenario.runs[-1].status:
         yield f"the run that goes on ends with status {status}: {replies[-80:]!r}"
     left = got(place)
-    if drafts := [entry.path for entry in left if ".pbook-" in entry.path]:
+    if drafts := [entry.path for entry in left if entry.path.endswith(".pbook")]:
         yield f"drafts are left: {drafts}"
     if status != 0:
         if left != scenario.files:
             yield "a run that was refused has changed files"
         return
+    if read(place, SECOND) != old.get(SECOND):
+        yield "a second name hasn't kept the old ledger at the end"
     links = {entry.path for entry in left if entry.link}
     if not links.issuperset(entry.path for entry in scenario.files if entry.link):
         yield "a link is gone"
@@ -292,13 +301,13 @@ def of_ledgers() -> list[Scenario]:
     run, far, ledger = (Run(TO_LEDGER, lines),), "far/" + LEDGER, HEADER + old
     book = {BOOK: book_of(old)}
     found = files({LEDGER: ledger, **book})
-    second = (*found, Entry("second", found[1].file, ledger))
+    second = (*found, Entry(SECOND, found[1].file, ledger))
     cut = files({LEDGER: without_last_move(ledger), **book})
     return [
         Scenario("ledger", run, found),
         Scenario("new ledger", run, files({LEDGER: b""})),
         Scenario("ledger behind a link", run, files({far: ledger, LEDGER: far, **book})),
-        Scenario("ledger with a second name", (Run(TO_LEDGER, lines, status=3),), second),
+        Scenario("ledger with a second name", run, second),
         Scenario("ledger that was cut", (Run(TO_LEDGER, lines, status=1),), cut)]
 
 
@@ -316,14 +325,16 @@ def of_journals(name: str, options: tuple[str, ...]) -> list[Scenario]:
 
 
 def of_runs_in_a_row() -> list[Scenario]:
-    """Journals that earlier runs have left in the system's memory alone."""
+    """Journals that earlier runs, which were killed before a sync, have left in the system's memory
+    alone."""
     lines, old, _ = examples()
     found = files({JOURNAL: old, BOOK: book_of(old)})
     fails, last = "fsync,fdatasync:error=EIO:when=", Run(SYNCED, lines)
+    first, second = (Run(TO_JOURNAL, some, "fsync,fdatasync:signal=KILL", -9)
+                     for some in (lines[:3], lines[2:5]))
     return [
-        Scenario("journal --sync, after runs without", (
-            Run(TO_JOURNAL, lines[:3]), Run(TO_JOURNAL, lines[2:5]), last), found),
+        Scenario("journal --sync, after runs without", (first, second, last), found),
         Scenario("journal --sync, after a sync that failed", (
             Run(SYNCED, lines[:3], fails + "3", 3), last), found),
         Scenario("journal --sync, after a run without whose bytes the disk has refused", (
-            Run(TO_JOURNAL, lines[:3]), Run(SYNCED, lines[:1], fails + "1", 3), last), found)]
+            first, Run(SYNCED, lines[:1], fails + "1", 3), last), found)]

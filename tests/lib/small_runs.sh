@@ -6,8 +6,6 @@
 cp examples/table.txt "$work/table"
 cp examples/lines.epd "$work/epd"
 cp examples/book.bin "$work/book"
-# Whether BOOK is a file with a second name.
-in_place=false
 start='rnbqkbnr/pppppppp/8/8/8/8/PPPPPPPP/RNBQKBNR w KQkq - 0 1'
 
 # The submissions: two of the first games come again, one of them with a CR; then one is illegal,
@@ -161,13 +159,6 @@ each_run() {
     "$1" 'collect through a link' collected few collect ../table book
     rm "$work/old/book"
     mv "$work/old/linked" "$work/old/book"
-    ln "$work/old/book" "$work/old/linked"
-    # shellcheck disable=SC2034 # the scripts read it
-    in_place=true
-    "$1" 'collect in place' collected few collect ../table book
-    # shellcheck disable=SC2034
-    in_place=false
-    rm "$work/old/linked"
     : > "$work/old/file"
     "$1" 'collect on an empty FILE' collected few collect --ledger file ../table book
     "$1" 'collect on an empty journal' journaled few collect --journal file ../table book
