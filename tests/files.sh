@@ -481,14 +481,11 @@ cut_in_three() {
 }
 
 # An input of an earlier run is taken as it is, where no line of it was refused, and games come
-# again in it. It may have no LF at its end.
+# again in it.
 old_list() {
     with_ledger
     sed 1d first > list
     cat list list > "$ledger"
-    holds collects 0 "$place/list.bin" /dev/null --ledger "$ledger"
-    holds cmp "$ledger" first
-    head -c -1 list > "$ledger"
     holds collects 0 "$place/list.bin" /dev/null --ledger "$ledger"
     holds cmp "$ledger" first
 }
@@ -538,10 +535,10 @@ two_journals() {
     torn_journal two 151 322
     "$PROGRAM" games one.journal two.journal > lines 2> told
     # Two lines of the games were refused, and are in no journal; these tell of them.
-    grep -v "can't be taken" told > cut
-    holds test "$(wc -l < cut)" -eq 2
+    grep -v "can't be taken" told > left_out
+    holds test "$(wc -l < left_out)" -eq 2
     for part in one two; do
-        holds grep -q "^pbook: $part.journal: its last line has no end" cut
+        holds grep -q "^pbook: $part.journal: its last line has no end" left_out
         holds cmp "$part.journal" "$part.before"
     done
     holds collects 0 "$book" lines
@@ -574,22 +571,30 @@ torn_at_full_output() {
     holds not test -e "$book"
 }
 
-# A saved ledger that doesn't end in LF was cut short. Its last line may spell a shorter game.
+# ran_told STATUS COMMAND..: whether the command ends so over the games, and tells one line
+ran_told() {
+    due=$1 status=0
+    shift
+    "$@" < "$work/few" > "$work/replies" 2> "$work/errors" || status=$?
+    [ "$status" -eq "$due" ] && [ "$(wc -l < "$work/errors")" -eq 1 ]
+}
+
+# A last line of FILE without an end is judged like each other line, and told.
 cut_ledger() {
     with_ledger
-    whole=$(wc -c < first)
-    move=$(tail -n 1 first | grep -o ' [^ ]*$' | wc -c)
-    for gone in 1 2 "$move" $((whole - 14)); do
-        head -c $((whole - gone)) first > "$ledger"
-        cp "$ledger" found
-        holds ends 1 "$PROGRAM" collect --ledger "$ledger" "$table" "$book" \
-            < "$work/games" > "$work/replies" 2> "$work/errors"
-        holds says_only "refused ledger line $(awk 'END { print NR }' found)"
-        holds grep -q "^pbook: $ledger: .*cut" "$work/errors"
-        holds cmp "$ledger" found
-        holds is_old "$book"
-        holds no_draft
-    done
+    head -c -1 first > "$ledger"
+    holds ran_told 0 "$PROGRAM" collect --ledger "$ledger" "$table" "$place/new.bin"
+    holds tells "the last line of $ledger has no end; it may be a cut game"
+    cat first "$work/few" > due
+    holds cmp "$ledger" due
+    head -c -3 first > "$ledger"
+    cp "$ledger" cut
+    holds ends 1 "$PROGRAM" collect -q --ledger "$ledger" "$table" "$book" \
+        < "$work/few" > "$work/replies"
+    holds says_only "refused ledger line $(wc -l < first)"
+    holds cmp "$ledger" cut
+    holds is_old "$book"
+    holds no_draft
 }
 
 # What can't be FILE ends the run before a submission is read: what keeps nothing, what isn't there
@@ -692,14 +697,6 @@ first_lines() {
     done
     { head -c 30 /dev/zero && cat "$work/nine"; } > kept
     holds ends 0 "$PROGRAM" collect -q --journal kept "$table" "$book" < /dev/null
-}
-
-# ran_told STATUS COMMAND..: whether the command ends so over the games, and tells one line
-ran_told() {
-    due=$1 status=0
-    shift
-    "$@" < "$work/few" > "$work/replies" 2> "$work/errors" || status=$?
-    [ "$status" -eq "$due" ] && [ "$(wc -l < "$work/errors")" -eq 1 ]
 }
 
 # A disk whose errors come at the sync alone is told of, and no such run ends well.

@@ -260,15 +260,15 @@ failed_locks() {
     done
 }
 
-# one_file CAUSE INPUT OUTPUT WORD..: a run with these words ends with status 3 since two of its
-# files are one, and changes none
+# one_file CAUSE INPUT OUTPUT WORD..: a run with these words ends with status 3 for this cause, since
+# two of its files are one, and changes none
 one_file() {
     cause=$1 input=$2 output=$3 status=0
     shift 3
     all_files > "$work/before"
     "$PROGRAM" collect "$@" < "$input" >> "$output" 2> "$work/errors" || status=$?
     all_files > "$work/after"
-    [ "$status" -eq 3 ] && grep -Eqx "pbook: ($cause) are one file" "$work/errors" &&
+    [ "$status" -eq 3 ] && grep -Eqx "pbook: ($cause)" "$work/errors" &&
         [ "$(wc -l < "$work/errors")" -eq 1 ] && cmp -s "$work/before" "$work/after" && return
     echo "    the status is $status; these are told, and changed:"
     cat "$work/errors"
@@ -276,63 +276,60 @@ one_file() {
     return 1
 }
 
-# TABLE, FILE, BOOK, their drafts, standard input and standard output are different files, by
-# whatever names they go.
+# are_one ONE OTHER INPUT OUTPUT WORD..: so it is for these two names
+are_one() {
+    one=$1 other=$2
+    shift 2
+    one_file "($one and $other|$other and $one) are one file" "$@"
+}
+
+# TABLE, FILE, BOOK, standard input and standard output are different files, by whatever names.
 different_files() {
     cp "$table" table
     cp "$work/new" book.bin
     games_of 1,9 > kept
-    for draft in book.bin kept table; do
-        games_of 1,9 > ".$draft.pbook"
-        ln -s ".$draft.pbook" "draft.$draft"
-    done
+    games=$work/games out=$work/replies
     for file in table kept book.bin; do
         ln "$file" "hard.$file"
         ln -s "$file" "link.$file"
     done
-    games=$work/games out=$work/replies
-    for of in . hard. link.; do
-        at=${of#.}
-        holds one_file ".*table and .*table" "$games" "$out" table "${at}table"
-        holds one_file "/dev/stdin and .*book.bin|.*book.bin and /dev/stdin" "${at}book.bin" "$out" table book.bin
+    for of in '' hard. link.; do
+        holds are_one table "${of}table" "$games" "$out" table "${of}table"
+        holds are_one /dev/stdin book.bin "${of}book.bin" "$out" table book.bin
+        holds are_one table /dev/stdout "$games" "${of}table" table book.bin
         for option in --ledger --journal; do
-            holds one_file ".*table and .*table" "$games" "$out" "$option" "${at}table" table book.bin
-            holds one_file ".*kept and .*kept" "$games" "$out" "$option" kept table "${at}kept"
-            holds one_file ".*kept and /dev/stdin|/dev/stdin and .*kept" "${at}kept" "$out" \
-                "$option" kept table book.bin
-            holds one_file ".*kept and /dev/stdout|/dev/stdout and .*kept" "$games" "${at}kept" \
-                "$option" kept table book.bin
+            holds are_one table "${of}table" "$games" "$out" "$option" "${of}table" table book.bin
+            holds are_one kept "${of}kept" "$games" "$out" "$option" kept table "${of}kept"
+            holds are_one kept /dev/stdin "${of}kept" "$out" "$option" kept table book.bin
+            holds are_one kept /dev/stdout "$games" "${of}kept" "$option" kept table book.bin
         done
     done
-    holds one_file ".*table and /dev/stdout|/dev/stdout and .*table" "$games" table table book.bin
 }
 
-# The draft of BOOK, or of a ledger, is no other file of the run: that would be emptied.
+# The draft of BOOK, or of a ledger, is no other file of the run, which would be emptied.
 different_drafts() {
     with_old
     cp "$table" table
     games_of 1,9 > kept
-    for draft in .book.bin.pbook .kept.pbook; do
-        for file in table kept "$work/games"; do
-            for how in cp 'ln -s' ln; do
-                case "$how $file" in
-                    "ln $work/games") cp "$file" games && file=games ;;
-                    'ln -s kept' | 'ln -s table') file=$place/$file ;;
-                esac
-                rm -f "$draft"
-                $how "$file" "$draft"
-                option='--ledger kept'
-                set -- table
-                input=$work/games output=$work/replies
-                case ${file##*/} in
-                    table) set -- "$draft" ;;
-                    kept) [ "$draft" = .kept.pbook ] && continue || option="--ledger $draft" ;;
-                    games) input=$draft ;;
-                esac
-                # shellcheck disable=SC2086 # each word is one
-                holds one_file '.*pbook and .*|.* and .*pbook' "$input" "$output" $option "$@" book.bin
-            done
-        done
+    cp "$work/games" games
+    for how in cp 'ln -s' ln; do
+        while read -r file draft input output words; do
+            rm -f "$draft"
+            $how "$file" "$draft"
+            # shellcheck disable=SC2086 # each word is one
+            holds one_file '.* and .* are .*' "$input" "$output" $words
+        done << END
+table .book.bin.pbook games $work/replies .book.bin.pbook book.bin
+kept .book.bin.pbook games $work/replies --ledger .book.bin.pbook table book.bin
+kept .book.bin.pbook games $work/replies --journal .book.bin.pbook table book.bin
+games .book.bin.pbook .book.bin.pbook $work/replies table book.bin
+games .book.bin.pbook games .book.bin.pbook table book.bin
+table .kept.pbook games $work/replies --ledger kept .kept.pbook book.bin
+games .kept.pbook .kept.pbook $work/replies --ledger kept table book.bin
+games .kept.pbook games .kept.pbook --ledger kept table book.bin
+book.bin .kept.pbook games $work/replies --ledger kept table .kept.pbook
+END
+        rm .book.bin.pbook .kept.pbook
     done
 }
 
@@ -440,7 +437,7 @@ changed_journals() {
     for option in '' --sync; do
         for how in touched named given; do
             # shellcheck disable=SC2086
-            ! is_root && [ "$how" = given ] || unharmed "$how" --journal games.journal $option
+            if is_root || [ "$how" != given ]; then unharmed "$how" --journal games.journal $option; fi
         done
     done
 }
@@ -508,7 +505,7 @@ changed_ledgers() {
         cd ..
     done
     for how in touched named given; do
-        ! is_root && [ "$how" = given ] || unharmed "$how" --ledger games.ledger
+        if is_root || [ "$how" != given ]; then unharmed "$how" --ledger games.ledger; fi
     done
 }
 
