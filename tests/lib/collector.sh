@@ -107,6 +107,7 @@ in_order() {
 # error is in `told`.
 begin() {
     mkfifo games replies
+    : > told
     "$@" < games > replies 2> told &
     collector=$!
     # A check that fails leaves none behind.
