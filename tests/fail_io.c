@@ -5,21 +5,16 @@
 // order, from the start of this object, which comes after the loader's work and before any function of the program, to its end, which comes after
 // `main`.
 //
-// LOCKS says what becomes of a lock (flock). With `network` it is as over NFS, where a shared lock is for a file alone that is open to be read, and
-// an exclusive one for one that is open to be written: else it fails with EBADF. With a number it fails with that error. No lock is counted.
-//
 // IO_TOLD is a file that is made at the end. It has one line: the number of calls, what the call was that FAIL_AT or SHORT_AT hit (`read`, `write`
 // or `sync`, or `none`), the number of its file, and the name that this file had, without its folder.
 
 #define _GNU_SOURCE
 #include <errno.h>
-#include <fcntl.h>
 #include <stdbool.h>
 #include <stdio.h>
 #include <limits.h>
 #include <stdlib.h>
 #include <string.h>
-#include <sys/file.h>
 #include <sys/syscall.h>
 #include <sys/types.h>
 #include <sys/uio.h>
@@ -138,20 +133,6 @@ ssize_t writev(int file, const struct iovec *parts, int count) {
 
 int fsync(int file) {
     return fate_of(SYNC, file) == FAILS ? -1 : (int)syscall(SYS_fsync, file);
-}
-
-int flock(int file, int how) {
-    const char *locks = getenv("LOCKS");
-    if (locks && strcmp(locks, "network") != 0) {
-        errno = (int)number_in("LOCKS");
-        return -1;
-    }
-    const int unfit = how & LOCK_SH ? O_WRONLY : how & LOCK_EX ? O_RDONLY : -1;
-    if (locks && (fcntl(file, F_GETFL) & O_ACCMODE) == unfit) {
-        errno = EBADF;
-        return -1;
-    }
-    return (int)syscall(SYS_flock, file, how);
 }
 
 int fdatasync(int file) {

@@ -67,17 +67,15 @@ old_book() {
     holds not has_node "$before" "$book"
 }
 
-full_device() {
-    holds collects 3 /dev/full
-    holds not says 'fault open'
-    holds test -c /dev/full
-}
-
 # The reader of a pipe gets all. One that leaves it before the book is written, which doesn't fit
-# into it, ends the run, which has no end of it to read.
+# into it, ends the run, which has no end of it to read. The ledger is kept though the book can't be.
 streams() {
+    with_ledger
     holds collects 0 /dev/null
-    holds test -c /dev/null
+    holds collects 3 /dev/full "$work/games" --ledger "$ledger"
+    holds not says 'fault open'
+    holds test -c /dev/null -a -c /dev/full
+    holds test "$(wc -l < "$ledger")" -eq 301
     mkfifo pipe
     timeout "$patience" cat pipe > piped &
     runner="timeout $patience"
@@ -226,20 +224,14 @@ unreadable() {
     holds no_draft
 }
 
-# with_umask MASK COMMAND..: runs the command, whose new files lack these permissions
-with_umask() (
-    umask "$1"
-    shift
-    "$@"
-)
-
 # A new BOOK has the permissions that its user gives to new files.
 own_umask() {
-    holds with_umask 002 collects 0 "$book"
-    holds has_mode 664 "$book"
-    rm "$book"
-    holds with_umask 077 collects 0 "$book"
-    holds has_mode 600 "$book"
+    for mask in 002 077; do
+        umask "$mask"
+        holds collects 0 "$mask"
+    done
+    holds has_mode 664 002
+    holds has_mode 600 077
 }
 
 # Where no book comes of a run, no draft of one is left.
@@ -248,21 +240,6 @@ no_book_made() {
     table=$place/half
     holds collects 1 "$book"
     holds test "$(find "$place" -type f)" = "$place/half"
-}
-
-# limited COMMAND..: runs the command, whose files may have two kilobytes
-limited() (
-    trap '' XFSZ
-    ulimit -f 4
-    exec "$@"
-)
-
-limit() {
-    with_old
-    runner=limited
-    holds collects 3 "$book"
-    holds is_old "$book"
-    holds no_draft
 }
 
 full_disk() {
@@ -490,17 +467,6 @@ old_list() {
     holds cmp "$ledger" first
 }
 
-broken_ledger() {
-    with_ledger
-    sed -i '5s/.*/no game/' "$ledger"
-    cp "$ledger" first
-    holds collects 1 "$book" "$work/games" --ledger "$ledger"
-    holds says_only 'refused ledger line 5'
-    holds cmp "$ledger" first
-    holds is_old "$book"
-    holds no_draft
-}
-
 # What counts is what the options say, whatever is kept beside the book. Other programs made the
 # book and the export of the first two plies without moves that occur less than three times
 # (docs/TESTING.md says how), and told how many lines the export of such moves has.
@@ -519,30 +485,18 @@ rules() {
     holds cmp "$work/replies" "$work/first.epd"
 }
 
-# torn_journal NAME FIRST LAST: the journal of a collector that took these lines of the games. It
-# was killed twice as it wrote a line, and the first of the two was sealed by a later run.
-torn_journal() {
-    sed -n "$2,$3p" "$work/games" > "$1.journal"
-    printf '%s-torn\t1-0\t%s\ta2a3\t\t\t\t\n%s-torn\t1-0\t%s\ta2a3' \
-        "$1" "$start" "$1" "$start" >> "$1.journal"
-    cp "$1.journal" "$1.before"
-}
-
-# The journals of two collectors make the book of the games that these have answered, also where a
-# torn line stands before a whole one.
+# The journals of two collectors make the book of the games that these have answered. A line that
+# was torn in each is none of them, whether it was sealed or stands at the end.
 two_journals() {
-    torn_journal one 1 150
-    torn_journal two 151 322
-    "$PROGRAM" games one.journal two.journal > lines 2> told
-    # Two lines of the games were refused, and are in no journal; these tell of them.
-    grep -v "can't be taken" told > left_out
-    holds test "$(wc -l < left_out)" -eq 2
-    for part in one two; do
-        holds grep -q "^pbook: $part.journal: its last line has no end" left_out
-        holds cmp "$part.journal" "$part.before"
+    for part in 1,150 151,322; do
+        sed -n "${part}p" "$work/games" > "$part"
+        printf 'torn\t1-0\t%s\ta2a3\t\t\t\t\ntorn\t1-0\t%s\ta2a3' "$start" "$start" >> "$part"
     done
+    "$PROGRAM" games 1,150 151,322 > lines 2> told
+    holds test "$(grep -c '^pbook: .*: its last line has no end; it is left out$' told)" -eq 2
     holds collects 0 "$book" lines
     holds not grep -q '^refused - ' "$work/replies"
+    holds not grep -q torn lines
     holds is_new "$book"
 }
 
@@ -579,22 +533,26 @@ ran_told() {
     [ "$status" -eq "$due" ] && [ "$(wc -l < "$work/errors")" -eq 1 ]
 }
 
-# A last line of FILE without an end is judged like each other line, and told.
-cut_ledger() {
+# A FILE that has a line which is no game stays. The last line is judged like each other one where it
+# has no end, which is told.
+broken_ledger() {
     with_ledger
     head -c -1 first > "$ledger"
     holds ran_told 0 "$PROGRAM" collect --ledger "$ledger" "$table" "$place/new.bin"
     holds tells "the last line of $ledger has no end; it may be a cut game"
     cat first "$work/few" > due
     holds cmp "$ledger" due
-    head -c -3 first > "$ledger"
-    cp "$ledger" cut
-    holds ends 1 "$PROGRAM" collect -q --ledger "$ledger" "$table" "$book" \
-        < "$work/few" > "$work/replies"
-    holds says_only "refused ledger line $(wc -l < first)"
-    holds cmp "$ledger" cut
-    holds is_old "$book"
-    holds no_draft
+    for broken in 'head -c -3' "sed 5s/.*/no/"; do
+        $broken first > "$ledger"
+        cp "$ledger" found
+        holds ends 1 "$PROGRAM" collect -q --ledger "$ledger" "$table" "$book" \
+            < "$work/few" > "$work/replies"
+        [ "$broken" = 'head -c -3' ] && line=$(wc -l < first) || line=5
+        holds says_only "refused ledger line $line"
+        holds cmp "$ledger" found
+        holds is_old "$book"
+        holds no_draft
+    done
 }
 
 # What can't be FILE ends the run before a submission is read: what keeps nothing, what isn't there
@@ -637,17 +595,11 @@ unwritable_files() {
     chmod 755 "$place"
 }
 
-# The ledger is kept though the book can't be.
-ledger_without_book() {
-    with_ledger
-    holds collects 3 /dev/full "$work/games" --ledger "$ledger"
-    holds test "$(wc -l < "$ledger")" -gt "$(wc -l < first)"
-}
-
 # A file that looks like no journal stays as it is.
 no_journal() {
     with_old
     cp "$work/new" book
+    cp "$table" table
     printf '[Event "one game"]\n[Result "1-0"]\n' > pgn
     printf 'two\tTABs\talone\n' > two
     printf 'a\tline\twith\tfour\tTABs\n' > four
@@ -657,7 +609,7 @@ no_journal() {
     head -c 8193 /dev/zero | tr '\0' 'a' > long
     gzip -c < "$work/games" > packed
     ending='1 refused journal line 1'
-    for name in book "$table" pgn two four control escape empty_line long packed; do
+    for name in book table pgn two four control escape empty_line long packed; do
         for option in '' --sync; do
             # shellcheck disable=SC2086 # no option is no word
             holds stops_unread "$name" "$book" --journal "$name" $option
@@ -712,9 +664,8 @@ unsynced_journal() {
 
 if [ $# -eq 0 ]; then
     choose true '' new_book old_book streams standard_output links second_names unmakable \
-        own_umask no_book_made limit games_stay cut_in_three old_list broken_ledger cut_ledger \
-        special_files ledger_without_book first_lines rules two_journals
-    choose 'test -c /dev/full' '/dev/full is wanted' full_device torn_at_full_output
+        own_umask no_book_made games_stay cut_in_three old_list broken_ledger special_files \
+        first_lines rules two_journals torn_at_full_output
     choose 'has flock' 'flock is wanted' live_journal
     choose 'has gzip' 'gzip is wanted' no_journal
     choose can_trace 'strace is wanted' failed_calls unrenamed interrupted unsynced_journal killed

@@ -23,35 +23,29 @@ is_in_use() {
 # whole_ledger GAMES: the FILE of a run that took these games
 whole_ledger() { echo 'pbook-ledger 1' && games_of "$1"; }
 
-held_journal() {
-    : > games.journal
-    begin "$PROGRAM" collect --journal games.journal "$table" "$book"
+# held OPTION: one run at a time has this FILE, by whatever name
+held() {
+    file=games.${1#--}
+    : > "$file"
+    ln -s "$file" "link$1"
+    begin "$PROGRAM" collect "$1" "$file" "$table" "$book"
     holds say 1 "ok $(id_of 1) 1"
-    ln -s games.journal link
-    for name in games.journal link; do holds is_in_use "$name" --journal "$name"; done
-    holds say 2 "ok $(id_of 2) 2"
-    holds end 0
-    games_of 1,2 > whole
-    holds cmp whole games.journal
-    # Nobody holds it any more.
-    holds collects 0 "$book" "$work/games" --journal games.journal
-    holds is_new "$book"
-}
-
-held_ledger() {
-    : > games.ledger
-    begin "$PROGRAM" collect --ledger games.ledger "$table" "$book"
-    holds say 1 "ok $(id_of 1) 1"
-    ln -s games.ledger link
-    for name in games.ledger link; do
-        for option in --ledger --journal; do holds is_in_use "$name" "$option" "$name"; done
+    for name in "$file" "link$1"; do
+        for option in --journal --ledger; do holds is_in_use "$name" "$option" "$name"; done
     done
     holds say 2 "ok $(id_of 2) 2"
     holds end 0
-    whole_ledger 1,2 > whole
-    holds cmp whole games.ledger
-    holds collects 0 "$book" "$work/games" --ledger games.ledger
+    holds cmp "$2" "$file"
+    # Nobody holds it any more.
+    holds collects 0 "$book" "$work/games" "$1" "$file"
     holds is_new "$book"
+}
+
+held_files() {
+    games_of 1,2 > journal.due
+    whole_ledger 1,2 > ledger.due
+    held --journal journal.due
+    held --ledger ledger.due
 }
 
 # is_made NODE: whether FILE is another file than that one by now
@@ -583,7 +577,7 @@ claimed_by_another() {
 }
 
 if [ $# -eq 0 ]; then
-    choose true '' held_journal held_ledger held_new_ledger one_book left_claim read_meanwhile \
+    choose true '' held_files held_new_ledger one_book left_claim read_meanwhile \
         book_is_held different_files different_drafts closed_streams changed_journals \
         changed_ledgers lost_claims claimed_by_another
     choose can_trace 'strace is wanted' replaced_when_opened failed_locks added_meanwhile
