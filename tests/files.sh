@@ -68,7 +68,7 @@ old_book() {
 }
 
 # The reader of a pipe gets all. One that leaves it before the book is written, which doesn't fit
-# into it, ends the run, which has no end of it to read. The ledger is kept though the book can't be.
+# into it, ends the run, which has no end of it to read. The ledger is kept though the book isn't.
 streams() {
     with_ledger
     holds collects 0 /dev/null
@@ -375,7 +375,7 @@ games_stay() {
 # killed_at NUMBER COMMAND..: runs the command, which is killed as it makes the call of this number,
 # of those that open, lock and change files; whether it was
 killed_at() {
-    changing='/^(openat|flock|p?writev?(64)?|ftruncate|fchmod|f(data)?sync|rename|(un)?link)(at2?)?$'
+    changing='/^(open|flock|p?writev?(64)?|ftruncate|fchmod|f(data)?sync|rename|(un)?link)(at)?$'
     number=$1 status=0
     shift
     strace -f -o /dev/null -e "trace=$changing" -e "inject=$changing:signal=SIGKILL:when=$number" \
@@ -533,8 +533,8 @@ ran_told() {
     [ "$status" -eq "$due" ] && [ "$(wc -l < "$work/errors")" -eq 1 ]
 }
 
-# A FILE that has a line which is no game stays. The last line is judged like each other one where it
-# has no end, which is told.
+# A FILE that has a line which is no game stays. The last line is judged like each other one where
+# it has no end, which is told.
 broken_ledger() {
     with_ledger
     head -c -1 first > "$ledger"
@@ -625,8 +625,8 @@ begins_with() {
     for option in '' --sync; do
         status=0
         # shellcheck disable=SC2086 # no option is no word
-        "$PROGRAM" collect --journal kept $option "$table" "$book" < "$work/games" > replies 2> told ||
-            status=$?
+        "$PROGRAM" collect --journal kept $option "$table" "$book" \
+            < "$work/games" > replies 2> told || status=$?
         holds test "$status" -eq 0
         holds test "$(grep -c '^ok ' replies)" -eq 320
         head -c "$(wc -c < begun)" kept > front
@@ -640,7 +640,8 @@ first_lines() {
     for text in '' 'pbook-ledger 1\n' '\t\t\t\n' 'no\tgame\t\there\n' 'torn\t\t\t\t\n'; do
         begins_with "$text"
     done
-    for text in t 'pbook-led' '\000\000\000' 'torn\t1-0\r' "$(head -c 8192 /dev/zero | tr '\0' a)"; do
+    longest=$(head -c 8192 /dev/zero | tr '\0' a)
+    for text in t 'pbook-led' '\000\000\000' 'torn\t1-0\r' "$longest"; do
         begins_with "$text"
         # shellcheck disable=SC2059 # the format is the text
         printf "$text" > kept

@@ -614,8 +614,9 @@ odd_names() {
     prepare
     odd=$(printf 'no\npbook:fake.bin:\033[2Jno\r\t\177')
     cp games "$odd"
-    for words in "show no$odd" "games no$odd" "collect table.txt no$odd/book" "collect no$odd book.bin" \
-        "collect --journal no$odd table.txt book.bin" "export no$odd" "collect table.txt $odd"; do
+    for words in "show no$odd" "games no$odd" "collect table.txt no$odd/book" \
+        "collect no$odd book.bin" "collect --journal no$odd table.txt book.bin" \
+        "collect table.txt $odd"; do
         status=0
         IFS=' '
         # shellcheck disable=SC2086 # each word is one

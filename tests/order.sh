@@ -104,6 +104,8 @@ unsynced_journal() {
     holds of_journal << END
 open games.journal rw
 flock games.journal LOCK_EX
+open games.journal r
+read games.journal
 read games.journal
 write games.journal $(bytes_of 1)
 write replies $(reply_of "ok $(id_of 1) 1")
@@ -149,6 +151,8 @@ repeat_unsynced() {
     holds of_journal << END
 open games.journal rw
 flock games.journal LOCK_EX
+open games.journal r
+read games.journal
 read games.journal
 write replies $(reply_of "ok $(id_of 2) 2")
 fdatasync games.journal
@@ -240,8 +244,8 @@ fsync far
 END
 }
 
-# Before a submission is read FILE and BOOK are held, and their drafts are, which can be read at no
-# time by others who can't read the old files. FILE is made anew before BOOK is.
+# Before a submission is read BOOK is looked at, and FILE and BOOK are held with their drafts, which
+# others who can't read the old files can read at no time. FILE is made anew before BOOK is.
 saved_ledger() {
     with_old
     chmod 600 book.bin
@@ -254,6 +258,7 @@ saved_ledger() {
         "$PROGRAM" collect --ledger games.ledger "$table" book.bin < games
     kept='^(open|flock|ftruncate|fchmod|fdatasync|rename|unlink) \S*(games\.ledger|book)\S*'
     holds in_order calls "$kept|^fsync|^read games$" << END
+open book.bin r
 open games.ledger rw
 flock games.ledger LOCK_EX
 open .games.ledger.pbook new 0100640
