@@ -33,15 +33,7 @@ pub(crate) fn collect<'a>(
         Keeping::Book => "",
         Keeping::Ledger(path) | Keeping::Journal { path, .. } => path,
     };
-    // A line that tells of it would be written into that file.
-    let unwritten = Stop::Fault(Fault::Write);
-    let draft = draft_of(messages.rt, order.book);
-    let draft = draft.as_ref().map_or("", |draft| draft.as_str());
-    for path in [order.table, kept, draft] {
-        keep_apart(messages, &[path, OUTPUT], unwritten)?;
-    }
-    keep_apart(messages, &[order.table, kept, order.book], Stop::NotOpened)?;
-    keep_apart(messages, &[kept, order.book, INPUT], Stop::NotOpened)?;
+    expect_apart(messages, order, kept)?;
     spare_games(messages, order.book)?;
     let mut ends = Ends {
         table: source(messages, order.table)?,
@@ -51,6 +43,18 @@ pub(crate) fn collect<'a>(
     };
     let made = run(messages, order, &mut ends)?;
     Ok(tell_made(&progress, made, order.table, kept, Some(order.book)))
+}
+
+fn expect_apart(messages: Messages<'_>, order: &CollectOrder<'_>, kept: &str) -> Result<(), Stop> {
+    // A line that tells of it would be written into that file.
+    let unwritten = Stop::Fault(Fault::Write);
+    let draft = draft_of(messages.rt, order.book);
+    let draft = draft.as_ref().map_or("", |draft| draft.as_str());
+    for path in [order.table, kept, draft] {
+        keep_apart(messages, &[path, OUTPUT], unwritten)?;
+    }
+    keep_apart(messages, &[order.table, kept, order.book], Stop::NotOpened)?;
+    keep_apart(messages, &[kept, order.book, INPUT], Stop::NotOpened)
 }
 
 /// What can't be opened or held of BOOK is told before a submission is read, and ends the run after
