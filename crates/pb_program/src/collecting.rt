@@ -45,14 +45,18 @@ pub(crate) fn collect<'a>(
     Ok(tell_made(&progress, made, order.table, kept, Some(order.book)))
 }
 
-fn expect_apart(messages: Messages<'_>, order: &CollectOrder<'_>, kept: &str) -> Result<(), Stop> {
+fn expect_apart<'a>(
+    messages: Messages<'a>,
+    order: &CollectOrder<'a>,
+    kept: &'a str,
+) -> Result<(), Stop> {
     // A line that tells of it would be written into that file.
     let unwritten = Stop::Fault(Fault::Write);
-    let draft = draft_of(messages.rt, order.book);
-    let draft = draft.as_ref().map_or("", |draft| draft.as_str());
-    for path in [order.table, kept, draft] {
-        keep_apart(messages, &[path, OUTPUT], unwritten)?;
+    if let Ok(draft) = draft_of(messages.rt, order.book) {
+        keep_apart(messages, &[draft.as_str(), OUTPUT], unwritten)?;
     }
+    keep_apart(messages, &[order.table, OUTPUT], unwritten)?;
+    keep_apart(messages, &[kept, OUTPUT], unwritten)?;
     keep_apart(messages, &[order.table, kept, order.book], Stop::NotOpened)?;
     keep_apart(messages, &[kept, order.book, INPUT], Stop::NotOpened)
 }
