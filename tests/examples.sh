@@ -38,15 +38,25 @@ tells_of() {
 lines_of_pgn() {
     head -n 60 "$work/games" | tr -d '\r' > games
     sed 40q games | as_pgn | pgn-extract -s -Wsan > one.pgn
-    sed 1,40d games | as_pgn | pgn-extract -s -Wsan > two.pgn
+    sed 1,40d games | as_pgn | pgn-extract -s -Wsan > -two.pgn
     # The last line has no end, and no empty line follows it.
     head -c -2 one.pgn > short && mv short one.pgn
-    gzip -c two.pgn > two.pgn.gz
-    holds tells_of 0 'pgn_to_lines.sh: one.pgn: 40 games, 0 left out, 0 cut
-pgn_to_lines.sh: two.pgn.gz: 20 games, 0 left out, 0 cut' \
-        "$shared/pgn_to_lines.sh" w1 one.pgn two.pgn.gz
+    gzip -c -- -two.pgn > two.pgn.gz
     awk -F'\t' -v OFS='\t' '{ $1 = "w1-" NR; print }' games > lines
-    holds cmp printed lines
+    for two in two.pgn.gz -two.pgn; do
+        holds tells_of 0 "pgn_to_lines.sh: one.pgn: 40 games, 0 left out, 0 cut
+pgn_to_lines.sh: $two: 20 games, 0 left out, 0 cut" \
+            "$shared/pgn_to_lines.sh" w1 one.pgn "$two"
+        holds cmp printed lines
+    done
+    # Lines may end in CR LF, and the games want a name.
+    sed 's/$/\r/' one.pgn | pgn-extract -s -Wuci -w 100000 | sed 's/$/\r/' > uci
+    awk -v worker=w1 -f "$shared/submissions.awk" uci > printed
+    head -n 40 lines > due
+    holds cmp printed due
+    holds tells_of 1 'submissions.awk: give the games a name: -v worker=NAME' \
+        awk -f "$shared/submissions.awk" uci
+    holds test ! -s printed
 }
 
 # Of five games the second one isn't legal, and the fourth one has no result.
@@ -73,8 +83,12 @@ bad_pgn() {
 no_pgn() {
     : > empty.pgn
     gzip -c "$shared/games.pgn" | head -c 2000 > cut.pgn.gz
-    holds tells_of 1 "pgn_to_lines.sh: no.pgn can't be read" "$shared/pgn_to_lines.sh" w1 no.pgn
-    holds test ! -s printed
+    mkdir folder
+    for file in no.pgn folder; do
+        holds tells_of 1 "pgn_to_lines.sh: $file can't be read" \
+            "$shared/pgn_to_lines.sh" w1 empty.pgn "$file"
+        holds test ! -s printed
+    done
     holds tells_of 1 "pgn_to_lines.sh: usage: pgn_to_lines.sh NAME FILE.. > lines" \
         "$shared/pgn_to_lines.sh" no.pgn
     holds tells_of 1 'pgn_to_lines.sh: empty.pgn: 0 games, 0 left out, 0 cut
@@ -162,12 +176,15 @@ client_faults() {
     asked=short
     client 1 'pbook: short: a table has 781 lines, and this one 9' "$work/games"
     holds test ! -s printed
+    cat "$table" "$table" > long
+    asked=long
+    client 1 'pbook: long: it is longer than a table' "$work/games"
+    holds test ! -s printed
     # All games are answered, and there is no book.
     asked=$table
     book=$place/no/book.bin
     head -n 9 "$work/games" > games
-    client 3 "pbook: $book can't be made: no such file or directory
-pbook: $book: no such file or directory" games
+    client 3 "pbook: $book: no such file or directory" games
     holds test "$(wc -l < printed)" -eq 9
 }
 
@@ -199,7 +216,12 @@ try:
     first.close()
     sys.exit("the book is told as made")
 except Ended:
-    assert not os.path.exists(book)'
+    assert not os.path.exists(book)
+try:
+    with collector() as second:
+        second.child.kill()
+        raise KeyError
+except KeyError: pass'
     holds python '
 with collector() as again:
     answers = [again.submit(line) for line in lines[100:]]
@@ -290,10 +312,16 @@ nights() {
     # Others may look at the answers, as at any new file.
     holds has_mode 644 srv/replies
     holds test ! -e srv/replies.failed
+    # A folder may have a name like an option's.
+    mv srv ./-srv
+    holds ends 0 in_place "$shared/nightly" -srv
+    mv ./-srv srv
     # Options are handed on: the first plies alone are counted.
     night 0 '' --plies 2 --least 3
     holds cmp srv/book.bin "$top/tests/data/few.bin"
 }
+
+in_place() (cd "$place" && exec "$@")
 
 # A last line without an end isn't taken. The whole game is, a night later.
 cut_night() {
@@ -317,7 +345,7 @@ bad_nights() {
     # Another run holds the ledger.
     exec 7< srv/games.ledger
     flock -n 7
-    night 3 "pbook: games.ledger is in use by another run
+    night 3 "pbook: games.ledger: it is in use by another run
 $failed"
     exec 7<&-
     holds cmp srv/replies before

@@ -5,8 +5,8 @@
 # - Where a call moves one byte, output, status and files are as if it had moved all.
 # - Where a call fails, the status is 3. What is put is a front of what is put else; where a read
 #   failed, it is whole lines and then `fault read`. Only where a text is put because the words
-#   gave no order does the status stay, and where a file that was refused is looked at again, for a
-#   hint of what it is: then the hint is missing, and all else is as due.
+#   gave no order does the status stay, and where a file that was refused, or BOOK, is looked at for
+#   what it is: then a hint is missing, and all else is as due.
 # - BOOK is the old one, or none where there was none; it is the new one only where a sync failed,
 #   that of the folder or of a journal.
 # - The FILE of `--ledger` is the one that is made of the first lines of the submissions, at least
@@ -49,9 +49,13 @@ run_hit() {
     judge_errors
 }
 
-# is_lost_hint: whether the call that failed was to give a hint alone of what a refused file is
+# is_lost_hint: whether the call that failed was to give a hint alone of what a refused file, or
+# BOOK, is
 is_lost_hint() {
-    if [ "$hit $kind $ample_status" != 'FAIL_AT read 1' ] || ! is_same; then return 1; fi
+    case "$hit $kind $ample_status $file_name" in
+        'FAIL_AT read 1 '* | 'FAIL_AT read '*' book' | 'FAIL_AT read '*' linked') is_same || return ;;
+        *) return 1 ;;
+    esac
     sed 's/; it \(looks like\|is\) .*//' "$work/ample.errors" | cmp -s - "$work/errors"
 }
 
@@ -196,7 +200,7 @@ hit_each() {
     while [ "$at" -le "$calls" ]; do
         if is_lost_hint; then
             hints=$((hints + 1))
-            [ "$hints" -eq 1 ] || fails 'more than one read is for a hint'
+            [ "$hints" -le 2 ] || fails 'more than two reads are for a hint'
         else
             judged_as_whole || "$judge" "$@"
         fi

@@ -302,7 +302,7 @@ def of_ledgers() -> list[Scenario]:
     book = {BOOK: book_of(old)}
     found = files({LEDGER: ledger, **book})
     second = (*found, Entry(SECOND, found[1].file, ledger))
-    cut = files({LEDGER: without_last_move(ledger), **book})
+    cut = files({LEDGER: ledger[:-3], **book})
     return [
         Scenario("ledger", run, found),
         Scenario("new ledger", run, files({LEDGER: b""})),
