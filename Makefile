@@ -106,8 +106,8 @@ test-hostile: test-files test-order test-locks test-messages test-memory test-gr
     $(if $(WRONG_PROGRAMS),test-wrong-programs)
 	@sh tests/shellcheck.sh
 
-# Tries what is left of a book's file by full disks, links, missing permissions and runs that are
-# killed.
+# Tries what is left of a book's file by full disks, links, missing permissions, and runs that are
+# killed at each call.
 test-files: build
 	@sh tests/files.sh
 
@@ -115,7 +115,8 @@ test-files: build
 test-order: build
 	@sh tests/order.sh
 
-# Tries runs over one file at a time, files named as drafts of others, and closed standard streams.
+# Tries runs over one file at a time, files that other programs change meanwhile, files named as
+# drafts of others, and closed standard streams.
 test-locks: build
 	@sh tests/locks.sh
 

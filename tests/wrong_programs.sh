@@ -88,7 +88,7 @@ build() {
 checked() {
     mkdir -p "$work/left"
     # ASan, which the program is built with, looks for leaks by a means that strace has taken.
-    PROGRAM=$work/$1 TMPDIR=$work/left ASAN_OPTIONS=detect_leaks=0 GAMES=40 KILLS=20 \
+    PROGRAM=$work/$1 TMPDIR=$work/left ASAN_OPTIONS=detect_leaks=0 \
         sh "tests/$2" ${3+"$3"} > "$work/verdict" 2>&1
 }
 
