@@ -931,8 +931,9 @@ terminal_torn() {
 progress='^pbook: [0-9,]+ lines?, [0-9,]+ games?, [0-9,]+ refused'
 terminal_progress() {
     prepare
-    slowly="for n in 1 2 3 4 5 6; do sed -n \${n}p '$work/games'; sleep 0.5; done"
+    slowly="for n in 1 2 3 4 5 6; do sed -n \${n}p '$work/games'; sleep 1.5; done"
     holds in_terminal "{ $slowly; } | '$PROGRAM' collect table.txt book.bin > replies"
+    slowly="for n in 1 2 3 4 5 6; do sed -n \${n}p '$work/games'; sleep 0.5; done"
     # Each second one, and the one that tells of the book.
     holds test "$(grep -E "$progress" shown | grep -vc 'making the book')" -ge 2
     holds grep -qF 'pbook: 6 lines: 6 ok (6 new' shown
