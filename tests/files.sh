@@ -634,10 +634,11 @@ begins_with() {
     done
 }
 
-# A first line that a kill or a power cut tore, or that was sealed, is a journal's, and so is a
-# line of three TABs. What is sealed now is told.
+# A first line that a kill tore, that has zeros of a power cut, or that was sealed, is a journal's,
+# and so is a line of three TABs. What is sealed now is told.
 first_lines() {
-    for text in '' 'pbook-ledger 1\n' '\t\t\t\n' 'no\tgame\t\there\n' 'torn\t\t\t\t\n'; do
+    for text in '' 'pbook-ledger 1\n' '\t\t\t\n' 'no\tgame\t\there\n' 'torn\t\t\t\t\n' \
+        '\000\000\000 end of a game\n'; do
         begins_with "$text"
     done
     longest=$(head -c 8192 /dev/zero | tr '\0' a)
