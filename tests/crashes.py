@@ -8,8 +8,8 @@ Usage: PROGRAM=program python3 -B tests/crashes.py [--seed N] [--only PATTERN] [
 strace tells the calls of a run. After each call a model of the files (tests/lib/crash_model.py)
 builds states that a kill and a power cut may leave. The book has to be the old or the new one in
 each, and the games are there that FORMATS says: `--journal` keeps what was answered from kills,
-with `--sync` or once the run has ended from power cuts, and `--ledger` from both then. A run goes on,
-to which all lines are sent again. Of some states it meets a second crash. At last the same is
+with `--sync` or once the run has ended from power cuts, and `--ledger` from both then. A run goes
+on, to which all lines are sent again. Of some states it meets a second crash. At last the same is
 judged as if syncs had not been called, and has to be seen to fail. As root, real file systems lose
 what wasn't flushed (tests/lib/crash_disk.py).
 

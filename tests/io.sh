@@ -53,10 +53,10 @@ run_hit() {
 # BOOK, is
 is_lost_hint() {
     case "$hit $kind $ample_status $file_name" in
-        'FAIL_AT read 1 '* | 'FAIL_AT read '*' book' | 'FAIL_AT read '*' linked') is_same || return ;;
+        'FAIL_AT read 1 '* | 'FAIL_AT read '*' book' | 'FAIL_AT read '*' linked') ;;
         *) return 1 ;;
     esac
-    sed 's/; it \(looks like\|is\) .*//' "$work/ample.errors" | cmp -s - "$work/errors"
+    is_same && sed 's/; it \(looks like\|is\) .*//' "$work/ample.errors" | cmp -s - "$work/errors"
 }
 
 # name_of_hit: an expression for the names by which the file may be told that was hit

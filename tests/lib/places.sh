@@ -79,7 +79,7 @@ stops_unread() {
     all_files > "$work/after"
     if says_only "${ending#* }" && cmp -s "$work/unread" "$work/games" && tells_name "$blamed" &&
         cmp -s "$work/before" "$work/after"; then return; fi
-    echo "    this is put, $(wc -c < "$work/unread") bytes of the submissions are left, and changed:"
+    echo "    this is put, $(wc -c < "$work/unread") bytes of the input are left, and changed:"
     head -n 3 "$work/replies" "$work/errors"
     diff "$work/before" "$work/after"
     return 1
