@@ -66,9 +66,8 @@ work_on() {
             script tests/rows.sh
             ;;
         *)
-            # AddressSanitizer looks for leaks by a means that strace has taken. Fewer runs are
-            # killed, over fewer games, than of a proved program.
-            export ASAN_OPTIONS=detect_leaks=0 GAMES=40 KILLS=20
+            # AddressSanitizer looks for leaks by a means that strace has taken.
+            export ASAN_OPTIONS=detect_leaks=0
             script "tests/$1.sh"
             ;;
     esac
