@@ -104,8 +104,6 @@ unsynced_journal() {
     holds of_journal << END
 open games.journal rw
 flock games.journal LOCK_EX
-open games.journal r
-read games.journal
 read games.journal
 write games.journal $(bytes_of 1)
 write replies $(reply_of "ok $(id_of 1) 1")
@@ -151,8 +149,6 @@ repeat_unsynced() {
     holds of_journal << END
 open games.journal rw
 flock games.journal LOCK_EX
-open games.journal r
-read games.journal
 read games.journal
 write replies $(reply_of "ok $(id_of 2) 2")
 fdatasync games.journal
