@@ -24,10 +24,9 @@ pub use code::{code_by, code_of, move_of};
 pub use entry::{ENTRIES_AT_ONCE, Entry, write_entries, write_entry};
 pub use key::key_of;
 pub use key_change::{key_after, key_next};
-pub use pb_fuse::{FuseSink, FuseSource, NeverSource};
 pub use pb_io::{
-    Failed, FromRead, LINE_LIMIT, LineTask, MemSink, MemSource, ReadFault, Sink, Source, ToWrite,
-    take_lines,
+    Failed, FromRead, FuseSink, FuseSource, LINE_LIMIT, LineTask, MemSink, MemSource, NeverSource,
+    ReadFault, Sink, Source, ToWrite, take_lines,
 };
 pub use probing::probe;
 pub use reading::{BookError, read_book};

@@ -1,5 +1,5 @@
 use Rattle.std.proofs.Common.{rules}
-use Rattle.pb_fuse.proofs.fuse_sink.FuseSinkSink.flush.Goals as goal
+use Rattle.pb_io.proofs.fuse_sink.FuseSinkSink.flush.Goals as goal
 
 pub returns-then-self-2-clause-flush : goal.returns-then-self-2-clause-flush
 returns-then-self-2-clause-flush c = search rules

@@ -1,5 +1,5 @@
 use Rattle.std.proofs.Common.{rules}
-use Rattle.pb_fuse.proofs.fuse_sink.FuseSinkSink.put.Goals as goal
+use Rattle.pb_io.proofs.fuse_sink.FuseSinkSink.put.Goals as goal
 
 pub returns-else-self-2-clause-put : goal.returns-else-self-2-clause-put
 returns-else-self-2-clause-put c = search rules

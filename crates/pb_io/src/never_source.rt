@@ -1,10 +1,11 @@
 //! A source that never ends.
 
 ghost use Rattle.std.specs.Prelude.{◌≡◌, None, false};
-ghost use Rattle.pb_fuse.specs.Fuse.{GivesOne};
+ghost use Rattle.pb_io.specs.Fuse.{GivesOne};
 ghost use Rattle.pb_io.specs.Source.{Fill, new_source};
 
-use pb_io::{Failed, FillCounts, History, Source};
+use crate::history::History;
+use crate::source::{Failed, FillCounts, Source};
 
 /// One byte over and over, one at a fill. It never ends and never fails.
 #[derive(Drop)]

@@ -1,10 +1,11 @@
 //! A sink that fails once its fuse blows.
 
 ghost use Rattle.std.specs.Prelude.{◌≡◌, ◌&&◌, [], Some, false, not, true};
-ghost use Rattle.pb_fuse.specs.Fuse.{FuseFlush, FusePut};
+ghost use Rattle.pb_io.specs.Fuse.{FuseFlush, FusePut};
 ghost use Rattle.pb_io.specs.Sink.{Flush, Put, new_sink};
 
-use pb_io::{Failed, MemSink, Sink};
+use crate::sink::{MemSink, Sink};
+use crate::source::Failed;
 use std::alloc::Global;
 
 /// Bytes in memory, of which a given number of puts and flushes pass. The next one fails, and so

@@ -1,10 +1,10 @@
 //! A source that fails once its fuse blows.
 
 ghost use Rattle.std.specs.Prelude.{◌≡◌, ◌≤◌, OnErr, OnOk, Some};
-ghost use Rattle.pb_fuse.specs.Fuse.{FuseFill};
+ghost use Rattle.pb_io.specs.Fuse.{FuseFill};
 ghost use Rattle.pb_io.specs.Source.{Fill, GivesPiece, new_source};
 
-use pb_io::{Failed, FillCounts, MemSource, Source};
+use crate::source::{Failed, FillCounts, MemSource, Source};
 
 /// Bytes in memory, of which a given number of fills pass. The next one fails, and so does each
 /// later one.

@@ -1,5 +1,5 @@
 use Rattle.std.proofs.Common.{rules}
-use Rattle.pb_fuse.proofs.fuse_source.FuseSourceSource.fill.Goals as goal
+use Rattle.pb_io.proofs.fuse_source.FuseSourceSource.fill.Goals as goal
 
 pub returns-then-self-2-clause-fill : goal.returns-then-self-2-clause-fill
 returns-then-self-2-clause-fill c = search rules

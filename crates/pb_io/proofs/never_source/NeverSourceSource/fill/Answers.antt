@@ -1,6 +1,6 @@
 use Rattle.std.proofs.Common.{◌<◌, length, Ok, ap, arith, rules}
 use Rattle.std.proofs.lemmas.List.{drop-set-lt, length-set, take_more_set}
-use Rattle.pb_fuse.proofs.never_source.NeverSourceSource.fill.Goals as goal
+use Rattle.pb_io.proofs.never_source.NeverSourceSource.fill.Goals as goal
 
 pub returns-clause-one : goal.returns-clause-one
 returns-clause-one c =
