@@ -1,15 +1,16 @@
-//! Submissions in, replies out.
+//! Submissions in, new games to a journal, replies out.
 
 ghost use Rattle.std.specs.Prelude.{IfErr, IfOk};
 ghost use Rattle.pb_ledger.specs.Change.{between};
 ghost use Rattle.pb_ledger.specs.Collecting.{CollectsStream, CollectsUntil};
+ghost use Rattle.pb_ledger.specs.Journaling.{Gains, JournalsUntil};
 
-use crate::journaling::{JournalFault, collect_journaled};
+use crate::collector::Collector;
 use crate::totals::Totals;
 use crate::watcher::Watcher;
 use pb_accepted::Ledger;
 pub use pb_io::Fault as CollectFault;
-use pb_io::{NullSink, Sink, Source};
+use pb_io::{NullSink, Sink, Source, take_lines};
 use pb_points::Tally;
 use std::alloc::Global;
 
@@ -33,31 +34,44 @@ pub fn collect<T: Tally, In: Source, Out: Sink>(
     ensures fault { IfErr result (CollectsUntil fills (between In.state source.old source.new)
         (between Out.state sink.old sink.new) (record { old = ledger.old; new = ledger.new })) }
 {
-    collect_watched(alloc, source, sink, ledger, &mut (), fills)
+    let mut no_journal = NullSink::default();
+    collect_journaled(alloc, source, sink, &mut no_journal, ledger, &mut (), fills)
 }
 
-/// Collects as `collect` does, and tells the watcher of each answer.
+/// Collects as `collect` does, and puts the line of each new game on the journal, and hands it on,
+/// before its reply is put: so each game that a reply acknowledges is there, however this ends. The
+/// watcher is told each answer.
 ///
 /// # Errors
 ///
-/// As for `collect`.
-pub fn collect_watched<T: Tally, In: Source, Out: Sink, Watch: Watcher>(
+/// As for `collect`. At `Write` either sink has failed: where it is the journal, a front of the line
+/// of a new game may be there, and the ledger holds that game, which wasn't answered.
+pub fn collect_journaled<T: Tally, In: Source, Out: Sink, Journal: Sink, Watch: Watcher>(
     alloc: Global,
     source: &mut In,
     sink: &mut Out,
+    journal: &mut Journal,
     ledger: &mut Ledger<T>,
     watcher: &mut Watch,
     fills: u32,
 ) -> Result<Totals, CollectFault>
-    ensures ok { IfOk result (CollectsStream fills (between In.state source.old source.new)
-        (between Out.state sink.old sink.new) (record { old = ledger.old; new = ledger.new })) }
-    ensures fault { IfErr result (CollectsUntil fills (between In.state source.old source.new)
-        (between Out.state sink.old sink.new) (record { old = ledger.old; new = ledger.new })) }
+    ensures ok { IfOk result (λ totals. CollectsStream fills
+        (between In.state source.old source.new) (between Out.state sink.old sink.new)
+        (record { old = ledger.old; new = ledger.new }) totals
+        × Gains (between Journal.state journal.old journal.new)
+        (record { old = ledger.old; new = ledger.new })) }
+    ensures fault { IfErr result (JournalsUntil fills (between In.state source.old source.new)
+        (between Out.state sink.old sink.new) (between Journal.state journal.old journal.new)
+        (record { old = ledger.old; new = ledger.new })) }
 {
-    let mut no_journal = NullSink::default();
-    match collect_journaled(alloc, source, sink, &mut no_journal, ledger, watcher, fills) {
-        Ok(totals) => Ok(totals),
-        Err(JournalFault::Lines(fault)) => Err(fault),
-        Err(JournalFault::Journal) => unreachable!(),
-    }
+    let mut collector = Collector {
+        ledger,
+        sink,
+        journal,
+        watcher,
+        totals: Totals::default(),
+    };
+    take_lines(alloc, source, &mut collector, fills)?;
+    collector.sink.flush()?;
+    Ok(collector.totals)
 }

@@ -8,21 +8,16 @@ ghost use Rattle.pb_board.specs.LineEnd.{with_end};
 ghost use Rattle.pb_io.specs.Sink.{Put};
 ghost use Rattle.pb_io.specs.Writes.{Writes};
 ghost use Rattle.pb_io.specs.declared.fault.Fault.TheVariants.{Write};
-ghost use Rattle.pb_ledger.specs.Change.{between};
-ghost use Rattle.pb_ledger.specs.Collecting.{CollectsStream};
-ghost use Rattle.pb_ledger.specs.Collector.{SameLent, with_answer};
-ghost use Rattle.pb_ledger.specs.Journaling.{Gains, JournalsUntil};
-ghost use Rattle.pb_ledger.specs.declared.journaling.JournalFault.TheVariants.{Journal, Lines};
+ghost use Rattle.pb_ledger.specs.Collector.{with_answer};
 
-use crate::journaling::JournalFault;
+use crate::submitting::submit;
 use crate::totals::Totals;
 use crate::watcher::Watcher;
 use pb_accepted::{Accepted, Ledger, Reply};
 use pb_board::without_return;
 use pb_games::Refusal;
-use pb_io::{Failed, LineTask, Sink, Source, put_pieces, take_lines};
+use pb_io::{Failed, Fault, LineTask, Sink, put_pieces};
 use pb_points::Tally;
-use std::alloc::Global;
 
 /// Puts the lines of new games on a journal, and only then their replies.
 #[derive(Drop)]
@@ -35,13 +30,13 @@ pub(crate) struct Collector<'l, 's, 'j, 'w, T: Tally, K, J, W> {
 }
 
 impl<T: Tally, K: Sink, J: Sink, W: Watcher> Collector<'_, '_, '_, '_, T, K, J, W> {
-    fn reply(&mut self, line: &[u8], answer: Result<Accepted, Refusal>) -> Result<(), JournalFault>
+    fn reply(&mut self, line: &[u8], answer: Result<Accepted, Refusal>) -> Result<(), Fault>
         requires { length (named line.now (answer_of answer)) ≤ 64 }
         ensures counted { self.new.totals ≡ with_answer self.old.totals (answer_of answer)
             (says_new answer) }
         ensures put { Put (K.state self.old.sink.now) (K.state self.new.sink.now) result
             (reply_line line.now (answer_of answer)) }
-        ensures stops { IfErr result (λ e. e ≡ Lines Write) }
+        ensures stops { IfErr result (λ e. e ≡ Write) }
         ensures sink { self.new.sink.ghost_name ≡ self.old.sink.ghost_name }
         ensures same { (self.new.ledger ≡ self.old.ledger) × (self.new.journal ≡ self.old.journal) }
     {
@@ -54,47 +49,20 @@ impl<T: Tally, K: Sink, J: Sink, W: Watcher> Collector<'_, '_, '_, '_, T, K, J, 
 }
 
 impl<T: Tally, K: Sink, J: Sink, W: Watcher> LineTask for Collector<'_, '_, '_, '_, T, K, J, W> {
-    type Stop = JournalFault;
+    type Stop = Fault;
 
+    ghost use Rattle.pb_io.specs.LineTask.{either};
     ghost use Rattle.pb_ledger.specs.Collector.{CollectsLine};
 
-    ghost takes = { CollectsLine K.state J.state };
+    ghost takes = { either (CollectsLine K.state J.state) };
 
-    fn take(&mut self, line: &[u8]) -> Result<(), JournalFault> {
-        let answer = self.ledger.submit_full(line);
+    fn take(&mut self, line: Option<&[u8]>, _is_ended: bool) -> Result<(), Fault> {
+        let answer = submit(self.ledger, line);
+        let line = line.unwrap_or(b"");
         if brings_game(answer) {
-            journal_line(self.journal, line)?;
+            write_line(self.journal, line)?;
         }
         self.reply(line, answer)
-    }
-
-    fn take_long(&mut self) -> Result<(), JournalFault> {
-        self.reply(b"", Err(Refusal::Long))
-    }
-}
-
-impl<T: Tally, K: Sink, J: Sink, W: Watcher> Collector<'_, '_, '_, '_, T, K, J, W> {
-    pub(crate) fn take_all<S: Source>(
-        &mut self,
-        alloc: Global,
-        source: &mut S,
-        fills: u32,
-    ) -> Result<(), JournalFault>
-        requires { self.old.totals ≡ record { lines = 0; new = 0; repeats = 0; refused = 0 } }
-        ensures ok { OnOk result (CollectsStream fills (between S.state source.old source.new)
-            (between K.state self.old.sink.now self.new.sink.now)
-            (record { old = self.old.ledger.now; new = self.new.ledger.now }) self.new.totals
-            × Gains (between J.state self.old.journal.now self.new.journal.now)
-            (record { old = self.old.ledger.now; new = self.new.ledger.now })) }
-        ensures err { IfErr result (JournalsUntil fills (between S.state source.old source.new)
-            (between K.state self.old.sink.now self.new.sink.now)
-            (between J.state self.old.journal.now self.new.journal.now)
-            (record { old = self.old.ledger.now; new = self.new.ledger.now })) }
-        ensures same { SameLent self.old self.new }
-    {
-        take_lines(alloc, source, self, fills)?;
-        self.sink.flush()?;
-        Ok(())
     }
 }
 
@@ -105,17 +73,6 @@ fn brings_game(answer: Result<Accepted, Refusal>) -> bool
 }
 
 /// The line is the game's one text, but for a CR at its end.
-fn journal_line<J: Sink>(journal: &mut J, line: &[u8]) -> Result<(), JournalFault>
-    ensures written { Writes (J.state journal.old) (J.state journal.new) result
-        (with_end (strip_carriage_return line.now)) }
-    ensures stops { IfErr result (λ e. e ≡ Journal) }
-{
-    match write_line(journal, line) {
-        Ok(()) => Ok(()),
-        Err(_) => Err(JournalFault::Journal),
-    }
-}
-
 fn write_line<J: Sink>(journal: &mut J, line: &[u8]) -> Result<(), Failed>
     ensures { Writes (J.state journal.old) (J.state journal.new) result
         (with_end (strip_carriage_return line.now)) }

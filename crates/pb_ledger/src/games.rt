@@ -4,12 +4,11 @@ ghost use Rattle.std.specs.Prelude.{◌≡◌, ◌≤◌, IfErr, IfOk, length};
 ghost use Rattle.pb_io.specs.Lines.{line_limit};
 ghost use Rattle.pb_ledger.specs.Change.{between};
 ghost use Rattle.pb_ledger.specs.Games.{PicksAll, PicksUntil, has_shape};
-ghost use Rattle.pb_ledger.specs.Picker.{PutsAll};
 
 use crate::collector::put_line;
 use crate::watcher::{Watcher, tell_skipped};
 use pb_board::without_return;
-use pb_io::{Fault, LineTask, Sink, Source, take_ended_lines};
+use pb_io::{Fault, LineTask, Sink, Source, take_lines};
 use std::alloc::Global;
 
 /// Puts the lines that have the shape of a submission, and counts all lines.
@@ -18,6 +17,7 @@ struct Picker<'s, 'w, K: Sink, W: Watcher> {
     sink: &'s mut K,
     watcher: &'w mut W,
     lines: u64,
+    is_torn: bool,
 }
 
 impl<K: Sink, W: Watcher> LineTask for Picker<'_, '_, K, W> {
@@ -27,19 +27,16 @@ impl<K: Sink, W: Watcher> LineTask for Picker<'_, '_, K, W> {
 
     ghost takes = { PicksLine K.state };
 
-    fn take(&mut self, line: &[u8]) -> Result<(), Fault> {
-        self.lines = self.lines.saturating_add(1);
-        if !may_be_game(line) {
-            tell_skipped(self.watcher, self.lines, line);
+    fn take(&mut self, line: Option<&[u8]>, is_ended: bool) -> Result<(), Fault> {
+        self.is_torn = !is_ended;
+        if self.is_torn {
             return Ok(());
         }
-        put_line(self.sink, line)?;
-        Ok(())
-    }
-
-    fn take_long(&mut self) -> Result<(), Fault> {
         self.lines = self.lines.saturating_add(1);
-        self.watcher.skipped(self.lines);
+        match line {
+            Some(line) if may_be_game(line) => put_line(self.sink, line)?,
+            _ => tell_skipped(self.watcher, self.lines, line.unwrap_or(b"")),
+        }
         Ok(())
     }
 }
@@ -78,27 +75,13 @@ pub fn pick_games<In: Source, Out: Sink, Watch: Watcher>(
     ensures fault { IfErr result (PicksUntil fills (between In.state source.old source.new)
         (between Out.state sink.old sink.new)) }
 {
-    let is_torn = put_games(alloc, source, sink, watcher, fills)?;
-    sink.flush()?;
-    Ok(is_torn)
-}
-
-fn put_games<In: Source, Out: Sink, Watch: Watcher>(
-    alloc: Global,
-    source: &mut In,
-    sink: &mut Out,
-    watcher: &mut Watch,
-    fills: u32,
-) -> Result<bool, Fault>
-    ensures ok { IfOk result (PutsAll fills (between In.state source.old source.new)
-        (between Out.state sink.old sink.new)) }
-    ensures fault { IfErr result (PicksUntil fills (between In.state source.old source.new)
-        (between Out.state sink.old sink.new)) }
-{
     let mut picker = Picker {
         sink,
         watcher,
         lines: 0,
+        is_torn: false,
     };
-    take_ended_lines(alloc, source, &mut picker, fills)
+    take_lines(alloc, source, &mut picker, fills)?;
+    picker.sink.flush()?;
+    Ok(picker.is_torn)
 }

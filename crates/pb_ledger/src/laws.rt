@@ -8,11 +8,9 @@ ghost use Rattle.pb_ledger.specs.GamesLaws.{SavedGamesArePicked, TornAddsNoGame}
 ghost use Rattle.pb_ledger.specs.JournalLaws.{JournalGoesOn, JournalGrows, JournalIsOne};
 ghost use Rattle.pb_ledger.specs.JournalLaws.{JournalMayTear, JournalMendingMayTear};
 ghost use Rattle.pb_ledger.specs.SavedLaws.{ContinuedIsOneRun, SavedComesBack, SavedLoads};
-ghost use Rattle.pb_ledger.specs.declared.journaling.JournalFault.{JournalFault};
 ghost use Rattle.pb_ledger.specs.declared.loading.LoadError.{LoadError};
 ghost use Rattle.pb_ledger.specs.declared.totals.Totals.{Totals};
 
-use crate::journaling::JournalFault;
 use crate::loading::LoadError;
 use crate::totals::Totals;
 pub use pb_accepted::laws::{
@@ -56,10 +54,8 @@ pub fn picked()
     ensures mended { MendingAddsNoGame }
 {}
 
-/// Totals, faults of journaling and errors of loading are equal exactly where they are one value.
+/// Totals and errors of loading are equal exactly where they are one value.
 pub fn equal_values()
     ensures totals { (a b : Totals) → Decides (⟦<Totals as PartialEq>⟧.eq a b) (a ≡ b) }
-    ensures journal { (e f : JournalFault) → Decides (⟦<JournalFault as PartialEq>⟧.eq e f)
-        (e ≡ f) }
     ensures load { (e f : LoadError) → Decides (⟦<LoadError as PartialEq>⟧.eq e f) (e ≡ f) }
 {}

@@ -13,18 +13,17 @@ mod booking;
 mod collecting;
 mod collector;
 mod games;
-mod journaling;
 pub mod laws;
 mod loading;
 mod replaying;
 mod saving;
+mod submitting;
 mod totals;
 mod watcher;
 
 pub use booking::{WriteFault, save_book};
-pub use collecting::{CollectFault, collect, collect_watched};
+pub use collecting::{CollectFault, collect, collect_journaled};
 pub use games::pick_games;
-pub use journaling::{JournalFault, collect_journaled};
 pub use loading::{LoadError, load};
 pub use pb_accepted::{
     Accepted, Game, Id, Ledger, Line, ListTally, MAX_CAP, MAX_LEAST, MAX_PLIES, MapTally, MoveList,

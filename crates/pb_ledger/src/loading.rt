@@ -3,11 +3,12 @@
 ghost use Rattle.std.specs.Prelude.{◌≡◌, [], IfErr, IfOk, length};
 ghost use Rattle.pb_io.specs.LineTask.{AtEnd};
 ghost use Rattle.pb_ledger.specs.Change.{across, between};
-ghost use Rattle.pb_ledger.specs.Loader.{Submits, error_at, load_error};
+ghost use Rattle.pb_ledger.specs.Loader.{load_error};
 ghost use Rattle.pb_ledger.specs.Loading.{Loads, LoadsUntil};
 ghost use Rattle.pb_ledger.specs.Making.{Makes};
 
 use crate::saving::HEADER;
+use crate::submitting::submit;
 use pb_accepted::Ledger;
 use pb_board::without_return;
 use pb_games::Refusal;
@@ -47,54 +48,33 @@ impl From<ReadFault> for LoadError {
 }
 
 #[derive(Drop)]
-pub(crate) struct Loader<'l, T: Tally> {
-    pub(crate) ledger: &'l mut Ledger<T>,
-    pub(crate) lines: u64,
+struct Loader<'l, T: Tally> {
+    ledger: &'l mut Ledger<T>,
+    lines: u64,
     /// Whether the first line was the header.
-    pub(crate) is_saved: bool,
-}
-
-impl<T: Tally> Loader<'_, T> {
-    fn submit(&mut self, line: &[u8]) -> Result<(), LoadError>
-        ensures { Submits self.old line.now result self.new }
-    {
-        match self.ledger.submit_full(line) {
-            Ok(accepted) if self.is_saved && !accepted.is_new => Err(LoadError::Line(self.lines)),
-            Ok(_) => Ok(()),
-            Err(refusal) => Err(refused_at(self.lines, refusal)),
-        }
-    }
+    is_saved: bool,
 }
 
 impl<T: Tally> LineTask for Loader<'_, T> {
     type Stop = LoadError;
 
+    ghost use Rattle.pb_io.specs.LineTask.{either};
     ghost use Rattle.pb_ledger.specs.Loader.{LoadsLine};
 
-    ghost takes = { LoadsLine };
+    ghost takes = { either LoadsLine };
 
-    fn take(&mut self, line: &[u8]) -> Result<(), LoadError> {
+    fn take(&mut self, line: Option<&[u8]>, _is_ended: bool) -> Result<(), LoadError> {
         let is_first = self.lines == 0;
         self.lines = self.lines.saturating_add(1);
-        if is_first && without_return(line) == HEADER {
+        if is_first && line.is_some_and(|line| without_return(line) == HEADER) {
             self.is_saved = true;
             return Ok(());
         }
-        self.submit(line)
-    }
-
-    fn take_long(&mut self) -> Result<(), LoadError> {
-        self.lines = self.lines.saturating_add(1);
-        Err(LoadError::Line(self.lines))
-    }
-}
-
-fn refused_at(number: u64, refusal: Refusal) -> LoadError
-    ensures { result ≡ error_at number refusal }
-{
-    match refusal {
-        Refusal::Memory => LoadError::Memory,
-        _ => LoadError::Line(number),
+        match submit(self.ledger, line) {
+            Ok(accepted) if accepted.is_new || !self.is_saved => Ok(()),
+            Err(Refusal::Memory) => Err(LoadError::Memory),
+            _ => Err(LoadError::Line(self.lines)),
+        }
     }
 }
 

@@ -1,16 +1,14 @@
 //! A ledger from the lines of a journal.
 
-ghost use Rattle.std.specs.Prelude.{◌≡◌, [], Err, IfErr, OnOk};
-ghost use Rattle.pb_io.specs.Writes.{Writes};
+ghost use Rattle.std.specs.Prelude.{◌≡◌, [], IfErr, OnOk};
 ghost use Rattle.pb_ledger.specs.Change.{between};
-ghost use Rattle.pb_ledger.specs.Journal.{seal};
-ghost use Rattle.pb_ledger.specs.Replayer.{Stops};
 ghost use Rattle.pb_ledger.specs.Replaying.{ReplaysAll, ReplaysUntil};
 
+use crate::submitting::submit;
 use crate::watcher::{Watcher, tell_skipped};
 use pb_accepted::Ledger;
 use pb_games::Refusal;
-use pb_io::{Failed, Fault, LineTask, Sink, Source, take_ended_lines};
+use pb_io::{Fault, LineTask, Sink, Source, take_lines};
 use pb_points::Tally;
 use std::alloc::Global;
 
@@ -22,21 +20,7 @@ struct Replayer<'l, T: Tally, W: Watcher> {
     ledger: &'l mut Ledger<T>,
     watcher: &'l mut W,
     lines: u64,
-}
-
-impl<T: Tally, W: Watcher> Replayer<'_, T, W> {
-    /// Passes over a line whose refusal changed nothing; where memory was wanting, it can't be
-    /// skipped.
-    fn pass_over(&mut self, line: &[u8], refusal: Refusal) -> Result<(), Fault>
-        ensures ledger { self.new.ledger ≡ self.old.ledger }
-        ensures stops { Stops (Err refusal) result }
-    {
-        if refusal == Refusal::Memory {
-            return Err(Fault::Memory);
-        }
-        tell_skipped(self.watcher, self.lines, line);
-        Ok(())
-    }
+    is_torn: bool,
 }
 
 impl<T: Tally, W: Watcher> LineTask for Replayer<'_, T, W> {
@@ -46,18 +30,21 @@ impl<T: Tally, W: Watcher> LineTask for Replayer<'_, T, W> {
 
     ghost takes = { ReplaysLine };
 
-    fn take(&mut self, line: &[u8]) -> Result<(), Fault> {
-        self.lines = self.lines.saturating_add(1);
-        match self.ledger.submit(line) {
-            Ok(_) => Ok(()),
-            Err(refusal) => self.pass_over(line, refusal),
+    fn take(&mut self, line: Option<&[u8]>, is_ended: bool) -> Result<(), Fault> {
+        self.is_torn = !is_ended;
+        if self.is_torn {
+            return Ok(());
         }
-    }
-
-    fn take_long(&mut self) -> Result<(), Fault> {
         self.lines = self.lines.saturating_add(1);
-        self.watcher.skipped(self.lines);
-        Ok(())
+        match submit(self.ledger, line) {
+            Ok(_) => Ok(()),
+            // The game was answered `ok` once, and can't be skipped.
+            Err(Refusal::Memory) => Err(Fault::Memory),
+            Err(_) => {
+                tell_skipped(self.watcher, self.lines, line.unwrap_or(b""));
+                Ok(())
+            }
+        }
     }
 }
 
@@ -94,17 +81,12 @@ pub fn replay<T: Tally, In: Source, Journal: Sink, Watch: Watcher>(
         ledger,
         watcher,
         lines: 0,
+        is_torn: false,
     };
-    let is_torn = take_ended_lines(alloc, source, &mut replayer, fills)?;
-    if is_torn {
-        put_seal(journal)?;
+    take_lines(alloc, source, &mut replayer, fills)?;
+    if replayer.is_torn {
+        journal.put(SEAL)?;
+        journal.flush()?;
     }
     Ok(())
-}
-
-fn put_seal<J: Sink>(journal: &mut J) -> Result<(), Failed>
-    ensures { Writes (J.state journal.old) (J.state journal.new) result seal }
-{
-    journal.put(SEAL)?;
-    journal.flush()
 }

@@ -1,0 +1,27 @@
+//! A line of a stream as a submission.
+
+ghost use Rattle.std.specs.Prelude.{◌≡◌, List, length, nat_lt, ℕ};
+ghost use Rattle.pb_accepted.specs.Accepting.{Step, answer_of, says_new};
+ghost use Rattle.pb_io.specs.Lines.{IsLine};
+
+use pb_accepted::{Accepted, Ledger};
+use pb_games::Refusal;
+use pb_points::Tally;
+
+/// Submits a line of a stream, of which nothing is known where it is too long.
+pub(crate) fn submit<T: Tally>(
+    ledger: &mut Ledger<T>,
+    line: Option<&[u8]>,
+) -> Result<Accepted, Refusal>
+    ensures step { (whole : List ℕ) → IsLine line.entry whole
+        → Step ledger.old.cap ledger.old.accepted whole (answer_of result) ledger.new.accepted }
+    ensures new { says_new result ≡ nat_lt (length ledger.old.accepted)
+        (length ledger.new.accepted) }
+    ensures basis { ledger.new.basis ≡ ledger.old.basis }
+    ensures cap { ledger.new.cap ≡ ledger.old.cap }
+{
+    match line {
+        Some(line) => ledger.submit_full(line),
+        None => Err(Refusal::Long),
+    }
+}
