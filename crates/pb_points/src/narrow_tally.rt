@@ -119,7 +119,8 @@ impl NarrowTally {
         Ok(())
     }
 
-    /// Leaves one row for each key and code, and makes room for as many blocks again.
+    /// Leaves one row for each key and code, and makes room for three times as many blocks more:
+    /// room for as many alone costs 200,000 games a fifth of the time.
     fn add_up(&mut self) -> Result<(), AllocError>
         ensures { HoldsSame (all_of self.old.rows self.old.wide)
             (all_of self.new.rows self.new.wide) }
@@ -127,7 +128,7 @@ impl NarrowTally {
         let sums = self.sums(self.alloc)?;
         let mut narrowed = narrow(self.alloc, &sums)?;
         let many = narrowed.rows.full.len();
-        narrowed.rows.full.reserve(many)?;
+        narrowed.rows.full.reserve(many.saturating_mul(3))?;
         let before = sums.len() - narrowed.rows.last.len();
         reserve_wide(
             self.alloc,
