@@ -1,12 +1,12 @@
 //! The draft of a file that is to be made anew.
 
 ghost use Rattle.std.specs.Prelude.{◌≡◌, IfErr, IfOk};
-ghost use Rattle.pb_collecting.specs.declared.store.StoreError.TheVariants.{Write};
+ghost use Rattle.pb_commands.specs.declared.store.StoreError.TheVariants.{Write};
 ghost use Rattle.pb_files.specs.Ends.{IsSynced};
 
 use crate::holding::{hold, is_same, sync_folder};
 use crate::system_file::SystemFile;
-use pb_collecting::StoreError;
+use pb_commands::StoreError;
 use pb_messages::{Cause, Message, Named};
 use std::fs::{self, File, OpenOptions};
 use std::io::{self, ErrorKind, Seek};

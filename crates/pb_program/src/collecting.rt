@@ -6,8 +6,8 @@ ghost use Rattle.pb_program.specs.Ordered.{IsLedgerPath, is_synced};
 
 use crate::command::{FileSource, input, source};
 use crate::ordered;
-use crate::outcome::{spare_games, tell_made};
-use pb_cli::{CollectOrder, Ends, Keeping, LedgerEnds, LoadError, Made, Unread, Watcher};
+use crate::outcome::{path_of, spare_games};
+use pb_cli::{CollectOrder, Ends, Keeping, LedgerEnds, LoadError, Refused, Report, Watcher};
 use pb_files::{
     KeptFile, Replies, SYNCED, Stop, Submissions, WRITTEN, draft_of, keep_apart, open_journal,
 };
@@ -29,10 +29,7 @@ pub(crate) fn collect<'a>(
 ) -> Result<bool, Stop> {
     let output = RefCell::new(output);
     let progress = Progress::new(messages, true);
-    let kept = match order.kept {
-        Keeping::Book => "",
-        Keeping::Ledger(path) | Keeping::Journal { path, .. } => path,
-    };
+    let kept = path_of(order.kept);
     expect_apart(messages, order, kept)?;
     spare_games(messages, order.book)?;
     let mut ends = Ends {
@@ -41,8 +38,9 @@ pub(crate) fn collect<'a>(
         replies: ToWrite::new(Replies(&output)),
         watcher: Watching::new(&progress, kept),
     };
-    let made = run(messages, order, &mut ends)?;
-    Ok(tell_made(&progress, made, order.table, kept, Some(order.book)))
+    let report = run(messages, order, &mut ends)?;
+    progress.end(report.totals, Some((order.book, report.entries)));
+    Ok(true)
 }
 
 fn expect_apart<'a>(
@@ -67,7 +65,7 @@ fn run<'a>(
     messages: Messages<'a>,
     order: &CollectOrder<'a>,
     ends: &mut Ends<FileSource<'a>, impl Source, impl Sink, impl Watcher>,
-) -> Result<Made, Stop> {
+) -> Result<Report, Stop> {
     match order.kept {
         Keeping::Book => {
             let mut book = KeptFile::new(Named::new(messages, order.book), false);
@@ -90,7 +88,7 @@ fn go_on<'a>(
     named: Named<'a>,
     order: &CollectOrder<'a>,
     ends: &mut Ends<FileSource<'a>, impl Source, impl Sink, impl Watcher>,
-) -> Result<Made, Stop>
+) -> Result<Report, Stop>
     requires { IsLedgerPath order.now.kept named.name.now }
 {
     let store = KeptFile::new(named, true);
@@ -107,7 +105,7 @@ fn add_games<'a, const MODE: u8>(
     named: Named<'a>,
     order: &CollectOrder<'a>,
     ends: &mut Ends<FileSource<'a>, impl Source, impl Sink, impl Watcher>,
-) -> Result<Made, Stop>
+) -> Result<Report, Stop>
     requires { syncs MODE ≡ is_synced order.now.kept }
 {
     let Some(mut journal) = open_journal::<MODE>(named)? else {
@@ -115,11 +113,11 @@ fn add_games<'a, const MODE: u8>(
             .put(b"refused journal line 1\n")
             .map_err(Fault::from)?;
         ends.replies.flush().map_err(Fault::from)?;
-        return Ok(Made::Unread(Unread::Ledger(LoadError::Line(1))));
+        return Err(Stop::Refused(Refused::Ledger(LoadError::Line(1))));
     };
     let mut book = KeptFile::new(Named::new(named.messages, order.book), false);
     let alloc = named.messages.rt.alloc();
-    let made = ordered::journal(alloc, order, ends, &mut journal, &mut book)?;
+    let report = ordered::journal(alloc, order, ends, &mut journal, &mut book)?;
     journal.journal.settle()?;
-    Ok(made)
+    Ok(report)
 }

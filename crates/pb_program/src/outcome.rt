@@ -1,8 +1,8 @@
-//! What became of a command, and why its files, its record or its moves are refused.
+//! Why the files, the record or the moves of a command are refused.
 
-use pb_cli::{Answer, Made, Refused, Unread};
+use pb_cli::{CollectOrder, ExportOrder, Keeping, Order, Refused};
 use pb_files::Stop;
-use pb_messages::{Looks, Message, Messages, Progress, looks_of};
+use pb_messages::{Looks, Message, Messages, looks_of};
 use std::fmt::Display;
 use std::fs::{self, File};
 use std::io::Read;
@@ -10,39 +10,33 @@ use std::io::Read;
 /// In bytes, of a file that is refused or replaced.
 const LOOKED_AT: usize = 512;
 
-/// Answers whether all was taken. A line that is refused is an answer.
-pub(crate) fn tell_answer(messages: Messages<'_>, table: &str, book: &str, answer: Answer) -> bool {
-    if let Answer::Refused(why) = answer {
-        match why {
-            Refused::Table(_) => tell_file(messages, Due::Table, table, &why),
-            Refused::Book(_) => tell_file(messages, Due::Book, book, &why),
-            _ => messages.tell(&why),
+/// Tells why an input of an order is refused.
+pub(crate) fn tell_refused(messages: Messages<'_>, order: &Order<'_>, why: &Refused) {
+    match (why, order) {
+        (
+            Refused::Table(_),
+            Order::Probe { table, .. }
+            | Order::Lookup { table, .. }
+            | Order::Collect(CollectOrder { table, .. })
+            | Order::Export(ExportOrder { table, .. }),
+        ) => tell_file(messages, Due::Table, table, why),
+        (
+            Refused::Book(_),
+            Order::Show { book } | Order::Probe { book, .. } | Order::Lookup { book, .. },
+        ) => tell_file(messages, Due::Book, book, why),
+        (Refused::Ledger(_), Order::Collect(order)) => {
+            tell_file(messages, Due::Games, path_of(order.kept), why);
         }
+        _ => messages.tell(why),
     }
-    answer.is_taken()
 }
 
-/// Tells what a run has made, or why it read no submission.
-pub(crate) fn tell_made(
-    progress: &Progress<'_>,
-    made: Made,
-    table: &str,
-    ledger: &str,
-    book: Option<&str>,
-) -> bool {
-    let messages = progress.messages;
-    let why = match made {
-        Made::Unread(why) => why,
-        Made::Book(report) => {
-            progress.end(report.totals, book.map(|book| (book, report.entries)));
-            return true;
-        }
-    };
-    match why {
-        Unread::Table(_) => tell_file(messages, Due::Table, table, &why),
-        Unread::Ledger(_) => tell_file(messages, Due::Games, ledger, &why),
+/// Gives the path of the games that are kept beside a book, or an empty one.
+pub(crate) fn path_of(kept: Keeping<'_>) -> &str {
+    match kept {
+        Keeping::Book => "",
+        Keeping::Ledger(path) | Keeping::Journal { path, .. } => path,
     }
-    false
 }
 
 /// What a file has to look like.

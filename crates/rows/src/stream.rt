@@ -24,8 +24,8 @@ pub fn answer(page: &mut Page, call: &[&str]) -> Done {
     Ok(())
 }
 
-/// Writes each line down with a bar after it, and a star for a long one. The line `stop` stops it,
-/// as a sink would that fails.
+/// Writes each line down, or a star for a long one, and a bar where an LF ended it. The line `stop`
+/// stops it, as a sink would that fails.
 #[derive(Drop)]
 struct Barred {
     text: Vec<u8>,
@@ -34,19 +34,17 @@ struct Barred {
 impl LineTask for Barred {
     type Stop = Fault;
 
-    ghost takes = { λ _ _ _ _. ⊤ };
+    ghost takes = { λ _ _ _ _ _. ⊤ };
 
-    fn take(&mut self, line: &[u8]) -> Result<(), Fault> {
+    fn take(&mut self, line: Option<&[u8]>, is_ended: bool) -> Result<(), Fault> {
+        let line = line.unwrap_or(b"*");
         if line == b"stop".as_slice() {
             return Err(Fault::Write);
         }
         self.text.extend_from_slice(line)?;
-        self.text.extend_from_slice(b"|")?;
-        Ok(())
-    }
-
-    fn take_long(&mut self) -> Result<(), Fault> {
-        self.text.extend_from_slice(b"*|")?;
+        if is_ended {
+            self.text.extend_from_slice(b"|")?;
+        }
         Ok(())
     }
 }

@@ -8,11 +8,10 @@ use crate::command::tell_next;
 use crate::ends::{Output, fills_in, is_told, rules_in};
 use crate::game::stream_of;
 use crate::mem_store::MemStore;
-use pb_collecting::{
-    Accepted, Continued, Ends, JournalEnds, LedgerEnds, Made, NoBook, Refusal, StoreError, Watcher,
-    collect_into, continue_into, journal_into, run_collect, run_continue,
+use pb_commands::{
+    Accepted, Continued, Ends, Fault, JournalEnds, LedgerEnds, NoBook, Refusal, Report, Stopped,
+    StoreError, Watcher, collect_into, continue_into, journal_into, run_collect, run_continue,
 };
-use pb_commands::Fault;
 use pb_ledger::save;
 use pb_poly::{Book, FromRead, MemSink, ToWrite, read_book};
 use rows::book;
@@ -20,7 +19,7 @@ use rows::ends::{NamedSource, source_in};
 use rows::page::{Done, NO_ROW, Page};
 use rows::text::count_of;
 use std::alloc::Global;
-use std::fmt::{Debug, Write};
+use std::fmt::Write;
 
 type RowEnds<'a> = Ends<NamedSource<'a>, NamedSource<'a>, ToWrite<Output>, Passed>;
 
@@ -166,13 +165,8 @@ fn journal(page: &mut Page, call: [&str; 2], ends: &mut RowEnds, kept: NamedSour
 }
 
 /// The answer of a run with places, the book that is kept, an entry a line, and the report.
-fn tell_kept<E: Debug + Copy>(
-    page: &mut Page,
-    ends: &str,
-    made: &Result<Made, E>,
-    book: &MemStore,
-) {
-    page.put_debug(&made.as_ref().map(is_book));
+fn tell_kept(page: &mut Page, ends: &str, made: &Result<Report, NoBook>, book: &MemStore) {
+    page.put_debug(&is_made(made));
     match book.kept() {
         Some(bytes) => {
             for entry in bytes.chunks(16) {
@@ -186,8 +180,8 @@ fn tell_kept<E: Debug + Copy>(
 }
 
 /// The same as of a run without places.
-fn tell_as_run(page: &mut Page, answer: &Result<Made, NoBook>, book: &MemStore) {
-    let answer = match answer {
+fn tell_as_run(page: &mut Page, answer: &Result<Report, NoBook>, book: &MemStore) {
+    let answer = match is_made(answer) {
         Ok(_made) => match book.kept() {
             // They are a book's, for which memory may be wanting.
             Some(bytes) => read_book(page.alloc, &mut FromRead::new(bytes), u32::MAX)
@@ -195,27 +189,32 @@ fn tell_as_run(page: &mut Page, answer: &Result<Made, NoBook>, book: &MemStore) 
                 .map_err(|_| Fault::Memory),
             None => Ok(None),
         },
-        Err(NoBook::Run(fault)) => Err(*fault),
+        Err(NoBook::Run(Stopped::Fault(fault))) => Err(fault),
         Err(NoBook::Keep(StoreError::Memory)) => Err(Fault::Memory),
         Err(_) => Err(Fault::Write),
     };
     tell_book(page, &answer);
 }
 
-fn is_book(made: &Made) -> bool {
-    matches!(made, Made::Book(_))
+/// Whether a book was made, or an input was refused, or the fault.
+fn is_made(made: &Result<Report, NoBook>) -> Result<bool, NoBook> {
+    match made {
+        Ok(_) => Ok(true),
+        Err(NoBook::Run(Stopped::Refused(_))) => Ok(false),
+        Err(why) => Err(*why),
+    }
 }
 
 /// What a run has counted, or why it read no submission, where the word for the row's ends asks for
 /// it.
-fn tell_report<E>(page: &mut Page, ends: &str, answer: &Result<Made, E>) {
+fn tell_report(page: &mut Page, ends: &str, answer: &Result<Report, NoBook>) {
     if !is_told(ends, "report") {
         return;
     }
     page.put("\nreport: ");
     match answer {
-        Ok(Made::Book(report)) => page.put_debug(report),
-        Ok(Made::Unread(why)) => page.put_display(why),
+        Ok(report) => page.put_debug(report),
+        Err(NoBook::Run(Stopped::Refused(why))) => page.put_display(why),
         Err(_) => page.put("none"),
     }
 }

@@ -5,10 +5,12 @@
 use crate::collecting::{self, Passed};
 use crate::ends::{Output, fills_in, is_told, rules_in};
 use crate::game::stream_of;
-use pb_collecting::{collect_bytes, pick_games, run_check, run_export};
-use pb_commands::{Fault, run_epd, run_fen, run_lookup, run_probe, run_show, status};
+use pb_commands::{
+    Fault, Stopped, answer_lookup, pick_games, run_check, run_epd, run_export, run_fen, run_probe,
+    run_show, status,
+};
 use pb_poly::{FromRead, Source, ToWrite};
-use rows::book::{self, file_of};
+use rows::book::file_of;
 use rows::ends::{NamedSource, end_of, source_in};
 use rows::page::{Done, NO_ROW, Page};
 use rows::text::count_of;
@@ -24,9 +26,6 @@ pub(crate) fn answer(page: &mut Page, call: &[&str]) -> Done {
         ["status"] => statuses(page),
         ["faults"] => faults(page),
         ["epd-streams", text] => epd_streams(page, text),
-        ["collect-bytes", ends, table, lines @ ..] => {
-            return tell_collected(page, ends, table, lines);
-        }
         ["games", ends, lines @ ..] => return games(page, ends, lines),
         ["lookup", ends, table, count, rest @ ..] => {
             let (entries, lines) = rest.split_at(count_of(count).min(rest.len()));
@@ -134,7 +133,11 @@ fn read_all(
         Some(entries) => {
             let file = file_of(alloc, entries)?;
             let mut book = source_in(ends, "book", "reader:3", file.as_bytes());
-            run_lookup(alloc, &mut table, &mut book, &mut source, &mut sink, fills)
+            match answer_lookup(alloc, &mut table, &mut book, &mut source, &mut sink, fills) {
+                Ok(all_taken) => Ok(all_taken),
+                Err(Stopped::Refused(_)) => Ok(false),
+                Err(Stopped::Fault(fault)) => Err(fault),
+            }
         }
         None => run_export(alloc, rules, &mut table, &mut source, &mut sink, fills),
     };
@@ -153,23 +156,6 @@ fn epd_streams(page: &mut Page, text: &str) {
     };
     tell_status(page, answer);
     page.put_bytes(room.as_slice());
-}
-
-/// The replies to lines and their book, as they come of bytes in memory.
-fn tell_collected(page: &mut Page, ends: &str, table: &str, lines: &[&str]) -> Done {
-    let stream = stream_of(page.alloc, lines)?;
-    let rules = rules_in(ends)?;
-    match collect_bytes(page.alloc, rules, table.as_bytes(), stream.as_bytes()) {
-        Ok(Some((replies, made))) => {
-            page.put_bytes(replies.as_slice());
-            book::tell(page, &made);
-        }
-        Ok(None) => page.put("no table"),
-        Err(fault) => {
-            let _ = write!(page, "fault {fault:?}");
-        }
-    }
-    Ok(())
 }
 
 /// The answer of `pick_games` over these lines, what it put, and which lines it skipped.

@@ -2,7 +2,7 @@
 
 ghost use Rattle.std.specs.Prelude.{option_and_then};
 
-use pb_collecting::{Store, StoreError, Text};
+use pb_commands::{Store, StoreError, Text};
 use pb_poly::{MemSink, Sink};
 use rows::ends::end_of;
 use std::alloc::Global;
