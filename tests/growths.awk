@@ -232,14 +232,13 @@ function is_tail(kind, text, k, saved, whole, none) {
 # The same of want of memory of the call's own, or of a sink.
 function is_fault(kind, text, k, saved, none, fault,    said, run, lost) {
     said = "fault " fault
-    run = "Err(Run(" fault "))\nnothing is kept"
+    run = "Err(Run(Fault(" fault ")))\nnothing is kept"
     if (kind == "collect") {
         # Its own is that of its line, before the first submission.
         if (fault == "Memory" && !(none && k == 0)) return 0
         return same(text, "Err(" fault ")\nheld: " k book(k))
     }
     if (kind == "collected") return same(text, said)
-    if (kind == "bytes") return none && text == "fault Memory"
     if (kind == "kept") return same(text, run)
     if (kind == "continued") {
         if (none && text == "fault Memory") return 1
