@@ -372,13 +372,12 @@ games_stay() {
     done
 }
 
-# killed_at NUMBER COMMAND..: runs the command, which is killed as it makes the call of this number,
-# of those that open, lock and change files; whether it was
+# killed_at CALL NUMBER COMMAND..: runs the command, which is killed as it makes the call of this name
+# and number; whether it was. strace counts the calls of each name by themselves.
 killed_at() {
-    changing='/^(open|flock|p?writev?(64)?|ftruncate|fchmod|f(data)?sync|rename|(un)?link)(at)?$'
-    number=$1 status=0
-    shift
-    strace -f -o /dev/null -e "trace=$changing" -e "inject=$changing:signal=SIGKILL:when=$number" \
+    call=$1 number=$2 status=0
+    shift 2
+    strace -f -o /dev/null -e "trace=$call" -e "inject=$call:signal=SIGKILL:when=$number" \
         "$@" < "$work/few" > "$work/replies" 2> "$work/errors" || status=$?
     case $status in
         0) return 1 ;;
@@ -401,11 +400,33 @@ old_or_new() {
     is_old far/book || cmp far/book book.new
 }
 
-# A run whose FILE and BOOK are links is killed at each call. The next one takes its drafts over.
+# kills CALL OPTION..: runs with these options are killed at each call of this name, and the next run
+# takes over what each has left. Whether its book is old or new is added to `left`.
+kills() {
+    call=$1 at=1
+    shift
+    while
+        cp kept.old far/kept
+        cp "$work/old" far/book
+        killed_at "$call" "$at" "$PROGRAM" collect "$@" "$table" book
+    do
+        holds old_or_new
+        if cmp -s far/book book.new; then echo new; else echo old; fi >> left
+        holds collects 0 book "$work/few" "$@"
+        holds cmp far/kept kept.new
+        holds cmp far/book book.new
+        holds test -L kept -a -L book
+        holds no_draft
+        at=$((at + 1))
+    done
+}
+
+# A run whose FILE and BOOK are links is killed at each call that opens, locks or changes a file.
 killed() {
     ln -s far/kept kept
     ln -s far/book book
     mkdir far
+    runs=0
     for option in '' '--ledger kept' '--journal kept' '--journal kept --sync'; do
         cp "$work/nine" kept.old
         cp kept.old far/kept
@@ -415,24 +436,12 @@ killed() {
         holds collects 0 book "$work/few" "$@"
         mv far/kept kept.new
         mv far/book book.new
-        at=1
-        while
-            cp kept.old far/kept
-            cp "$work/old" far/book
-            killed_at "$at" "$PROGRAM" collect "$@" "$table" book
-        do
-            holds old_or_new
-            cmp -s far/book book.new || was_old=true
-            holds collects 0 book "$work/few" "$@"
-            holds cmp far/kept kept.new
-            holds cmp far/book book.new
-            holds test -L kept -a -L book
-            holds no_draft
-            at=$((at + 1))
+        : > left
+        for call in openat flock write pwrite64 ftruncate fchmod fdatasync fsync rename; do
+            kills "$call" "$@"
         done
-        runs=$((${runs-0} + at - 1))
-        holds test "$was_old" = true
-        was_old=
+        holds test "$(sort -u left | xargs)" = 'new old'
+        runs=$((runs + $(wc -l < left)))
     done
     note "$runs runs"
 }
