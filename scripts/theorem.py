@@ -24,13 +24,12 @@ import sys
 from lib.specs import BEFORE, Specs, count_of, imports
 
 DOCUMENT = pathlib.Path("docs/THEOREM.md")
-HEADLINE = "pb_collecting.Headline.HasHeadline"
-# What carries the first and the last words of the theorem's sentence, and "in any order".
-LAWS = ("pb_accepted.Laws.CountsOnce", "pb_accepted.Laws.SameBooks",
-        "pb_collecting.Laws.RefusalsLeaveTheGames", "pb_collecting.Answered.SayAnswers")
+HEADLINE = "pb_commands.Headline.HasHeadline"
+# The theorem's sentence as one law, and the answers that the replies say.
+LAWS = ("pb_commands.Sentence.HoldsOfRuns", "pb_commands.Answered.SayAnswers")
 # The files of specs in reading order. All others come after them, by their crates.
 ORDER = """
-    pb_collecting.Headline
+    pb_commands.Headline
     pb_accepted.Replying pb_accepted.Refusals pb_games.Refusing pb_board.Refusal
     pb_games.Submissions pb_games.Ids pb_games.Results pb_games.Tokens
     pb_io.Lines pb_board.Fields pb_board.Text pb_board.Rights pb_moves.Spelling
@@ -39,7 +38,7 @@ ORDER = """
     pb_poly.Table pb_poly.Key pb_poly.Code
     pb_accepted.Counting pb_accepted.Basis pb_points.Weight
     pb_poly.Book pb_poly.Entry
-    pb_accepted.Rules pb_collecting.Ends pb_io.Source pb_io.Count pb_io.Sink
+    pb_accepted.Rules pb_commands.Ends pb_io.Source pb_io.Count pb_io.Sink
 """.split()
 
 

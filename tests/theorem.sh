@@ -22,9 +22,9 @@ put crates.txt << 'END'
 # Each crate, and what it stands on.
 lower: thiserror
 upper: lower
-aside: pb_collecting
-pb_collecting:
-pb_accepted: pb_collecting
+aside: pb_commands
+pb_commands:
+pb_accepted: pb_commands
 program: upper
 library_uses: lower
 END
@@ -113,14 +113,14 @@ END
 put crates/aside/specs/Extra.antt << 'END'
 use Rattle.std.specs.Prelude.{ℕ}
 use Rattle.std.specs.List as list
-use Rattle.pb_collecting.specs.Headline as theorem
+use Rattle.pb_commands.specs.Headline as theorem
 
 abbrev pub nothing : ℕ
 nothing = list.sum theorem.headline
 END
 
 # 7 tokens on 2 lines, and 5 on 2. The order names this file.
-put crates/pb_collecting/specs/Headline.antt << 'END'
+put crates/pb_commands/specs/Headline.antt << 'END'
 use Rattle.std.specs.Prelude.{ℕ, List, [], ◌∷◌}
 
 abbrev pub headline : List ℕ
@@ -133,7 +133,7 @@ END
 # The law that the script names first. 5 tokens on 2 lines, and 7 on 2.
 put crates/pb_accepted/specs/Laws.antt << 'END'
 use Rattle.std.specs.Prelude.{ℕ}
-use Rattle.pb_collecting.specs.Headline.{headline}
+use Rattle.pb_commands.specs.Headline.{headline}
 
 abbrev pub least : ℕ
 least = 0
@@ -266,7 +266,7 @@ laws() {
     holds diff "$work/due" "$work/printed"
     theorem | grep '^====\|^abbrev' | head -n 6 > "$work/printed"
     cat > "$work/due" << 'END'
-==== crates/pb_collecting/specs/Headline.antt
+==== crates/pb_commands/specs/Headline.antt
 abbrev pub headline : List ℕ
 abbrev pub HasHeadline : ℕ
 ==== Laws, and what they rest on besides
@@ -297,7 +297,7 @@ abbrev pub Promise : Colour → Type 0
 Promise side.Red = (p : Pair) × (turned_round p ≡ p)
 Promise side.Blue = same nothing shade.Dark
 
-==== crates/pb_collecting/specs/Headline.antt
+==== crates/pb_commands/specs/Headline.antt
 
 abbrev pub headline : List ℕ
 headline = 0 ∷ []
