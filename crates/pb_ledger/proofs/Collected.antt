@@ -1,7 +1,6 @@
 -- From the lines that the collector took to what was collected, and to what the journal gained.
-use Rattle.std.proofs.Common.{◌≡◌, ℕ, ◌+◌, ◌^◌, ◌<◌, Bool, true, false, cond, List, [], ◌∷◌, ◌++◌, length, take, MutBor, Ok, Err, refl, sym, ap, ◌∙◌, subst, arith, inl, inr}
+use Rattle.std.proofs.Common.{◌≡◌, ℕ, ◌+◌, ◌^◌, ◌<◌, ◌⊎◌, Bool, true, false, cond, List, [], ◌∷◌, ◌++◌, length, MutBor, Ok, Err, refl, sym, ap, ◌∙◌, subst, arith, inl, inr}
 use Rattle.std.specs.Prelude.{count_by, is_err}
-use Rattle.std.specs.Io.KnownBytes.{Appends}
 use Rattle.std.proofs.lemmas.List.Sums.{sum_by-cons}
 use Rattle.std.proofs.KnownBytes.{Appends-nil, Appends-trans, Appends-kept}
 use Rattle.pb_io.specs.Count.{next_count}
@@ -10,27 +9,27 @@ use Rattle.pb_io.specs.Sink.{AwaitsFlush, Flush, SinkState}
 use Rattle.pb_io.proofs.FlushLemmas.{AwaitsFlush-put, AwaitsFlush-trans, not_flushed}
 use Rattle.pb_io.specs.Lines.{lines, ended_lines}
 use Rattle.pb_io.specs.Fault.{fault_of_read}
-use Rattle.pb_io.specs.LineTask.{AtEnd, AtLine, ReadUntil, StopsAtLast, TakesAll, TakesStream, TakesUntil}
-use Rattle.pb_io.specs.declared.fault.Fault.TheVariants as fault
+use Rattle.pb_io.specs.LineTask.{AtEnd, AtLine, ReadUntil, StopsAtLast, TakesAll, TakesStream, TakesUntil, either}
+use Rattle.pb_io.specs.declared.fault.Fault.{Fault}
+use Rattle.pb_io.specs.declared.fault.Fault.TheVariants.{Write}
 use Rattle.pb_io.specs.declared.fault.ReadFault.{ReadFault}
 use Rattle.pb_io.specs.declared.fault.ReadFault.TheVariants.{Memory, Read, Endless}
 use Rattle.pb_io.specs.declared.source.Failed.{Failed}
-use Rattle.pb_io.proofs.EndLemmas.{AtEnd-weaker, AtFault-weaker, AtLine-weaker, AtNoEnd-weaker}
+use Rattle.pb_io.proofs.EndLemmas.{AtEnd-weaker}
+use Rattle.pb_io.proofs.TaskLemmas.{takes-lines, takes-until}
 use Rattle.pb_accepted.specs.Accepting.{Answer, Run}
 use Rattle.pb_accepted.specs.Ledger.{LedgerState}
 use Rattle.pb_accepted.proofs.Steps.{runs_join}
-use Rattle.pb_accepted.specs.Replies.{replies, reply_line}
+use Rattle.pb_accepted.specs.Replies.{reply_line}
 use Rattle.pb_ledger.specs.Streams.{AtLast}
-use Rattle.pb_ledger.specs.Collecting.{Collects, CollectsButOne, CollectsCounted, CollectsStream, Leads}
+use Rattle.pb_ledger.specs.Collecting.{Collects, CollectsButOne, CollectsStream, CollectsUntil, Leads}
 use Rattle.pb_ledger.proofs.Changes.{from_to}
-use Rattle.pb_ledger.specs.Collector.{Answered, SameLent, CollectsLine, Unkept, with_answer}
+use Rattle.pb_ledger.specs.Collector.{SameLent, CollectsLine, answered, unkept, with_answer}
 use Rattle.pb_ledger.specs.Journaling.{CollectsUnkept, Gains, JournalsUntil}
 use Rattle.pb_ledger.specs.declared.collector.Collector.{Collector}
-use Rattle.pb_ledger.specs.declared.journaling.JournalFault.{JournalFault}
-use Rattle.pb_ledger.specs.declared.journaling.JournalFault.TheVariants.{Journal, Lines}
 use Rattle.pb_ledger.specs.declared.totals.Totals.{Totals}
 use Rattle.pb_ledger.proofs.Gaining.{Gains-none, Gains-trans}
-use Rattle.pb_ledger.proofs.Submitting.{added, grows, step_of}
+use Rattle.pb_ledger.proofs.Answering.{added, grows, step_of}
 
 -- ---- counts
 
@@ -82,16 +81,18 @@ Leads-then a b c K L Q R first next = record {
   cap = next.cap ∙ first.cap;
 }
 
--- what a fault of reading is to the journaling
-abbrev Gives : ReadFault → JournalFault → Type 0
-Gives read e = e ≡ Lines (fault_of_read read)
-
 module _ {T K J W : Type 0} (state : K → SinkState) (kept : J → SinkState) where
   abbrev Sink : Collector T K J W → SinkState
   Sink s = state s.sink.now
 
+  abbrev Journal : Collector T K J W → SinkState
+  Journal s = kept s.journal.now
+
   abbrev GainsTo : Collector T K J W → Collector T K J W → Type 0
-  GainsTo s t = Gains (from_to (kept s.journal.now) (kept t.journal.now)) (from_to s.ledger.now t.ledger.now)
+  GainsTo s t = Gains (from_to (Journal s) (Journal t)) (from_to s.ledger.now t.ledger.now)
+
+  SameLent-refl : (s : Collector T K J W) → SameLent s s
+  SameLent-refl s = record { ledger = refl; sink = refl; journal = refl }
 
   SameLent-trans : (s m t : Collector T K J W) → SameLent s m → SameLent m t → SameLent s t
   SameLent-trans s m t first next =
@@ -100,230 +101,172 @@ module _ {T K J W : Type 0} (state : K → SinkState) (kept : J → SinkState) w
   -- ---- lines that were taken
 
   -- they gave these answers
-  record Taken (s t : Collector T K J W) (ls : List (List ℕ)) : Type 0 where
-    collects : Collects (from_to (Sink s) (Sink t)) (from_to s.ledger.now t.ledger.now) ls
-    number : length collects.answers ≡ length ls
-    counts : AddsUp s.totals → s.totals.lines + length ls < 2 ^ 64
+  pub record Taken (s t : Collector T K J W) (ls : List (List ℕ)) : Type 0 where
+    pub collects : Collects (from_to (Sink s) (Sink t)) (from_to s.ledger.now t.ledger.now) ls
+    pub counts : AddsUp s.totals → s.totals.lines + length ls < 2 ^ 64
         → Grows (length s.ledger.now.accepted) (length t.ledger.now.accepted) s.totals t.totals (length ls) (count_by is_err collects.answers)
-    awaits : AwaitsFlush (Sink s) (Sink t)
-    gains : GainsTo s t
-    same : SameLent s t
+    pub awaits : AwaitsFlush (Sink s) (Sink t)
+    pub gains : GainsTo s t
+    pub same : SameLent s t
 
-  taken_of : (s t : Collector T K J W) (ls : List (List ℕ)) → TakesAll (CollectsLine state kept) s ls t → Taken s t ls
-  taken_of s t [] h = let P : Collector T K J W → Type 0 = λ x. Taken s x [] in subst P (sym h) (record {
+  Taken-none : (s : Collector T K J W) → Taken s s []
+  Taken-none s = record {
     collects = record { answers = []; leads = Leads-none s.ledger.now; put = Appends-nil (Sink s).bytes };
-    number = refl;
     counts = λ sum few. record { all = omega arith; refused = omega arith; new_games = omega arith; adds_up = sum };
     awaits = inl refl;
-    gains = Gains-none (kept s.journal.now) s.ledger.now;
-    same = record { ledger = refl; sink = refl; journal = refl };
-  })
-  taken_of s t (line ∷ ls) h =
-      let m : Collector T K J W = h.0 in let one = h.1 in let rest = taken_of m t ls h.2 in record {
-        collects = record {
-          answers = one.answer ∷ rest.collects.answers;
-          leads = Leads-more s.ledger.now m.ledger.now t.ledger.now line one.answer ls rest.collects.answers one.leads rest.collects.leads;
-          put = Appends-trans _ _ _ _ _ one.put.all rest.collects.put;
-        };
-        number = omega (arith, rest.number);
-        counts = λ sum few.
-            let grown = grows s.ledger.now.cap s.ledger.now.accepted line one.answer m.ledger.now.accepted (step_of s.ledger.now m.ledger.now line one.answer one.leads) in
-            let first = one_counted _ _ s.totals m.totals one.answer _ one.counted grown sum (omega (arith, few)) in
-            let others = rest.counts first.adds_up (omega (arith, few, first.all)) in
-            let refusals = more_refused one.answer rest.collects.answers in record {
-              all = omega (arith, first.all, others.all);
-              refused = omega (arith, first.refused, others.refused, refusals);
-              new_games = omega (arith, first.new_games, others.new_games);
-              adds_up = others.adds_up;
-            };
-        awaits = AwaitsFlush-trans (Sink s) (Sink m) (Sink t) (AwaitsFlush-put (Sink s) (Sink m) tt (reply_line line one.answer) one.put) rest.awaits;
-        gains = Gains-trans _ _ _ _ _ _ one.gains rest.gains;
-        same = SameLent-trans s m t one.same rest.same;
-      }
-
-  -- ---- lines that were taken, and one more whose reply couldn't be put
-
-  record Stopped (s t : Collector T K J W) (before : List (List ℕ)) (line : List ℕ) : Type 0 where
-    answers : List Answer
-    answer : Answer
-    leads : Leads s.ledger.now t.ledger.now (before ++ line ∷ []) (answers ++ answer ∷ [])
-    count : ℕ
-    put : Appends (Sink s).bytes (Sink t).bytes (replies before answers ++ take count (reply_line line answer))
-
-  stopped_of : (s m t : Collector T K J W) (before : List (List ℕ)) (line : List ℕ) (e : JournalFault) → Taken s m before → Answered state kept m line (Err e) t → Stopped s t before line
-  stopped_of s m t before line e taken last = record {
-    answers = taken.collects.answers;
-    answer = last.answer;
-    leads = Leads-then s.ledger.now m.ledger.now t.ledger.now before (line ∷ []) taken.collects.answers (last.answer ∷ []) taken.collects.leads last.leads;
-    count = last.put.front.0;
-    put = Appends-trans _ _ _ _ _ taken.collects.put last.put.front.1;
+    gains = Gains-none (Journal s) s.ledger.now;
+    same = SameLent-refl s;
   }
 
-  record StoppedAt (s t : Collector T K J W) (ls : List (List ℕ)) : Type 0 where
-    collects : CollectsButOne (from_to (Sink s) (Sink t)) (from_to s.ledger.now t.ledger.now) ls
-    fails : (Sink t).failed ≡ true
-    flushes : (Sink t).flushes ≡ (Sink s).flushes
-    gains : GainsTo s t
-    same : SameLent s t
-
-  reply_stops : (s t : Collector T K J W) (ls : List (List ℕ)) → StopsAtLast (CollectsLine state kept) s ls (Lines fault.Write) t → StoppedAt s t ls
-  reply_stops s t ls h =
-      let m : Collector T K J W = h.2 in let taken = taken_of s m h.0 h.4 in
-      let last : Answered state kept m h.1 (Err (Lines fault.Write)) t = h.5 in let stopped = stopped_of s m t h.0 h.1 (Lines fault.Write) taken last in record {
-        collects = record {
-          before = h.0;
-          line = h.1;
-          are = h.3;
-          done = (stopped.answers, stopped.answer, stopped.leads, stopped.count, stopped.put);
+  Taken-more : (s m t : Collector T K J W) (line : List ℕ) (ls : List (List ℕ)) → CollectsLine state kept s line (Ok tt) m → Taken m t ls → Taken s t (line ∷ ls)
+  Taken-more s m t line ls (answered one stops same) rest = record {
+    collects = record {
+      answers = one.answer ∷ rest.collects.answers;
+      leads = Leads-more s.ledger.now m.ledger.now t.ledger.now line one.answer ls rest.collects.answers one.leads rest.collects.leads;
+      put = Appends-trans _ _ _ _ _ one.put.all rest.collects.put;
+    };
+    counts = λ sum few.
+        let grown = grows s.ledger.now.cap s.ledger.now.accepted line one.answer m.ledger.now.accepted (step_of s.ledger.now m.ledger.now line one.answer one.leads) in
+        let first = one_counted _ _ s.totals m.totals one.answer _ one.counted grown sum (omega (arith, few)) in
+        let others = rest.counts first.adds_up (omega (arith, few, first.all)) in
+        let refusals = more_refused one.answer rest.collects.answers in record {
+          all = omega (arith, first.all, others.all);
+          refused = omega (arith, first.refused, others.refused, refusals);
+          new_games = omega (arith, first.new_games, others.new_games);
+          adds_up = others.adds_up;
         };
-        fails = last.put.failed;
-        flushes = last.put.flushes ∙ not_flushed (Sink s) (Sink m) taken.awaits;
-        gains = Gains-trans _ _ _ _ _ _ taken.gains last.gains;
-        same = SameLent-trans s m t taken.same last.same;
-      }
+    awaits = AwaitsFlush-trans (Sink s) (Sink m) (Sink t) (AwaitsFlush-put (Sink s) (Sink m) tt (reply_line line one.answer) one.put) rest.awaits;
+    gains = Gains-trans _ _ _ _ _ _ one.gains rest.gains;
+    same = SameLent-trans s m t same rest.same;
+  }
+  Taken-more s m t line ls (unkept one fails sink same) rest = cc
 
-  -- ---- lines of which the last one brought a game that the journal didn't take
-
-  record Unjournaled (s t : Collector T K J W) (ls : List (List ℕ)) : Type 0 where
-    unkept : AtLast (CollectsUnkept (from_to (Sink s) (Sink t)) (from_to (kept s.journal.now) (kept t.journal.now)) (from_to s.ledger.now t.ledger.now)) ls
-    awaits : AwaitsFlush (Sink s) (Sink t)
-    same : SameLent s t
-
-  journal_stops : (s t : Collector T K J W) (ls : List (List ℕ)) → StopsAtLast (CollectsLine state kept) s ls Journal t → Unjournaled s t ls
-  journal_stops s t ls h =
-      let m : Collector T K J W = h.2 in let before = h.0 in let line = h.1 in
-      let taken = taken_of s m before h.4 in let last : Unkept kept m line t = h.5 in record {
-        unkept = record {
-          before = before;
-          line = line;
-          are = h.3;
-          done = record {
-            middle = m.ledger.now;
-            kept = kept m.journal.now;
-            collects = subst (λ (x : MutBor K). Collects (from_to (Sink s) (state x.now)) (from_to s.ledger.now m.ledger.now) before) (sym last.same_sink) taken.collects;
-            gains = taken.gains;
-            number = last.number;
-            leads = last.leads;
-            game = last.game;
-            brings = last.brings;
-            breaks = last.breaks;
-          };
-        };
-        awaits = subst (λ (x : MutBor K). AwaitsFlush (Sink s) (state x.now)) (sym last.same_sink) taken.awaits;
-        same = SameLent-trans s m t taken.same last.same;
-      }
+  taken_of : (s t : Collector T K J W) (ls : List (List ℕ)) → TakesAll (CollectsLine state kept) s ls t → Taken s t ls
+  taken_of s t [] h = subst (λ (x : Collector T K J W). Taken s x []) (sym h) (Taken-none s)
+  taken_of s t (line ∷ ls) h = Taken-more s h.0 t line ls h.1 (taken_of h.0 t ls h.2)
 
   -- ---- the whole of a stream
 
   module _ (fills : ℕ) (old new : SourceState) (s t : Collector T K J W) where
-    -- what is so of any lines at which the stream was left
-    at_line : (P : List (List ℕ) → Type 0) (Q : Type 0) → ((ls : List (List ℕ)) → P ls → Q) → AtLine fills old new P → Q
-    at_line P Q follows (inl h) = follows (ended_lines h.came) h.done
-    at_line P Q follows (inr h) = follows (lines h.came) h.done
+    abbrev Until : Fault → Type 0
+    Until = JournalsUntil fills (from_to old new) (from_to (Sink s) (Sink t)) (from_to (Journal s) (Journal t)) (from_to s.ledger.now t.ledger.now)
 
-    stream_of : fills < 2 ^ 32 → s.totals ≡ record { lines = 0; new = 0; repeats = 0; refused = 0 }
-        → TakesStream (CollectsLine state kept) fills old new s t → AtEnd fills old new (CollectsCounted (from_to (Sink s) (Sink t)) (from_to s.ledger.now t.ledger.now) t.totals)
-    stream_of small fresh h = AtEnd-weaker fills old new _ _ (λ ls few taken.
-        let all_taken = taken_of s t ls taken in
-        let all = ap (λ (x : Totals). x.lines) fresh in let new_games = ap (λ (x : Totals). x.new) fresh in
-        let repeats = ap (λ (x : Totals). x.repeats) fresh in let refused = ap (λ (x : Totals). x.refused) fresh in
-        let grows = all_taken.counts (omega arith) (omega (arith, small, few)) in record {
-          collects = all_taken.collects;
-          all = omega (arith, grows.all);
-          refusals = omega (arith, grows.refused);
-          new_games = omega (arith, grows.new_games);
-          others = grows.adds_up;
-        }) h
-
-    -- no reply was handed on before the end
-    unflushed_of : TakesStream (CollectsLine state kept) fills old new s t → (Sink t).flushes ≡ (Sink s).flushes
-    unflushed_of h = not_flushed (Sink s) (Sink t) (taken_of s t (lines h.came) h.done).awaits
-
-    pub journaled : (sink' : SinkState) (u : Unit {0}) → fills < 2 ^ 32 → s.totals ≡ record { lines = 0; new = 0; repeats = 0; refused = 0 }
-        → TakesStream (CollectsLine state kept) fills old new s t → Flush {E = Failed} (Sink t) sink' (Ok u)
-        → CollectsStream fills (from_to old new) (from_to (Sink s) sink') (from_to s.ledger.now t.ledger.now) t.totals × GainsTo s t
-    journaled sink' u small fresh h flush = (
-      (
-        AtEnd-weaker fills old new _ _ (λ ls few c. record {
-          collects = record { answers = c.collects.answers; leads = c.collects.leads; put = Appends-kept _ _ _ _ c.collects.put flush.bytes };
-          all = c.all;
-          refusals = c.refusals;
-          new_games = c.new_games;
-          others = c.others;
-        }) (stream_of small fresh h),
-        ((flush.failed, flush.flushed), flush.flushes ∙ ap next_count (unflushed_of h)),
-      ),
-      (taken_of s t (lines h.came) h.done).gains,
+    -- by a fault of reading
+    unread : (read : ReadFault) → ReadUntil (CollectsLine state kept) fills old new s t read → Until (fault_of_read read) × SameLent s t
+    unread Memory h = (
+      inl ((h.0, ap (λ (x : Collector T K J W). Sink x) h.1, ap (λ (x : Collector T K J W). x.ledger.now) h.1), subst (λ (x : Collector T K J W). GainsTo s x) (sym h.1) (Gains-none (Journal s) s.ledger.now)),
+      subst (λ (x : Collector T K J W). SameLent s x) (sym h.1) (SameLent-refl s),
     )
+    unread Read h =
+        let all = taken_of s t (ended_lines h.came) h.done in
+        (inl ((record { came = h.came; reads = h.reads; done = all.collects }, all.awaits), all.gains), all.same)
+    unread Endless h =
+        let all = taken_of s t (ended_lines h.came) h.done in
+        (inl ((record { came = h.came; reads = h.reads; done = all.collects }, all.awaits), all.gains), all.same)
 
-    -- all lines were taken, and the replies couldn't be handed on
-    pub unflushed : (sink' : SinkState) (e : Failed) → TakesStream (CollectsLine state kept) fills old new s t → Flush {E = Failed} (Sink t) sink' (Err e)
-        → JournalsUntil fills (from_to old new) (from_to (Sink s) sink') (from_to (kept s.journal.now) (kept t.journal.now)) (from_to s.ledger.now t.ledger.now) (Lines fault.Write)
-    unflushed sink' e h flush = (
-      (
-        inr (AtEnd-weaker fills old new _ _ (λ ls few taken. let c = (taken_of s t ls taken).collects in record { answers = c.answers; leads = c.leads; put = Appends-kept _ _ _ _ c.put flush.bytes }) h),
-        (flush.failed, flush.flushes ∙ unflushed_of h),
-      ),
-      (taken_of s t (lines h.came) h.done).gains,
-    )
+    -- at the last of these lines, since its reply couldn't be put, or its game was not kept
+    module _ (ls : List (List ℕ)) (at : (Q : List (List ℕ) → Type 0) → Q ls → AtLine fills old new Q) where
+      stopped_by : (e : Fault) (before : List (List ℕ)) (line : List ℕ) (m : Collector T K J W) → ls ≡ before ++ line ∷ [] → Taken s m before
+          → CollectsLine state kept m line (Err e) t → Until e × SameLent s t
+      stopped_by e before line m are all (answered last is same) = (
+        inl (
+          subst (λ (x : Fault). CollectsUntil fills (from_to old new) (from_to (Sink s) (Sink t)) (from_to s.ledger.now t.ledger.now) x) (sym is) (
+            inl (at (CollectsButOne (from_to (Sink s) (Sink t)) (from_to s.ledger.now t.ledger.now)) (record {
+              before = before;
+              line = line;
+              are = are;
+              done = (
+                all.collects.answers,
+                last.answer,
+                Leads-then s.ledger.now m.ledger.now t.ledger.now before (line ∷ []) all.collects.answers (last.answer ∷ []) all.collects.leads last.leads,
+                last.put.front.0,
+                Appends-trans _ _ _ _ _ all.collects.put last.put.front.1,
+              );
+            })),
+            (last.put.failed, last.put.flushes ∙ not_flushed (Sink s) (Sink m) all.awaits),
+          ),
+          Gains-trans _ _ _ _ _ _ all.gains last.gains,
+        ),
+        SameLent-trans s m t all.same same,
+      )
+      stopped_by e before line m are all (unkept last fails sink same) = (
+        inr (
+          (let is : Err e ≡ Err Write = fails in cc),
+          at (AtLast (CollectsUnkept (from_to (Sink s) (Sink t)) (from_to (Journal s) (Journal t)) (from_to s.ledger.now t.ledger.now))) (record {
+            before = before;
+            line = line;
+            are = are;
+            done = record {
+              middle = m.ledger.now;
+              kept = Journal m;
+              collects = subst (λ (x : MutBor K). Collects (from_to (Sink s) (state x.now)) (from_to s.ledger.now m.ledger.now) before) (sym sink) all.collects;
+              gains = all.gains;
+              unkept = last;
+            };
+          }),
+          subst (λ (x : MutBor K). AwaitsFlush (Sink s) (state x.now)) (sym sink) all.awaits,
+        ),
+        SameLent-trans s m t all.same same,
+      )
+
+      stopped : (e : Fault) → StopsAtLast (CollectsLine state kept) s ls e t → Until e × SameLent s t
+      stopped e h = stopped_by e h.0 h.1 h.2 h.3 (taken_of s h.2 h.0 h.4) h.5
 
     -- how the lines ended
+    pub until : (e : Fault) → TakesUntil (λ read gives. gives ≡ fault_of_read read) (either (CollectsLine state kept)) fills old new s t e → Until e × SameLent s t
+    until e h = by (takes-until (CollectsLine state kept) (λ read gives. gives ≡ fault_of_read read) fills old new s t e h)
+      where
+        by : ((read : ReadFault) × (e ≡ fault_of_read read) × ReadUntil (CollectsLine state kept) fills old new s t read)
+            ⊎ AtLine fills old new (λ ls. StopsAtLast (CollectsLine state kept) s ls e t) → Until e × SameLent s t
+        by (inl k) = let ends = unread k.0 k.2 in (subst Until (sym k.1) ends.0, ends.1)
+        by (inr (inl k)) = stopped (ended_lines k.came) (λ Q q. inl (record { came = k.came; reads = k.reads; done = q })) e k.done
+        by (inr (inr k)) = stopped (lines k.came) (λ Q q. inr (record { came = k.came; reads = k.reads; done = q })) e k.done
 
-    abbrev Until : JournalFault → Type 0
-    Until e = JournalsUntil fills (from_to old new) (from_to (Sink s) (Sink t)) (from_to (kept s.journal.now) (kept t.journal.now)) (from_to s.ledger.now t.ledger.now) e
+    -- all were taken
+    pub all_taken : TakesStream (either (CollectsLine state kept)) fills old new s (Ok tt) t → AtEnd fills old new (λ ls. Taken s t ls)
+    all_taken h =
+        let all = takes-lines (CollectsLine state kept) fills old new s t h in
+        record { came = all.came; reads = all.reads; done = taken_of s t (lines all.came) all.done }
 
-    until_read : (read : ReadFault) → ReadUntil (CollectsLine state kept) fills old new s t read → Until (Lines (fault_of_read read))
-    until_read Memory h = (
-      (h.0, ap (λ (x : Collector T K J W). Sink x) h.1, ap (λ (x : Collector T K J W). x.ledger.now) h.1),
-      subst (λ (x : Collector T K J W). GainsTo s x) (sym h.1) (Gains-none (kept s.journal.now) s.ledger.now),
-    )
-    until_read Read h =
-        let taken = taken_of s t (ended_lines h.came) h.done in
-        ((AtFault-weaker fills old new _ _ (λ ls few taken. (taken_of s t ls taken).collects) h, taken.awaits), taken.gains)
-    until_read Endless h =
-        let taken = taken_of s t (ended_lines h.came) h.done in
-        ((AtNoEnd-weaker fills old new _ _ (λ ls few taken. (taken_of s t ls taken).collects) h, taken.awaits), taken.gains)
+    -- the ends are what the collector left of them
+    module _ (k : K) (j : J) (l : LedgerState) (lent_sink : k ≡ t.sink.now) (lent_journal : j ≡ t.journal.now) (lent_ledger : l ≡ t.ledger.now) where
+      left : (P : SinkState → SinkState → LedgerState → Type 0) → P (Sink t) (Journal t) t.ledger.now → P (state k) (kept j) l
+      left P h = subst (λ (x : K). P (state x) (kept j) l) (sym lent_sink) (subst (λ (x : J). P (Sink t) (kept x) l) (sym lent_journal) (subst (λ x. P (Sink t) (Journal t) x) (sym lent_ledger) h))
 
-    until_line : (e : JournalFault) → AtLine fills old new (λ ls. StopsAtLast (CollectsLine state kept) s ls e t) → Until e
-    until_line (Lines fault.Write) h = (
-      (
-        inl (AtLine-weaker fills old new _ _ (λ ls few stops. (reply_stops s t ls stops).collects) h),
-        (
-          at_line _ ((Sink t).failed ≡ true) (λ ls stops. (reply_stops s t ls stops).fails) h,
-          at_line _ ((Sink t).flushes ≡ (Sink s).flushes) (λ ls stops. (reply_stops s t ls stops).flushes) h,
-        ),
-      ),
-      at_line _ (GainsTo s t) (λ ls stops. (reply_stops s t ls stops).gains) h,
-    )
-    until_line Journal h = (
-      AtLine-weaker fills old new _ _ (λ ls few stops. (journal_stops s t ls stops).unkept) h,
-      at_line _ (AwaitsFlush (Sink s) (Sink t)) (λ ls stops. (journal_stops s t ls stops).awaits) h,
-    )
-    until_line (Lines fault.Read) h = absurd (at_line _ ⊥ (λ ls stops. stops.5) h)
-    until_line (Lines fault.Endless) h = absurd (at_line _ ⊥ (λ ls stops. stops.5) h)
-    until_line (Lines fault.Memory) h = absurd (at_line _ ⊥ (λ ls stops. stops.5) h)
+      pub until_left : (e : Fault) → Until e × SameLent s t → JournalsUntil fills (from_to old new) (from_to (Sink s) (state k)) (from_to (Journal s) (kept j)) (from_to s.ledger.now l) e
+      until_left e h = left (λ sink journal ledger. JournalsUntil fills (from_to old new) (from_to (Sink s) sink) (from_to (Journal s) journal) (from_to s.ledger.now ledger) e) h.0
 
-    pub journals_until : (e : JournalFault) → TakesUntil Gives (CollectsLine state kept) fills old new s t e → Until e
-    journals_until e (inl h) = subst Until (sym h.1) (until_read h.0 h.2)
-    journals_until e (inr h) = until_line e h
+      module _ (all : AtEnd fills old new (λ ls. Taken s t ls)) (sink' : SinkState) where
+        -- all were taken, and their replies were handed on
+        pub collected : (u : Unit {0}) → fills < 2 ^ 32 → s.totals ≡ record { lines = 0; new = 0; repeats = 0; refused = 0 } → Flush {E = Failed} (state k) sink' (Ok u)
+            → CollectsStream fills (from_to old new) (from_to (Sink s) sink') (from_to s.ledger.now l) t.totals × Gains (from_to (Journal s) (kept j)) (from_to s.ledger.now l)
+        collected u small fresh flush = left (λ sink journal ledger. Flush {E = Failed} sink sink' (Ok u) → CollectsStream fills (from_to old new) (from_to (Sink s) sink') (from_to s.ledger.now ledger) t.totals
+            × Gains (from_to (Journal s) journal) (from_to s.ledger.now ledger)) (λ flush. (
+              (
+                AtEnd-weaker fills old new _ _ (λ ls few taken.
+                    let lines_zero = ap (λ (x : Totals). x.lines) fresh in let new_zero = ap (λ (x : Totals). x.new) fresh in
+                    let repeats_zero = ap (λ (x : Totals). x.repeats) fresh in let refused_zero = ap (λ (x : Totals). x.refused) fresh in
+                    let grows = taken.counts (omega arith) (omega (arith, small, few)) in let c = taken.collects in record {
+                      collects = record { answers = c.answers; leads = c.leads; put = Appends-kept _ _ _ _ c.put flush.bytes };
+                      all = omega (arith, grows.all);
+                      refusals = omega (arith, grows.refused);
+                      new_games = omega (arith, grows.new_games);
+                      others = grows.adds_up;
+                    }) all,
+                ((flush.failed, flush.flushed), flush.flushes ∙ ap next_count (not_flushed (Sink s) (Sink t) all.done.awaits)),
+              ),
+              all.done.gains,
+            )) flush
 
-    -- the ledger, the sink and the journal are the same, however the lines ended
-
-    pub kept_stream : TakesStream (CollectsLine state kept) fills old new s t → SameLent s t
-    kept_stream h = (taken_of s t (lines h.came) h.done).same
-
-    kept_read : (read : ReadFault) → ReadUntil (CollectsLine state kept) fills old new s t read → SameLent s t
-    kept_read Memory h = subst (λ (x : Collector T K J W). SameLent s x) (sym h.1) (record { ledger = refl; sink = refl; journal = refl })
-    kept_read Read h = (taken_of s t (ended_lines h.came) h.done).same
-    kept_read Endless h = (taken_of s t (ended_lines h.came) h.done).same
-
-    kept_line : (e : JournalFault) → AtLine fills old new (λ ls. StopsAtLast (CollectsLine state kept) s ls e t) → SameLent s t
-    kept_line (Lines fault.Write) h = at_line _ (SameLent s t) (λ ls stops. (reply_stops s t ls stops).same) h
-    kept_line Journal h = at_line _ (SameLent s t) (λ ls stops. (journal_stops s t ls stops).same) h
-    kept_line (Lines fault.Read) h = absurd (at_line _ ⊥ (λ ls stops. stops.5) h)
-    kept_line (Lines fault.Endless) h = absurd (at_line _ ⊥ (λ ls stops. stops.5) h)
-    kept_line (Lines fault.Memory) h = absurd (at_line _ ⊥ (λ ls stops. stops.5) h)
-
-    pub kept_until : (e : JournalFault) → TakesUntil Gives (CollectsLine state kept) fills old new s t e → SameLent s t
-    kept_until e (inl h) = kept_read h.0 h.2
-    kept_until e (inr h) = kept_line e h
+        -- and they couldn't be
+        pub unflushed : (e : Failed) → Flush {E = Failed} (state k) sink' (Err e)
+            → JournalsUntil fills (from_to old new) (from_to (Sink s) sink') (from_to (Journal s) (kept j)) (from_to s.ledger.now l) Write
+        unflushed e flush = left (λ sink journal ledger. Flush {E = Failed} sink sink' (Err e) → JournalsUntil fills (from_to old new) (from_to (Sink s) sink') (from_to (Journal s) journal) (from_to s.ledger.now ledger) Write) (λ flush.
+            let c = all.done.collects in
+            inl (
+              (
+                inr (record { came = all.came; reads = all.reads; done = record { answers = c.answers; leads = c.leads; put = Appends-kept _ _ _ _ c.put flush.bytes } }),
+                (flush.failed, flush.flushes ∙ not_flushed (Sink s) (Sink t) all.done.awaits),
+              ),
+              all.done.gains,
+            )) flush

@@ -1,9 +1,11 @@
+mod Answering
 pub mod Booked
 mod Broken
 pub mod Changes
 mod Collected
 mod CollectorLine
 pub mod Continued
+mod Failures
 mod Gaining
 mod GamesHeld
 pub mod Journals
@@ -14,4 +16,4 @@ mod Picked
 pub mod Replayed
 pub mod SavedForms
 pub mod SavedLoading
-mod Submitting
+mod Torn

@@ -1,24 +1,27 @@
 -- From the lines that the loader took to what was loaded.
-use Rattle.std.specs.Prelude.{IsErr}
-use Rattle.std.proofs.Common.{if◌then◌else◌, ◌≡◌, ◌≢◌, ℕ, ◌+◌, ◌*◌, ◌^◌, ◌<◌, ◌≤◌, ◌⊎◌, Bool, true, false, not, List, [], ◌∷◌, ◌++◌, length, Result, Ok, Err, All, IsOk, IsTrue, OnOk, IfErr, refl, sym, ap, subst, ◌∙◌, inl, inr, arith}
-use Rattle.std.specs.Borrow.{MutBor}
+use Rattle.std.specs.Prelude.{IsErr, MatchOption, bytes_eq, nat_lt, unwrap_or}
+use Rattle.std.proofs.Common.{if◌then◌else◌, ◌≡◌, ◌≢◌, ℕ, ◌+◌, ◌*◌, ◌^◌, ◌<◌, ◌≤◌, ◌⊎◌, Bool, true, false, not, List, [], ◌∷◌, ◌++◌, length, Option, None, Some, Result, Ok, Err, All, IsOk, IsTrue, refl, sym, ap, subst, ◌∙◌, inl, inr, arith}
+use Rattle.std.specs.Borrow.{Bor, MutBor}
 use Rattle.std.proofs.lemmas.List.Elements.{All-cons, All-nil}
 use Rattle.std.proofs.lemmas.List.{length_push}
-use Rattle.std.proofs.lemmas.Bool.{false_from_ne_true}
+use Rattle.std.proofs.lemmas.Bool.{false_from_ne_true, ltb-false, ltb-true}
 use Rattle.std.proofs.lemmas.Slice.Eq.{bytes_eq-Decides}
 use Rattle.std.specs.Str.Lines.{strip_carriage_return}
 use Rattle.pb_board.proofs.LineEnds.{cases_return}
+use Rattle.pb_io.specs.Count.{next_count}
 use Rattle.pb_io.specs.Source.{SourceState}
-use Rattle.pb_io.specs.Lines.{ended_lines, line_limit, lines}
+use Rattle.pb_io.specs.Lines.{IsLine, ended_lines, line_limit, lines}
 use Rattle.pb_io.specs.Reads.{chunk_len}
-use Rattle.pb_io.specs.LineTask.{AtEnd, AtLine, ReadUntil, StopsAtLast, TakesAll, TakesStream, TakesUntil}
+use Rattle.pb_io.specs.LineTask.{AtEnd, AtLine, ReadUntil, StopsAtLast, TakesAll, TakesStream, TakesUntil, either}
 use Rattle.pb_io.specs.declared.fault.ReadFault.{ReadFault}
 use Rattle.pb_io.specs.declared.fault.ReadFault.TheVariants as fault
-use Rattle.pb_io.proofs.EndLemmas.{AtEnd-weaker, AtFault-weaker, AtLine-weaker, AtNoEnd-weaker}
+use Rattle.pb_io.proofs.EndLemmas.{AtLine-weaker}
+use Rattle.pb_io.proofs.TaskLemmas.{takes-lines, takes-until}
 use Rattle.pb_games.specs.Submissions.{Submission}
 use Rattle.pb_games.specs.declared.refusal.Refusal.{Refusal}
 use Rattle.pb_games.specs.declared.refusal.Refusal.TheVariants as refusal
-use Rattle.pb_accepted.specs.Accepting.{Answer, Run, Step}
+use Rattle.pb_accepted.specs.Accepting.{Answer, Run, Step, answer_of}
+use Rattle.pb_accepted.specs.declared.ledger.Accepted.{Accepted}
 use Rattle.pb_accepted.specs.Ledger.{LedgerState}
 use Rattle.pb_accepted.proofs.Runs.{HaveOwnIds-nil}
 use Rattle.pb_accepted.proofs.Steps.{refusal_step, step_to}
@@ -26,10 +29,11 @@ use Rattle.pb_ledger.specs.declared.loading.Loader.{Loader}
 use Rattle.pb_ledger.specs.declared.loading.LoadError.{LoadError}
 use Rattle.pb_ledger.specs.declared.loading.LoadError.TheVariants as error
 use Rattle.pb_ledger.specs.Lending.{SameLedger}
-use Rattle.pb_ledger.specs.Loader.{Judged, Submits, LoadsLine, header, load_error, error_at, with_line, submission}
+use Rattle.pb_ledger.specs.Loader.{Judged, Submits, LoadsLine, header, load_error, submission}
 use Rattle.pb_ledger.specs.Saving as saving
 use Rattle.pb_ledger.specs.Making.{Makes, Wants}
 use Rattle.pb_ledger.specs.Loading.{Breaks, Loads, LoadsUntil, has_header, is_header, submission_lines}
+use Rattle.pb_ledger.proofs.Answering.{step_by}
 use Rattle.pb_ledger.proofs.Broken.{not_both, submission_push, unbroken}
 use Rattle.pb_ledger.proofs.Changes.{from_to}
 
@@ -53,29 +57,52 @@ long_line line long = false_from_ne_true _ (λ is. short ((bytes_eq-Decides (str
           | inr more ↦ omega (arith, long, ap length (more ∙ ap (λ xs. xs ++ 13 ∷ []) same))
         ]
 
+-- a line is judged by what is shown of it
+pub header_shown : (line : Option (Bor (List ℕ))) (none shown : Bor (List ℕ)) (text whole : List ℕ) (is : Bool) → IsLine line whole → none.now ≡ [] → shown ≡ unwrap_or line none
+    → text ≡ strip_carriage_return shown.now → is ≡ bytes_eq text saving.header → is_header whole ≡ is
+header_shown line none shown text whole is cut empty shows strips says = by_line line cut shows ∙ ap (λ xs. bytes_eq xs saving.header) (sym strips) ∙ sym says
+  where
+    by_line : (line : Option (Bor (List ℕ))) → IsLine line whole → shown ≡ unwrap_or line none → is_header whole ≡ is_header shown.now
+    by_line None long shows = long_line whole long ∙ sym (ap is_header (ap (λ (b : Bor (List ℕ)). b.now) shows ∙ empty))
+    by_line (Some bytes) same shows = sym (ap is_header (ap (λ (b : Bor (List ℕ)). b.now) shows ∙ same.0))
+
+pub not_true : (b : Bool) → not b ≡ true → b ≡ false
+not_true true h = let bad : false ≡ true = h in absurd (cc)
+not_true false h = refl
+
+-- ---- what comes of an answer
+
+module _ (is_saved : Bool) (n cap : ℕ) (A : List Submission) (line : List ℕ) (B : List Submission) where
+  pub judged_taken : (accepted : Accepted) → Step cap A line (Ok accepted.number) B → accepted.is_new ≡ nat_lt (length A) (length B) → (accepted.is_new ≡ true) ⊎ (is_saved ≡ false)
+      → Judged is_saved n A B (Ok accepted.number) (Ok tt)
+  judged_taken accepted step new (inr old) = (refl, λ saved. let bad : is_saved ≡ true = saved in cc)
+  judged_taken accepted step new (inl is) = (
+    refl,
+    λ saved. elim (same_or_longer cap A line (Ok accepted.number) B step) [
+      | inl same ↦ absurd (omega (arith, ltb-true (length A) (length B) (sym new ∙ is), ap length same))
+      | inr longer ↦ longer
+    ],
+  )
+
+  pub judged_repeat : (accepted : Accepted) → Step cap A line (Ok accepted.number) B → accepted.is_new ≡ nat_lt (length A) (length B) → accepted.is_new ≡ false → is_saved ≡ true
+      → Judged is_saved n A B (Ok accepted.number) (Err (error.Line n))
+  judged_repeat accepted step new is saved = (
+    refl,
+    λ q. (cc),
+    elim (same_or_longer cap A line (Ok accepted.number) B step) [
+      | inl same ↦ same
+      | inr longer ↦ absurd (omega (arith, ltb-false (length A) (length B) (sym new ∙ is), longer))
+    ],
+    inr saved,
+  )
+
+  pub judged_refused : (e : Refusal) → Step cap A line (Err e) B → e ≢ refusal.Memory → Judged is_saved n A B (Err e) (Err (error.Line n))
+  judged_refused e step other = (refl, λ q. other (cc), refusal_step cap A line e B step, inl refl)
+
 -- whether a header comes first, where one line more is none
 header_before : (before : List (List ℕ)) (line : List ℕ) → (before ≡ [] → is_header line ≡ false) → has_header before ≡ has_header (before ++ line ∷ [])
 header_before [] line none = sym (none refl)
 header_before (x ∷ before) line none = refl
-
-pub not_true : (b : Bool) → not b ≡ true → b ≡ false
-not_true true h = let no : false ≡ true = h in absurd (cc)
-not_true false h = refl
-
--- what comes of a line that is refused
-pub judged_refused : (is_saved : Bool) (n : ℕ) (A B : List Submission) (e : Refusal) → B ≡ A → Judged is_saved n A B (Err e) (Err (error_at n e))
-judged_refused is_saved n A B refusal.Memory same = refl
-judged_refused is_saved n A B refusal.Long same = (refl, λ q. (cc), same, inl refl)
-judged_refused is_saved n A B refusal.Shape same = (refl, λ q. (cc), same, inl refl)
-judged_refused is_saved n A B refusal.Id same = (refl, λ q. (cc), same, inl refl)
-judged_refused is_saved n A B refusal.Result same = (refl, λ q. (cc), same, inl refl)
-judged_refused is_saved n A B (refusal.Fen f) same = (refl, λ q. (cc), same, inl refl)
-judged_refused is_saved n A B refusal.Start same = (refl, λ q. (cc), same, inl refl)
-judged_refused is_saved n A B (refusal.Spelling m) same = (refl, λ q. (cc), same, inl refl)
-judged_refused is_saved n A B refusal.Plies same = (refl, λ q. (cc), same, inl refl)
-judged_refused is_saved n A B (refusal.Illegal m) same = (refl, λ q. (cc), same, inl refl)
-judged_refused is_saved n A B (refusal.Conflict m) same = (refl, λ q. (cc), same, inl refl)
-judged_refused is_saved n A B refusal.Full same = (refl, λ q. (cc), same, inl refl)
 
 -- the ledger that is lent
 pub SameLedger-refl : (s : MutBor LedgerState) → SameLedger s s
@@ -90,6 +117,17 @@ done_at (inl h) = h.done
 done_at (inr h) = h.done
 
 module _ {T : Type 0} where
+  -- what submitting a line leaves, where it isn't the first or no header
+  pub submitted_so : (s : Loader T) (ledger : LedgerState) (n : ℕ) (line : Option (Bor (List ℕ))) (whole : List ℕ) (full : Result Accepted Refusal) (result : Result (Unit {0}) LoadError)
+      → n ≡ next_count s.lines → (s.lines ≡ 0 → is_header whole ≡ false) → IsLine line whole
+      → MatchOption line ((full ≡ Err refusal.Long) × (ledger ≡ s.ledger.now)) (λ bytes. Step s.ledger.now.cap s.ledger.now.accepted bytes.now (answer_of full) ledger.accepted)
+      → ledger.basis ≡ s.ledger.now.basis → ledger.cap ≡ s.ledger.now.cap
+      → (Step s.ledger.now.cap s.ledger.now.accepted whole (answer_of full) ledger.accepted → Judged s.is_saved n s.ledger.now.accepted ledger.accepted (answer_of full) result)
+      → LoadsLine s whole result (record { ledger = record s.ledger { now = ledger }; lines = n; is_saved = s.is_saved })
+  submitted_so s ledger n line whole full result counted other is step basis cap judges =
+      let step = step_by s.ledger.now ledger line whole full is step in
+      submission other (record { answer = answer_of full; step = step; judged = judges step; lines = counted; saved = refl; keeps = record { lent = refl; basis = basis; cap = cap } })
+
   -- lines that were taken as submissions
   pub record Taken (s t : Loader T) (ls : List (List ℕ)) : Type 0 where
     pub answers : List Answer
@@ -103,7 +141,7 @@ module _ {T : Type 0} where
   Taken-none : (s : Loader T) → Taken s s []
   Taken-none s = record { answers = []; run = refl; taken = All-nil IsOk; new = λ h. omega arith; saved = refl; lines = λ h. omega arith; keeps = SameLedger-refl s.ledger }
 
-  Taken-more : (s m t : Loader T) (line : List ℕ) (ls : List (List ℕ)) → Submits (with_line s) line (Ok tt) m → Taken m t ls → Taken s t (line ∷ ls)
+  Taken-more : (s m t : Loader T) (line : List ℕ) (ls : List (List ℕ)) → Submits s line (Ok tt) m → Taken m t ls → Taken s t (line ∷ ls)
   Taken-more s m t line ls one rest = record {
     answers = one.answer ∷ rest.answers;
     run = (m.ledger.now.accepted, one.step, subst (λ most. Run most m.ledger.now.accepted ls rest.answers t.ledger.now.accepted) one.keeps.cap rest.run);
@@ -115,7 +153,7 @@ module _ {T : Type 0} where
   }
 
   -- no line after the first is a header
-  submitted : (s t : Loader T) (line : List ℕ) (answer : Result (Unit {0}) LoadError) → 1 ≤ s.lines → LoadsLine s line answer t → Submits (with_line s) line answer t
+  submitted : (s t : Loader T) (line : List ℕ) (answer : Result (Unit {0}) LoadError) → 1 ≤ s.lines → LoadsLine s line answer t → Submits s line answer t
   submitted s t line answer some (header zero is _ same) = absurd (omega (arith, zero, some))
   submitted s t line answer some (submission other one) = one
 
@@ -228,7 +266,7 @@ module _ {T : Type 0} where
                 omega (arith, fewer, more, ap length so.1, ap length push, length_push (submission_lines before) line)
           ]
 
-      stopped_so : (e : LoadError) → Submits (with_line m) line (Err e) t → Stopped s t e ls
+      stopped_so : (e : LoadError) → Submits m line (Err e) t → Stopped s t e ls
       stopped_so error.Read sub = absurd sub.judged
       stopped_so error.Endless sub = absurd sub.judged
       stopped_so error.Memory sub =
@@ -240,7 +278,7 @@ module _ {T : Type 0} where
           let judged = sub.judged in
           let same : t.ledger.now.accepted ≡ m.ledger.now.accepted = judged.2 in
           let loads = loads_before same in (
-            omega (arith, judged.0, w.lines short, short, ap length are ∙ length_push before line),
+            omega (arith, judged.0, sub.lines, w.lines short, short, ap length are ∙ length_push before line),
             (record { before = before; line = line; are = are; done = loads }, breaks sub.answer (step_after sub.answer sub.step same) judged.1 loads judged.3),
           )
 
@@ -268,14 +306,8 @@ module _ {T : Type 0} where
     -- by a fault of reading
     unread : (fault : ReadFault) → ReadUntil LoadsLine fills old new s t fault
         → Ends (load_error fault) × SameLedger s.ledger t.ledger
-    unread fault.Read h = (
-      AtFault-weaker fills old new _ _ (λ ls few taken. (whole s fresh t ls taken).loads) h,
-      (whole s fresh t (ended_lines h.came) h.done).keeps,
-    )
-    unread fault.Endless h = (
-      AtNoEnd-weaker fills old new _ _ (λ ls few taken. (whole s fresh t ls taken).loads) h,
-      (whole s fresh t (ended_lines h.came) h.done).keeps,
-    )
+    unread fault.Read h = let w = whole s fresh t (ended_lines h.came) h.done in (record { came = h.came; reads = h.reads; done = w.loads }, w.keeps)
+    unread fault.Endless h = let w = whole s fresh t (ended_lines h.came) h.done in (record { came = h.came; reads = h.reads; done = w.loads }, w.keeps)
     unread fault.Memory h = (
       inl (h.0, ap (λ (x : Loader T). x.ledger.now) h.1),
       subst (λ (x : Loader T). SameLedger s.ledger x.ledger) (sym h.1) (SameLedger-refl s.ledger),
@@ -288,22 +320,19 @@ module _ {T : Type 0} where
     ends_at error.Read h = absurd (done_at h)
     ends_at error.Endless h = absurd (done_at h)
 
-    -- how the call ends
-    pub ends_of : (result : Result (Unit {0}) LoadError)
-        → OnOk result (TakesStream LoadsLine fills old new s t)
-        → IfErr result (TakesUntil gives LoadsLine fills old new s t)
-        → OnOk result (AtEnd fills old new (Makes Loads (from_to s.ledger.now t.ledger.now)))
-        × IfErr result Ends × SameLedger s.ledger t.ledger
-    ends_of (Ok x) h k = (
-      AtEnd-weaker fills old new _ _ (λ ls few taken. (whole s fresh t ls taken).loads) h,
-      tt,
-      (whole s fresh t (lines h.came) h.done).keeps,
-    )
-    ends_of (Err e) h (inl k) =
-        let ends = unread k.0 k.2 in (tt, subst Ends (sym k.1) ends.0, ends.1)
-    ends_of (Err e) h (inr k) = (
-      tt,
-      ends_at e (AtLine-weaker fills old new _ _ (λ ls few stops. (last_of e ls few stops).0) k),
-      done_at (AtLine-weaker fills old new _ (λ _. SameLedger s.ledger t.ledger)
-          (λ ls few stops. (last_of e ls few stops).1) k),
-    )
+    pub until : (e : LoadError) → TakesUntil gives (either LoadsLine) fills old new s t e → Ends e × SameLedger s.ledger t.ledger
+    until e h = by (takes-until LoadsLine gives fills old new s t e h)
+      where
+        by : ((fault : ReadFault) × gives fault e × ReadUntil LoadsLine fills old new s t fault) ⊎ AtLine fills old new (λ ls. StopsAtLast LoadsLine s ls e t)
+            → Ends e × SameLedger s.ledger t.ledger
+        by (inl k) = let ends = unread k.0 k.2 in (subst Ends (sym k.1) ends.0, ends.1)
+        by (inr k) = (
+          ends_at e (AtLine-weaker fills old new _ _ (λ ls few stops. (last_of e ls few stops).0) k),
+          done_at (AtLine-weaker fills old new _ (λ _. SameLedger s.ledger t.ledger)
+              (λ ls few stops. (last_of e ls few stops).1) k),
+        )
+
+    pub all_loaded : TakesStream (either LoadsLine) fills old new s (Ok tt) t → AtEnd fills old new (Makes Loads (from_to s.ledger.now t.ledger.now)) × SameLedger s.ledger t.ledger
+    all_loaded h =
+        let all = takes-lines LoadsLine fills old new s t h in let w = whole s fresh t (lines all.came) all.done in
+        (record { came = all.came; reads = all.reads; done = w.loads }, w.keeps)

@@ -5,7 +5,6 @@ use Rattle.pb_io.specs.Count.{next_count}
 use Rattle.pb_io.specs.declared.fault.ReadFault.{ReadFault}
 use Rattle.pb_io.specs.declared.fault.ReadFault.TheVariants as fault
 use Rattle.pb_games.specs.Submissions.{Submission}
-use Rattle.pb_games.specs.declared.refusal.Refusal.{Refusal}
 use Rattle.pb_games.specs.declared.refusal.Refusal.TheVariants as refusal
 use Rattle.pb_accepted.specs.Accepting.{Answer, Step}
 use Rattle.pb_ledger.specs.declared.loading.Loader.{Loader}
@@ -24,32 +23,23 @@ Judged is_saved n A B answer (Err (Line m)) =
     (m ≡ n) × (answer ≢ Err refusal.Memory) × (B ≡ A) × (IsErr answer ⊎ IsTrue is_saved)
 Judged is_saved n A B answer (Err _) = ⊥
 
--- the line was submitted
+-- the line was submitted, and counted
 pub record Submits {T : Type 0} (s : Loader T) (line : List ℕ)
     (result : Result (Unit {0}) LoadError) (t : Loader T) : Type 0 where
   pub answer : Answer
   pub step : Step s.ledger.now.cap s.ledger.now.accepted line answer t.ledger.now.accepted
-  pub judged : Judged s.is_saved s.lines s.ledger.now.accepted t.ledger.now.accepted answer result
-  pub lines : t.lines ≡ s.lines
+  pub judged : Judged s.is_saved t.lines s.ledger.now.accepted t.ledger.now.accepted answer result
+  pub lines : t.lines ≡ next_count s.lines
   pub saved : t.is_saved ≡ s.is_saved
   pub keeps : SameLedger s.ledger t.ledger
-
--- the loader has counted one line more
-abbrev pub with_line : {T : Type 0} → Loader T → Loader T
-with_line s = record s { lines = next_count s.lines }
 
 -- a line was taken: the first one as the header, where it is that, and any other was submitted
 pub data LoadsLine {T : Type 0} (s : Loader T) (line : List ℕ)
     (result : Result (Unit {0}) LoadError) (t : Loader T) : Type 0 where
   header : s.lines ≡ 0 → is_header line ≡ true → result ≡ Ok tt
       → t ≡ record s { lines = 1; is_saved = true } → LoadsLine s line result t
-  submission : (s.lines ≡ 0 → is_header line ≡ false) → Submits (with_line s) line result t
+  submission : (s.lines ≡ 0 → is_header line ≡ false) → Submits s line result t
       → LoadsLine s line result t
-
--- what a refusal of the line with this number is to the loading
-abbrev pub error_at : ℕ → Refusal → LoadError
-error_at n refusal.Memory = Memory
-error_at n e = Line n
 
 -- what a fault of reading is to the loading
 abbrev pub load_error : ReadFault → LoadError

@@ -72,6 +72,7 @@ pub fn collect_journaled<T: Tally, In: Source, Out: Sink, Journal: Sink, Watch: 
         totals: Totals::default(),
     };
     take_lines(alloc, source, &mut collector, fills)?;
-    collector.sink.flush()?;
-    Ok(collector.totals)
+    let totals = collector.totals;
+    sink.flush()?;
+    Ok(totals)
 }

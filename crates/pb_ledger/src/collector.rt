@@ -1,6 +1,6 @@
 //! What is done with each submission of a stream.
 
-ghost use Rattle.std.specs.Prelude.{◌≡◌, ◌≤◌, IfErr, OnOk, length};
+ghost use Rattle.std.specs.Prelude.{◌≡◌, ◌≤◌, IfErr, Ok, false, length, true};
 ghost use Rattle.std.specs.Str.Lines.{strip_carriage_return};
 ghost use Rattle.pb_accepted.specs.Accepting.{answer_of, says_new};
 ghost use Rattle.pb_accepted.specs.Replies.{named, reply_line};
@@ -59,26 +59,28 @@ impl<T: Tally, K: Sink, J: Sink, W: Watcher> LineTask for Collector<'_, '_, '_, 
     fn take(&mut self, line: Option<&[u8]>, _is_ended: bool) -> Result<(), Fault> {
         let answer = submit(self.ledger, line);
         let line = line.unwrap_or(b"");
-        if brings_game(answer) {
-            write_line(self.journal, line)?;
-        }
+        write_new(self.journal, line, answer)?;
         self.reply(line, answer)
     }
 }
 
-fn brings_game(answer: Result<Accepted, Refusal>) -> bool
-    ensures { result ≡ says_new answer }
-{
-    matches!(answer, Ok(accepted) if accepted.is_new)
-}
-
-/// The line is the game's one text, but for a CR at its end.
-fn write_line<J: Sink>(journal: &mut J, line: &[u8]) -> Result<(), Failed>
-    ensures { Writes (J.state journal.old) (J.state journal.new) result
+/// Writes the line of a new game, which is its one text but for a CR at its end.
+fn write_new<J: Sink>(
+    journal: &mut J,
+    line: &[u8],
+    answer: Result<Accepted, Refusal>,
+) -> Result<(), Failed>
+    ensures new { says_new answer ≡ true → Writes (J.state journal.old) (J.state journal.new) result
         (with_end (strip_carriage_return line.now)) }
+    ensures other { says_new answer ≡ false → (result ≡ Ok tt) × (journal.new ≡ journal.old) }
 {
-    put_line(journal, line)?;
-    journal.flush()
+    match answer {
+        Ok(accepted) if accepted.is_new => {
+            put_line(journal, line)?;
+            journal.flush()
+        }
+        _ => Ok(()),
+    }
 }
 
 pub(crate) fn put_line<K: Sink>(sink: &mut K, line: &[u8]) -> Result<(), Failed>

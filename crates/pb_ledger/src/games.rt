@@ -13,14 +13,14 @@ use std::alloc::Global;
 
 /// Puts the lines that have the shape of a submission, and counts all lines.
 #[derive(Drop)]
-struct Picker<'s, 'w, K: Sink, W: Watcher> {
-    sink: &'s mut K,
-    watcher: &'w mut W,
+struct Picker<'p, K: Sink, W: Watcher> {
+    sink: &'p mut K,
+    watcher: &'p mut W,
     lines: u64,
     is_torn: bool,
 }
 
-impl<K: Sink, W: Watcher> LineTask for Picker<'_, '_, K, W> {
+impl<K: Sink, W: Watcher> LineTask for Picker<'_, K, W> {
     type Stop = Fault;
 
     ghost use Rattle.pb_ledger.specs.Picker.{PicksLine};
@@ -28,8 +28,8 @@ impl<K: Sink, W: Watcher> LineTask for Picker<'_, '_, K, W> {
     ghost takes = { PicksLine K.state };
 
     fn take(&mut self, line: Option<&[u8]>, is_ended: bool) -> Result<(), Fault> {
-        self.is_torn = !is_ended;
-        if self.is_torn {
+        if !is_ended {
+            self.is_torn = true;
             return Ok(());
         }
         self.lines = self.lines.saturating_add(1);
@@ -43,8 +43,7 @@ impl<K: Sink, W: Watcher> LineTask for Picker<'_, '_, K, W> {
 
 /// Three TABs, and at most one CR at the end.
 fn may_be_game(line: &[u8]) -> bool
-    requires { length line.now ≤ line_limit }
-    ensures { result ≡ has_shape line.now }
+    ensures { length line.now ≤ line_limit → result ≡ has_shape line.now }
 {
     let text = without_return(line);
     let tabs = text.iter().filter(|byte| **byte == b'\t').count();

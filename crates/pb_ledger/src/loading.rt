@@ -66,13 +66,13 @@ impl<T: Tally> LineTask for Loader<'_, T> {
     fn take(&mut self, line: Option<&[u8]>, _is_ended: bool) -> Result<(), LoadError> {
         let is_first = self.lines == 0;
         self.lines = self.lines.saturating_add(1);
-        if is_first && line.is_some_and(|line| without_return(line) == HEADER) {
+        if is_first && without_return(line.unwrap_or(b"")) == HEADER {
             self.is_saved = true;
             return Ok(());
         }
         match submit(self.ledger, line) {
             Ok(accepted) if accepted.is_new || !self.is_saved => Ok(()),
-            Err(Refusal::Memory) => Err(LoadError::Memory),
+            Err(refusal) if refusal == Refusal::Memory => Err(LoadError::Memory),
             _ => Err(LoadError::Line(self.lines)),
         }
     }

@@ -31,15 +31,15 @@ impl<T: Tally, W: Watcher> LineTask for Replayer<'_, T, W> {
     ghost takes = { ReplaysLine };
 
     fn take(&mut self, line: Option<&[u8]>, is_ended: bool) -> Result<(), Fault> {
-        self.is_torn = !is_ended;
-        if self.is_torn {
+        if !is_ended {
+            self.is_torn = true;
             return Ok(());
         }
         self.lines = self.lines.saturating_add(1);
         match submit(self.ledger, line) {
             Ok(_) => Ok(()),
             // The game was answered `ok` once, and can't be skipped.
-            Err(Refusal::Memory) => Err(Fault::Memory),
+            Err(refusal) if refusal == Refusal::Memory => Err(Fault::Memory),
             Err(_) => {
                 tell_skipped(self.watcher, self.lines, line.unwrap_or(b""));
                 Ok(())

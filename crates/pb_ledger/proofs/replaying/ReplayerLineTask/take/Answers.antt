@@ -1,23 +1,18 @@
-use Rattle.std.proofs.Common.{refl, subst, sym}
-use Rattle.pb_accepted.specs.Accepting.{Step}
-use Rattle.pb_ledger.specs.Lending.{SameLedger}
-use Rattle.pb_ledger.specs.Replayer.{Stops}
+use Rattle.std.proofs.Common.{Err, Ok, ap, refl, rules, ◌≡◌}
+use Rattle.pb_games.specs.declared.refusal.Refusal.TheVariants.{Memory}
+use Rattle.pb_ledger.proofs.Replayed.{stops_refused, stops_taken, submitted_so}
 use Rattle.pb_ledger.proofs.replaying.ReplayerLineTask.take.Goals as goal
 
 pub returns-in-Err : goal.returns-in-Err
-returns-in-Err g c =
-    let old = c.args.self.now.ledger in
-    let same = sym c.pass_over.ensures.ledger in record {
-      answer = c.submit.result;
-      step = subst (λ l. Step old.now.cap old.now.accepted c.args.line.now c.submit.result l.now.accepted) same c.submit.ensures.step;
-      stops = subst (λ r. Stops r c.pass_over.result) (sym c.in-Err.is) c.pass_over.ensures.stops;
-      keeps = subst (λ l. SameLedger old l) same (record { lent = refl; basis = c.submit.ensures.basis; cap = c.submit.ensures.cap });
-    }
+returns-in-Err g c whole is =
+    let memory : c.in-Err.refusal ≡ Memory = search rules in
+    submitted_so c.args.self.now c.submit.new.ledger _ _ c.args.line whole _ (Err c.in-Err.refusal) _ c.if-not-is_ended.false is c.in-Err.ensures.step c.in-Err.ensures.basis c.in-Err.ensures.cap (ap (λ e. Err e) memory, refl)
+
+pub returns-in-Err-2 : goal.returns-in-Err-2
+returns-in-Err-2 g c whole is =
+    submitted_so c.args.self.now c.submit.new.ledger _ _ c.args.line whole _ (Err c.in-Err.refusal) _ c.if-not-is_ended.false is c.in-Err.ensures.step c.in-Err.ensures.basis c.in-Err.ensures.cap
+    (stops_refused c.in-Err.refusal (λ memory. search rules))
 
 pub returns-in-Ok : goal.returns-in-Ok
-returns-in-Ok g c = record {
-  answer = c.submit.result;
-  step = c.submit.ensures.step;
-  stops = λ q. cc (c.in-Ok.is);
-  keeps = record { lent = refl; basis = c.submit.ensures.basis; cap = c.submit.ensures.cap };
-}
+returns-in-Ok g c whole is =
+    submitted_so c.args.self.now c.submit.new.ledger _ _ c.args.line whole _ (Ok c.in-Ok.field-0) _ c.if-not-is_ended.false is c.in-Ok.ensures.step c.in-Ok.ensures.basis c.in-Ok.ensures.cap (stops_taken c.in-Ok.field-0.number)

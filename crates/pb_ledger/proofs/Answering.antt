@@ -1,14 +1,17 @@
 -- A line and its answer: what it leads to, and how many games it adds.
-use Rattle.std.proofs.Common.{◌≡◌, ℕ, ◌+◌, ◌<◌, Bool, true, false, nat_lt, List, [], ◌∷◌, length, Ok, Err, refl, sym, ap, subst, ◌∙◌, arith, inl, inr}
+use Rattle.std.proofs.Common.{◌≡◌, ℕ, ◌+◌, Bool, true, false, nat_lt, List, [], ◌∷◌, length, Option, None, Some, Bor, Result, Ok, Err, refl, sym, ap, subst, ◌∙◌, arith, inl, inr}
+use Rattle.std.specs.Prelude.{MatchOption}
 use Rattle.std.proofs.lemmas.Bool.{lt-ltb, le-ltb}
 use Rattle.std.proofs.lemmas.List.{length-append}
-use Rattle.pb_io.specs.Lines.{line_limit}
+use Rattle.pb_io.specs.Lines.{IsLine}
+use Rattle.pb_games.specs.declared.refusal.Refusal.{Refusal}
 use Rattle.pb_games.specs.declared.refusal.Refusal.TheVariants as refusal
 use Rattle.pb_games.specs.Refusing.{Refuses}
 use Rattle.pb_games.specs.Submissions.{Submission}
 use Rattle.pb_games.proofs.Dues.{first_due, none_at_first}
 use Rattle.pb_accepted.specs.Accepting as steps
-use Rattle.pb_accepted.specs.Accepting.{Answer, Step}
+use Rattle.pb_accepted.specs.Accepting.{Answer, Step, answer_of}
+use Rattle.pb_accepted.specs.declared.ledger.Accepted.{Accepted}
 use Rattle.pb_accepted.proofs.Steps.{refusal_step, step_to}
 use Rattle.pb_accepted.specs.Ledger.{LedgerState}
 use Rattle.pb_ledger.specs.Collecting.{Leads}
@@ -20,12 +23,14 @@ pub Leads-one : (ledger ledger' : LedgerState) (line : List ℕ) (answer : Answe
     → ledger'.basis ≡ ledger.basis → ledger'.cap ≡ ledger.cap → Leads ledger ledger' (line ∷ []) (answer ∷ [])
 Leads-one ledger ledger' line answer step basis cap = record { run = (ledger'.accepted, step, refl); basis = basis; cap = cap }
 
--- a line too long to be kept is refused, which changes nothing
-pub Leads-long : (ledger ledger' : LedgerState) (line : List ℕ) → line_limit < length line → ledger' ≡ ledger → Leads ledger ledger' (line ∷ []) (Err refusal.Long ∷ [])
-Leads-long ledger ledger' line long same =
-    let refuses : Refuses line refusal.Long = first_due refusal.Long line (none_at_first line) long in
-    let one = Leads-one ledger ledger line (Err refusal.Long) (steps.refused refusal.Long refuses refl refl) refl refl in
-    subst (λ (x : LedgerState). Leads ledger x (line ∷ []) (Err refusal.Long ∷ [])) (sym same) one
+-- what a line does of which nothing is known where it is too long
+pub step_by : (ledger ledger' : LedgerState) (line : Option (Bor (List ℕ))) (whole : List ℕ) (full : Result Accepted Refusal) → IsLine line whole
+    → MatchOption line ((full ≡ Err refusal.Long) × (ledger' ≡ ledger)) (λ bytes. Step ledger.cap ledger.accepted bytes.now (answer_of full) ledger'.accepted)
+    → Step ledger.cap ledger.accepted whole (answer_of full) ledger'.accepted
+step_by ledger ledger' None whole full is h =
+    let refuses : Refuses whole refusal.Long = first_due refusal.Long whole (none_at_first whole) is in
+    steps.refused refusal.Long refuses (ap answer_of h.0) (ap (λ (x : LedgerState). x.accepted) h.1)
+step_by ledger ledger' (Some bytes) whole full is h = subst (λ text. Step ledger.cap ledger.accepted text (answer_of full) ledger'.accepted) is.0 h
 
 pub step_of : (ledger ledger' : LedgerState) (line : List ℕ) (answer : Answer) → Leads ledger ledger' (line ∷ []) (answer ∷ [])
     → Step ledger.cap ledger.accepted line answer ledger'.accepted
