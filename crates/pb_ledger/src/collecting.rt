@@ -44,8 +44,8 @@ pub fn collect<T: Tally, In: Source, Out: Sink>(
 ///
 /// # Errors
 ///
-/// As for `collect`. At `Write` either sink has failed: where it is the journal, a front of the line
-/// of a new game may be there, and the ledger holds that game, which wasn't answered.
+/// As for `collect`. At `Write` either sink has failed: where it is the journal, a front of the
+/// line of a new game may be there, and the ledger holds that game, which wasn't answered.
 pub fn collect_journaled<T: Tally, In: Source, Out: Sink, Journal: Sink, Watch: Watcher>(
     alloc: Global,
     source: &mut In,

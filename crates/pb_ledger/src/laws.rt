@@ -21,8 +21,8 @@ pub use pb_games::laws::{
     one_refusal, one_submission, plain_text, refused_by_itself, refused_is_unlawful,
 };
 
-/// What is saved of games loads as these games and as no others, where there is room. So `load` gives
-/// them back where it can read all of it and memory is there, and refuses no line of it.
+/// What is saved of games loads as these games and as no others, where there is room. So `load`
+/// gives them back where it can read all of it and memory is there, and refuses no line of it.
 pub fn saved()
     ensures loads { SavedLoads }
     ensures back { SavedComesBack }
