@@ -1,5 +1,5 @@
 -- What an answer to one line of a stream does.
-use Rattle.std.specs.Prelude.{◌≡◌, ◌↔◌, ℕ, Bool, List, Result, Ok, Err}
+use Rattle.std.specs.Prelude.{◌≡◌, Bool, Result, Ok, Err}
 use Rattle.pb_io.specs.Sink.{AwaitsFlush, SinkState}
 use Rattle.pb_io.specs.declared.fault.Fault.{Fault}
 use Rattle.pb_io.specs.declared.fault.Fault.TheVariants.{Write, Memory}
@@ -12,9 +12,3 @@ PutsOrStops judges sink sink' (Ok taken) = PutsText judges sink sink' taken × A
 PutsOrStops judges sink sink' (Err Write) = PutsFrontOfText judges sink sink'
 PutsOrStops judges sink sink' (Err Memory) = judges (Err Memory) × (sink' ≡ sink)
 PutsOrStops judges sink sink' (Err fault) = ⊥
-
--- the same comes of lines before and after
-abbrev pub SameShown : (ℕ → List ℕ → Verdict → Type 0) → (ℕ → List ℕ → Verdict → Type 0) → Type 0
-SameShown old new =
-    (number : ℕ) (line : List ℕ) (verdict : Verdict) → new number line verdict
-    ↔ old number line verdict

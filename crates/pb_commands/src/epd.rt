@@ -1,11 +1,10 @@
 //! The command `epd`: each EPD line is written in its one ordered form, or refused.
-ghost use Rattle.std.specs.Prelude.{◌≤◌, length};
-ghost use Rattle.pb_io.specs.Lines.{line_limit};
+ghost use Rattle.std.specs.Prelude.{List, ℕ};
+ghost use Rattle.pb_io.specs.Lines.{IsLine};
 ghost use Rattle.pb_commands.specs.EpdRun.{RewritesOrEnds};
 ghost use Rattle.pb_commands.specs.EpdShown.{LineShown};
 ghost use Rattle.pb_commands.specs.LineAnswer.{PutsOrStops};
 
-use crate::line_answer::LineAnswer;
 use crate::line_refusal::{is_blank, put_refusal, refuse_line};
 use crate::lines::answer_lines;
 use crate::output::put_line;
@@ -13,25 +12,6 @@ use pb_board::without_return;
 use pb_epd::form_of;
 use pb_io::{Fault, Sink, Source};
 use std::alloc::Global;
-
-#[derive(Drop)]
-struct Rewriter {
-    alloc: Global,
-}
-
-impl LineAnswer for Rewriter {
-    ghost use Rattle.pb_commands.specs.EpdShown.{LineShown};
-
-    ghost shows = { λ _. LineShown };
-
-    fn answer<K: Sink>(&mut self, sink: &mut K, number: u64, line: &[u8]) -> Result<bool, Fault> {
-        rewrite_line(self.alloc, sink, number, line)
-    }
-
-    fn answer_long<K: Sink>(&mut self, sink: &mut K, number: u64) -> Result<bool, Fault> {
-        refuse_line(sink, number, &[b"long"])
-    }
-}
 
 /// Rewrites each EPD line in its one ordered form, or puts its number and why it is refused, and
 /// answers whether none was. A line of spaces alone is counted and skipped.
@@ -44,18 +24,23 @@ pub fn run_epd<S: Source, K: Sink>(
     ensures { RewritesOrEnds fills (S.state source.old) (S.state source.new)
         (K.state sink.old) (K.state sink.new) result }
 {
-    answer_lines(alloc, source, sink, &mut Rewriter { alloc }, fills)
+    answer_lines(alloc, source, sink, fills, |sink, number, line| {
+        rewrite_line(alloc, sink, number, line)
+    })
 }
 
 fn rewrite_line<K: Sink>(
     alloc: Global,
     sink: &mut K,
     number: u64,
-    line: &[u8],
+    line: Option<&[u8]>,
 ) -> Result<bool, Fault>
-    requires { length line.now ≤ line_limit }
-    ensures { PutsOrStops (LineShown number line.now) (K.state sink.old) (K.state sink.new) result }
+    ensures { (whole : List ℕ) → IsLine line.entry whole
+        → PutsOrStops (LineShown number whole) (K.state sink.old) (K.state sink.new) result }
 {
+    let Some(line) = line else {
+        return refuse_line(sink, number, &[b"long"]);
+    };
     let text = without_return(line);
     if is_blank(text) {
         return Ok(true);

@@ -13,34 +13,29 @@ ghost use Rattle.pb_moves.specs.Played.{IsSpelled, Plays, Spells};
 ghost use Rattle.pb_commands.specs.Line.{texts};
 ghost use Rattle.pb_commands.specs.FenShown.{FenShown, MayPlay};
 ghost use Rattle.pb_commands.specs.Judged.{PutsOrEnds};
-ghost use Rattle.pb_commands.specs.Refused.{GivesReason, refused_verdict, taken};
+ghost use Rattle.pb_commands.specs.Refused.{StopsOrEnds, refused_verdict};
 
 use crate::output::show_line;
-use crate::refusal::{Answer, Refused, refuse};
+use crate::refusal::{Refused, Stopped, accept, unless_refused};
 use pb_board::{Fen, read_fen};
 use pb_io::{Fault, Sink};
 use pb_moves::{advance, read_move};
 use std::alloc::Global;
 
-/// Shows the record after the moves, or shows and answers why record, spelling or move is refused.
-/// `Write` is the only fault (the law `fen_ends`).
+/// Shows the record after the moves, or why record, spelling or move is refused. `Write` is the only
+/// fault (the law `fen_ends`).
 pub fn answer_fen<K: Sink>(
     _alloc: Global,
     fen: &[u8],
     moves: &[&str],
     sink: &mut K,
-) -> Result<Answer, Fault>
-    ensures ends { PutsOrEnds (FenShown fen.now (texts moves.now)) (K.state sink.old)
-        (K.state sink.new) (taken result) }
-    ensures reason { IfOk result (GivesReason ⊥ (K.state sink.old) (K.state sink.new)) }
+) -> Result<bool, Stopped>
+    ensures { StopsOrEnds (FenShown fen.now (texts moves.now)) (K.state sink.old)
+        (K.state sink.new) result }
 {
-    match record_after(fen, moves) {
-        Ok(last) => {
-            show_line(sink, &[last.text().as_bytes()])?;
-            Ok(Answer::Taken)
-        }
-        Err(why) => refuse(sink, why),
-    }
+    let last = accept(sink, record_after(fen, moves))?;
+    show_line(sink, &[last.text().as_bytes()])?;
+    Ok(true)
 }
 
 /// Does what `answer_fen` does, and answers whether the input was taken.
@@ -53,7 +48,7 @@ pub fn run_fen<K: Sink>(
     ensures { PutsOrEnds (FenShown fen.now (texts moves.now)) (K.state sink.old) (K.state sink.new)
         result }
 {
-    Ok(answer_fen(alloc, fen, moves, sink)?.is_taken())
+    Ok(unless_refused(answer_fen(alloc, fen, moves, sink))?.is_some())
 }
 
 fn record_after(fen: &[u8], moves: &[&str]) -> Result<Fen, Refused>
@@ -61,17 +56,11 @@ fn record_after(fen: &[u8], moves: &[&str]) -> Result<Fen, Refused>
         (λ last. FenShown fen.now (texts moves.now) (Ok (true, with_end (fen_text last))))
         (λ why. FenShown fen.now (texts moves.now) (refused_verdict why)) }
 {
-    let start = match read_fen(fen) {
-        Ok(start) => start,
-        Err(error) => return Err(Refused::Fen(error)),
-    };
+    let start = read_fen(fen).map_err(Refused::Fen)?;
     if let Some(number) = misspelt(moves) {
         return Err(Refused::Spelling(number));
     }
-    match play_moves(start, moves) {
-        Ok(last) => Ok(last),
-        Err(number) => Err(Refused::Illegal(number)),
-    }
+    play_moves(start, moves).map_err(Refused::Illegal)
 }
 
 /// The number, from 1, of the first text that spells no move.
@@ -79,18 +68,8 @@ fn misspelt(move_texts: &[&str]) -> Option<usize>
     ensures { MatchOption result (All IsSpelled (texts move_texts.now))
         (BreaksAt (All IsSpelled) (texts move_texts.now)) }
 {
-    for (index, text) in move_texts.iter().enumerate() {
-        if !spells_move(text) {
-            return Some(index + 1);
-        }
-    }
-    None
-}
-
-fn spells_move(text: &str) -> bool
-    ensures { IsTrue result ↔ IsSpelled text.now }
-{
-    read_move(text.as_bytes()).is_some()
+    let index = move_texts.iter().position(|text| read_move(text.as_bytes()).is_none())?;
+    Some(index + 1)
 }
 
 fn play_moves(start: Fen, move_texts: &[&str]) -> Result<Fen, usize>

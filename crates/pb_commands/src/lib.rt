@@ -1,12 +1,11 @@
 //! The commands `fen`, `epd`, `show`, `probe` and `lookup`, as functions over sources and sinks,
-//! and what all commands share: the exit status, the line that refuses a table, answers to lines.
+//! and what all commands share: the exit status, why a command stops, answers to lines.
 #![tactic(auto)]
 
 mod epd;
 mod exit;
 mod fen;
 pub mod laws;
-mod line_answer;
 mod line_refusal;
 mod lines;
 mod lookup;
@@ -18,11 +17,9 @@ mod show;
 pub use epd::run_epd;
 pub use exit::{FAULT_STATUS, status};
 pub use fen::{answer_fen, run_fen};
-pub use line_answer::LineAnswer;
 pub use lines::answer_lines;
-pub use lookup::{answer_lookup, run_lookup};
+pub use lookup::answer_lookup;
 pub use pb_io::Fault;
-pub use pb_poly::{TableFault, take_table};
 pub use probe::{answer_probe, run_probe};
-pub use refusal::{Answer, Refused, refuse_table, refuse_with};
+pub use refusal::{Refused, Stopped, accept, unless_refused};
 pub use show::{answer_show, run_show};

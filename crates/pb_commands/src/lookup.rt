@@ -1,48 +1,25 @@
 //! The command `lookup`: the moves that a book has for the position of each line.
-ghost use Rattle.std.specs.Prelude.{◌≡◌, ◌≤◌, Err, IfOk, Ok, length};
-ghost use Rattle.pb_io.specs.Lines.{line_limit};
+ghost use Rattle.std.specs.Prelude.{◌≡◌, Err, List, Ok, ℕ};
+ghost use Rattle.pb_io.specs.Lines.{IsLine};
 ghost use Rattle.pb_io.specs.Sink.{Put};
 ghost use Rattle.pb_commands.specs.EpdShown.{AsEpd};
 ghost use Rattle.pb_commands.specs.Judged.{ByInput};
 ghost use Rattle.pb_commands.specs.LineAnswer.{PutsOrStops};
-ghost use Rattle.pb_commands.specs.LookupRun.{LooksUp, ReadsBoth};
+ghost use Rattle.pb_commands.specs.LookupRun.{LooksUp};
 ghost use Rattle.pb_commands.specs.LookupShown.{LineFound, moves_line};
 ghost use Rattle.pb_commands.specs.RecordJudged.{AsRecord};
-ghost use Rattle.pb_commands.specs.Refused.{GivesReason, taken};
 
-use crate::line_answer::LineAnswer;
 use crate::line_refusal::{is_blank, put_refusal, refuse_line};
 use crate::lines::answer_lines;
 use crate::output::put_line;
 use crate::probe::put_found;
-use crate::refusal::{Answer, Refused, refuse};
+use crate::refusal::{Refused, Stopped, accept};
 use pb_board::{Setup, read_fen, without_return};
 use pb_epd::{EpdError, read_epd};
 use pb_io::{Failed, Fault, Sink, Source};
 use pb_moves::Move;
 use pb_poly::{Book, Table, probe, read_book, take_table};
 use std::alloc::Global;
-
-#[derive(Drop)]
-struct Finder<'a> {
-    alloc: Global,
-    table: &'a Table,
-    book: &'a Book,
-}
-
-impl LineAnswer for Finder<'_> {
-    ghost use Rattle.pb_commands.specs.LookupShown.{LineFound};
-
-    ghost shows = { λ f. LineFound f.table.now f.book.now };
-
-    fn answer<K: Sink>(&mut self, sink: &mut K, number: u64, line: &[u8]) -> Result<bool, Fault> {
-        look_up(self, sink, number, line)
-    }
-
-    fn answer_long<K: Sink>(&mut self, sink: &mut K, number: u64) -> Result<bool, Fault> {
-        refuse_line(sink, number, &[b"long"])
-    }
-}
 
 /// Puts, for each line that is a FEN or an EPD record, the moves that the book has for its setup
 /// with their weights, or `-`, and refuses other lines as `run_epd` does. Table and book are read
@@ -54,66 +31,41 @@ pub fn answer_lookup<TableIn: Source, BookIn: Source, In: Source, Out: Sink>(
     source: &mut In,
     sink: &mut Out,
     fills: u32,
-) -> Result<Answer, Fault>
-    ensures ends { LooksUp fills (TableIn.state table_source.old) (TableIn.state table_source.new)
-        (BookIn.state book_source.old) (BookIn.state book_source.new) (In.state source.old)
-        (In.state source.new) (Out.state sink.old) (Out.state sink.new) (taken result) }
-    ensures reason { IfOk result (GivesReason (ReadsBoth fills (TableIn.state table_source.old)
-        (TableIn.state table_source.new) (BookIn.state book_source.old)
-        (BookIn.state book_source.new)) (Out.state sink.old) (Out.state sink.new)) }
-{
-    let table = match take_table(alloc, table_source, fills) {
-        Ok(table) => table,
-        Err(error) => return refuse(sink, Refused::Table(error)),
-    };
-    match read_book(alloc, book_source, fills) {
-        Ok(book) => {
-            let mut finder = Finder {
-                alloc,
-                table: &table,
-                book: &book,
-            };
-            let all_taken = answer_lines(alloc, source, sink, &mut finder, fills)?;
-            Ok(if all_taken {
-                Answer::Taken
-            } else {
-                Answer::LinesRefused
-            })
-        }
-        Err(error) => refuse(sink, Refused::Book(error)),
-    }
-}
-
-/// Does what `answer_lookup` does, and answers whether the table, the book and all lines were
-/// taken.
-pub fn run_lookup<TableIn: Source, BookIn: Source, In: Source, Out: Sink>(
-    alloc: Global,
-    table_source: &mut TableIn,
-    book_source: &mut BookIn,
-    source: &mut In,
-    sink: &mut Out,
-    fills: u32,
-) -> Result<bool, Fault>
+) -> Result<bool, Stopped>
     ensures { LooksUp fills (TableIn.state table_source.old) (TableIn.state table_source.new)
         (BookIn.state book_source.old) (BookIn.state book_source.new) (In.state source.old)
         (In.state source.new) (Out.state sink.old) (Out.state sink.new) result }
 {
-    Ok(answer_lookup(alloc, table_source, book_source, source, sink, fills)?.is_taken())
+    let table = accept(sink, take_table(alloc, table_source, fills).map_err(Refused::Table))?;
+    let book = accept(sink, read_book(alloc, book_source, fills).map_err(Refused::Book))?;
+    let all_taken = answer_lines(alloc, source, sink, fills, |sink, number, line| {
+        look_up(alloc, &table, &book, sink, number, line)
+    })?;
+    Ok(all_taken)
 }
 
-fn look_up<K: Sink>(finder: &Finder, sink: &mut K, number: u64, line: &[u8]) -> Result<bool, Fault>
-    requires { length line.now ≤ line_limit }
-    ensures { PutsOrStops (LineFound finder.now.table.now finder.now.book.now number line.now)
-        (K.state sink.old) (K.state sink.new) result }
+fn look_up<K: Sink>(
+    alloc: Global,
+    table: &Table,
+    book: &Book,
+    sink: &mut K,
+    number: u64,
+    line: Option<&[u8]>,
+) -> Result<bool, Fault>
+    ensures { (whole : List ℕ) → IsLine line.entry whole
+        → PutsOrStops (LineFound table.now book.now number whole) (K.state sink.old)
+        (K.state sink.new) result }
 {
+    let Some(line) = line else {
+        return refuse_line(sink, number, &[b"long"]);
+    };
     let text = without_return(line);
     if is_blank(text) {
         return Ok(true);
     }
-    match read_setup(finder.alloc, text) {
+    match read_setup(alloc, text) {
         Ok(setup) => {
-            let found = probe(finder.alloc, finder.book, finder.table, &setup)?;
-            put_moves(sink, found.as_slice())?;
+            put_moves(sink, probe(alloc, book, table, &setup)?.as_slice())?;
             Ok(true)
         }
         Err(error) => put_refusal(sink, number, error),

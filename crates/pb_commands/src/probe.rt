@@ -1,24 +1,21 @@
 //! The command `probe`: the moves that a book has for a position.
-ghost use Rattle.std.specs.Prelude.{ℕ, ◌++◌, IfOk, Ok};
-ghost use Rattle.pb_poly.specs.Reading.{ReadsBook};
-ghost use Rattle.pb_poly.specs.TableReading.{ReadsTable};
+ghost use Rattle.std.specs.Prelude.{◌++◌};
 ghost use Rattle.pb_io.specs.Sink.{Put};
-ghost use Rattle.pb_io.specs.Source.{SourceState};
 ghost use Rattle.pb_commands.specs.Judged.{PutsOrEnds};
 ghost use Rattle.pb_commands.specs.ProbeShown.{ProbesSources, found_text, probe_text};
-ghost use Rattle.pb_commands.specs.Refused.{GivesReason, taken};
+ghost use Rattle.pb_commands.specs.Refused.{StopsOrEnds};
 ghost use Rattle.pb_commands.specs.Shows.{Shows};
 
-use crate::refusal::{Answer, Refused, refuse};
+use crate::refusal::{Refused, Stopped, accept, unless_refused};
 use itoa::Buffer;
 use pb_board::read_fen;
 use pb_io::{Failed, Fault, Sink, Source, put_pieces};
 use pb_moves::Move;
-use pb_poly::{Book, Table, probe, read_book, take_table};
+use pb_poly::{probe, read_book, take_table};
 use std::alloc::Global;
 
 /// Shows the moves that a book has for a record's setup, each with its weight, in the book's order,
-/// or shows and answers why the first of table, book and record is refused.
+/// or why the first of table, book and record is refused.
 pub fn answer_probe<TableIn: Source, BookIn: Source, Out: Sink>(
     alloc: Global,
     table_source: &mut TableIn,
@@ -26,21 +23,18 @@ pub fn answer_probe<TableIn: Source, BookIn: Source, Out: Sink>(
     fen: &[u8],
     sink: &mut Out,
     fills: u32,
-) -> Result<Answer, Fault>
-    ensures ends { PutsOrEnds (ProbesSources fills (TableIn.state table_source.old)
+) -> Result<bool, Stopped>
+    ensures { StopsOrEnds (ProbesSources fills (TableIn.state table_source.old)
         (TableIn.state table_source.new)
         (BookIn.state book_source.old) (BookIn.state book_source.new) fen.now)
-        (Out.state sink.old) (Out.state sink.new) (taken result) }
-    ensures reason { IfOk result (GivesReason ⊥ (Out.state sink.old) (Out.state sink.new)) }
+        (Out.state sink.old) (Out.state sink.new) result }
 {
-    let table = match take_table(alloc, table_source, fills) {
-        Ok(table) => table,
-        Err(error) => return refuse(sink, Refused::Table(error)),
-    };
-    match read_book(alloc, book_source, fills) {
-        Ok(book) => show_under(alloc, &table, &book, fen, sink),
-        Err(error) => refuse(sink, Refused::Book(error)),
-    }
+    let table = accept(sink, take_table(alloc, table_source, fills).map_err(Refused::Table))?;
+    let book = accept(sink, read_book(alloc, book_source, fills).map_err(Refused::Book))?;
+    let record = accept(sink, read_fen(fen).map_err(Refused::Fen))?;
+    let found = probe(alloc, &book, &table, &record.setup())?;
+    show_found(sink, found.as_slice())?;
+    Ok(true)
 }
 
 /// Does what `answer_probe` does, and answers whether all three were taken.
@@ -57,29 +51,8 @@ pub fn run_probe<TableIn: Source, BookIn: Source, Out: Sink>(
         (BookIn.state book_source.old) (BookIn.state book_source.new) fen.now)
         (Out.state sink.old) (Out.state sink.new) result }
 {
-    Ok(answer_probe(alloc, table_source, book_source, fen, sink, fills)?.is_taken())
-}
-
-fn show_under<K: Sink>(
-    alloc: Global,
-    table: &Table,
-    book: &Book,
-    fen: &[u8],
-    sink: &mut K,
-) -> Result<Answer, Fault>
-    ensures ends { (fills : ℕ) (t t' b b' : SourceState) → ReadsTable fills t t' (Ok table.now)
-        → ReadsBook fills b b' (Ok book.now)
-        → PutsOrEnds (ProbesSources fills t t' b b' fen.now) (K.state sink.old) (K.state sink.new)
-        (taken result) }
-    ensures reason { IfOk result (GivesReason ⊥ (K.state sink.old) (K.state sink.new)) }
-{
-    let record = match read_fen(fen) {
-        Ok(record) => record,
-        Err(error) => return refuse(sink, Refused::Fen(error)),
-    };
-    let found = probe(alloc, book, table, &record.setup())?;
-    show_found(sink, found.as_slice())?;
-    Ok(Answer::Taken)
+    let answer = answer_probe(alloc, table_source, book_source, fen, sink, fills);
+    Ok(unless_refused(answer)?.is_some())
 }
 
 fn show_found<K: Sink>(sink: &mut K, found: &[(Move, u16)]) -> Result<(), Fault>

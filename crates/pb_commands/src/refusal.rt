@@ -1,17 +1,18 @@
-//! What a command answers, and the line that says why an input is refused.
-ghost use Rattle.std.specs.Prelude.{◌≡◌, ◌++◌, IfOk, Ok, decimal, false};
+//! Why a command stops, and the line that says why an input is refused.
+ghost use Rattle.std.specs.Prelude.{◌≡◌, ◌++◌, Ok, decimal, false};
 ghost use Rattle.pb_board.specs.LineEnd.{with_end};
-ghost use Rattle.pb_io.specs.Parts.{pieces_joined};
-ghost use Rattle.pb_commands.specs.BookJudged.{book_verdict};
-ghost use Rattle.pb_commands.specs.Judged.{PutsOrEnds, Refuses};
-ghost use Rattle.pb_commands.specs.Refused.{GivesReason, refused_verdict, taken};
-ghost use Rattle.pb_commands.specs.TableJudged.{table_verdict};
+ghost use Rattle.pb_io.specs.declared.fault.Fault.TheVariants as fault;
+ghost use Rattle.pb_commands.specs.Judged.{Refuses};
+ghost use Rattle.pb_commands.specs.Refused.{Accepts, refused_verdict, unless_refused};
+ghost use Rattle.pb_commands.specs.declared.refusal.Stopped.TheVariants as stopped;
 
 use crate::output::show_line;
 use itoa::Buffer;
 use pb_board::FenError;
-use pb_io::{Fault, ReadFault, Sink};
+use pb_io::{Fault, Sink};
+use pb_ledger::LoadError;
 use pb_poly::{BookError, TableFault};
+use std::alloc::AllocError;
 use thiserror::Error;
 
 /// Why an input is refused: `Display` is the sentence for people, the line on the sink tells it in
@@ -33,92 +34,97 @@ pub enum Refused {
     /// The source gave no book.
     #[error("{0}")]
     Book(BookError),
+    /// The saved ledger can't be gone on from.
+    #[error("{0}")]
+    Ledger(LoadError),
 }
 
-/// What a command has done that met no fault.
-#[derive(Clone, Copy, Debug, PartialEq, Eq)]
-pub enum Answer {
-    /// All of its input was taken.
-    Taken,
-    /// Its lines were answered, and some of them refused.
-    LinesRefused,
-    /// Its input was refused for this reason.
+/// Why a command stopped.
+#[derive(Clone, Copy, Debug, PartialEq, Eq, Error)]
+pub enum Stopped {
+    /// Its input was refused for this reason, and the line that says so was put.
+    #[error("{0}")]
     Refused(Refused),
+    /// It met a fault.
+    #[error("{0}")]
+    Fault(Fault),
 }
 
-impl Answer {
-    ghost use Rattle.pb_commands.specs.Refused.{is_taken};
+impl From<Fault> for Stopped {
+    ghost from_gives = { λ fault gives. gives ≡ stopped.Fault fault };
 
-    /// Tells whether all of the input was taken.
-    pub fn is_taken(self) -> bool
-        ensures { result ≡ is_taken self }
-    {
-        matches!(self, Answer::Taken)
+    fn from(fault: Fault) -> Stopped {
+        Stopped::Fault(fault)
     }
 }
 
-/// Shows why the input is refused and answers this reason, or answers the fault that the reason is.
-pub(crate) fn refuse<K: Sink>(sink: &mut K, why: Refused) -> Result<Answer, Fault>
-    ensures ends { PutsOrEnds (λ verdict. verdict ≡ refused_verdict why) (K.state sink.old)
-        (K.state sink.new) (taken result) }
-    ensures reason { IfOk result (GivesReason ⊥ (K.state sink.old) (K.state sink.new)) }
-{
-    show_refusal(sink, why)?;
-    Ok(Answer::Refused(why))
+impl From<AllocError> for Stopped {
+    ghost from_gives = { λ _ gives. gives ≡ stopped.Fault fault.Memory };
+
+    fn from(_: AllocError) -> Stopped {
+        Stopped::Fault(Fault::Memory)
+    }
 }
 
+/// Gives what was made, or none where an input was refused.
+pub fn unless_refused<X>(made: Result<X, Stopped>) -> Result<Option<X>, Fault>
+    ensures { result ≡ unless_refused made }
+{
+    match made {
+        Ok(made) => Ok(Some(made)),
+        Err(Stopped::Refused(_)) => Ok(None),
+        Err(Stopped::Fault(fault)) => Err(fault),
+    }
+}
+
+/// Gives what an input was judged to be, or shows the line that refuses it.
+pub fn accept<X, K: Sink>(sink: &mut K, judged: Result<X, Refused>) -> Result<X, Stopped>
+    ensures { Accepts judged (K.state sink.old) (K.state sink.new) result }
+{
+    match judged {
+        Ok(input) => Ok(input),
+        Err(why) => {
+            show_refusal(sink, why)?;
+            Err(Stopped::Refused(why))
+        }
+    }
+}
+
+/// Shows the line that says why an input is refused, or answers the fault that the reason is.
 fn show_refusal<K: Sink>(sink: &mut K, why: Refused) -> Result<(), Fault>
     ensures { Refuses (refused_verdict why) (K.state sink.old) (K.state sink.new) result }
 {
     match why {
-        Refused::Fen(error) => show_refused(sink, &[b"refused fen ", error.word().as_bytes()]),
-        Refused::Spelling(number) => refuse_with(sink, b"refused spelling ", number),
-        Refused::Illegal(number) => refuse_with(sink, b"refused illegal ", number),
-        Refused::Table(error) => refuse_table(sink, error),
-        Refused::Book(error) => refuse_book(sink, error),
+        Refused::Fen(error) => show_line(sink, &[b"refused fen ", error.word().as_bytes()]),
+        Refused::Spelling(number) => show_number(sink, b"refused spelling ", number),
+        Refused::Illegal(number) => show_number(sink, b"refused illegal ", number),
+        Refused::Table(TableFault::Long) => show_line(sink, &[b"refused table long"]),
+        Refused::Table(TableFault::Line(number)) => {
+            show_number(sink, b"refused table line ", number)
+        }
+        Refused::Table(TableFault::Count(count)) => {
+            show_number(sink, b"refused table count ", count)
+        }
+        Refused::Table(TableFault::Fault(fault)) => Err(fault.into()),
+        Refused::Book(BookError::Unsorted(number)) => {
+            show_number(sink, b"refused book unsorted ", number)
+        }
+        Refused::Book(BookError::Cut(extra)) => show_number(sink, b"refused book cut ", extra),
+        Refused::Ledger(LoadError::Line(number)) => {
+            show_number(sink, b"refused ledger line ", number as usize)
+        }
+        Refused::Book(BookError::Read) | Refused::Ledger(LoadError::Read) => Err(Fault::Read),
+        Refused::Book(BookError::Endless) | Refused::Ledger(LoadError::Endless) => {
+            Err(Fault::Endless)
+        }
+        Refused::Book(BookError::Memory) | Refused::Ledger(LoadError::Memory) => Err(Fault::Memory),
     }
 }
 
-fn refuse_book<K: Sink>(sink: &mut K, error: BookError) -> Result<(), Fault>
-    ensures { Refuses (book_verdict error) (K.state sink.old) (K.state sink.new) result }
-{
-    match error {
-        BookError::Unsorted(number) => refuse_with(sink, b"refused book unsorted ", number),
-        BookError::Cut(extra) => refuse_with(sink, b"refused book cut ", extra),
-        BookError::Read => Err(Fault::Read),
-        BookError::Endless => Err(Fault::Endless),
-        BookError::Memory => Err(Fault::Memory),
-    }
-}
-
-/// Shows why a table file is refused, or answers the fault that ended its reading.
-pub fn refuse_table<K: Sink>(sink: &mut K, error: TableFault) -> Result<(), Fault>
-    ensures { Refuses (table_verdict error) (K.state sink.old) (K.state sink.new) result }
-{
-    match error {
-        TableFault::Long => show_refused(sink, &[b"refused table long"]),
-        TableFault::Line(number) => refuse_with(sink, b"refused table line ", number),
-        TableFault::Count(count) => refuse_with(sink, b"refused table count ", count),
-        TableFault::Fault(ReadFault::Read) => Err(Fault::Read),
-        TableFault::Fault(ReadFault::Endless) => Err(Fault::Endless),
-        TableFault::Fault(ReadFault::Memory) => Err(Fault::Memory),
-    }
-}
-
-/// Shows the line of these words and this number, which refuses an input.
-pub fn refuse_with<K: Sink>(sink: &mut K, words: &[u8], number: usize) -> Result<(), Fault>
+fn show_number<K: Sink>(sink: &mut K, words: &[u8], number: usize) -> Result<(), Fault>
     ensures { Refuses (Ok (false, with_end (words.now ++ decimal number))) (K.state sink.old)
         (K.state sink.new) result }
 {
     let mut buffer = Buffer::new();
-    let digits = buffer.format(number);
-    show_refused(sink, &[words, digits.as_bytes()])
-}
-
-fn show_refused<K: Sink>(sink: &mut K, parts: &[&[u8]]) -> Result<(), Fault>
-    ensures { Refuses (Ok (false, with_end (pieces_joined parts.now))) (K.state sink.old)
-        (K.state sink.new) result }
-{
-    show_line(sink, parts)?;
-    Ok(())
+    show_line(sink, &[words, buffer.format(number).as_bytes()])
 }

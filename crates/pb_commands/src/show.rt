@@ -1,40 +1,35 @@
 //! The command `show`: a line for each entry of a book.
-ghost use Rattle.std.specs.Prelude.{◌≡◌, ℕ, ◌*◌, IfOk, length};
+ghost use Rattle.std.specs.Prelude.{◌≡◌, ℕ, ◌*◌, length};
 ghost use Rattle.std.specs.Int.{bytes_high_first};
 ghost use Rattle.pb_poly.specs.Reading.{ReadsBook};
 ghost use Rattle.pb_io.specs.Sink.{Put};
 ghost use Rattle.pb_commands.specs.BookShown.{BookShown, entry_line, show_text};
 ghost use Rattle.pb_commands.specs.Hexadecimal.{hexadecimal};
 ghost use Rattle.pb_commands.specs.Judged.{PutsOrEnds};
-ghost use Rattle.pb_commands.specs.Refused.{GivesReason, taken};
+ghost use Rattle.pb_commands.specs.Refused.{StopsOrEnds};
 ghost use Rattle.pb_commands.specs.Shows.{Shows};
 
 use crate::output::put_line;
-use crate::refusal::{Answer, Refused, refuse};
+use crate::refusal::{Refused, Stopped, accept, unless_refused};
 use hex::encode_to_slice;
 use pb_io::{Failed, Fault, Sink, Source};
 use pb_poly::{Entry, read_book};
 use std::alloc::Global;
 
 /// Shows a line for each entry of a book that was read whole, with key, code, weight and learn
-/// value in hexadecimal digits, or shows and answers why the book is refused.
+/// value in hexadecimal digits, or why the book is refused.
 pub fn answer_show<S: Source, K: Sink>(
     alloc: Global,
     source: &mut S,
     sink: &mut K,
     fills: u32,
-) -> Result<Answer, Fault>
-    ensures ends { PutsOrEnds (BookShown (ReadsBook fills (S.state source.old)
-        (S.state source.new))) (K.state sink.old) (K.state sink.new) (taken result) }
-    ensures reason { IfOk result (GivesReason ⊥ (K.state sink.old) (K.state sink.new)) }
+) -> Result<bool, Stopped>
+    ensures { StopsOrEnds (BookShown (ReadsBook fills (S.state source.old) (S.state source.new)))
+        (K.state sink.old) (K.state sink.new) result }
 {
-    match read_book(alloc, source, fills) {
-        Ok(book) => {
-            show_entries(sink, book.entries())?;
-            Ok(Answer::Taken)
-        }
-        Err(error) => refuse(sink, Refused::Book(error)),
-    }
+    let book = accept(sink, read_book(alloc, source, fills).map_err(Refused::Book))?;
+    show_entries(sink, book.entries())?;
+    Ok(true)
 }
 
 /// Does what `answer_show` does, and answers whether the book was taken.
@@ -47,7 +42,7 @@ pub fn run_show<S: Source, K: Sink>(
     ensures { PutsOrEnds (BookShown (ReadsBook fills (S.state source.old) (S.state source.new)))
         (K.state sink.old) (K.state sink.new) result }
 {
-    Ok(answer_show(alloc, source, sink, fills)?.is_taken())
+    Ok(unless_refused(answer_show(alloc, source, sink, fills))?.is_some())
 }
 
 fn show_entries<K: Sink>(sink: &mut K, entries: &[Entry]) -> Result<(), Fault>
