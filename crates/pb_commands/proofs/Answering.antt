@@ -1,5 +1,5 @@
 -- From the lines that were answered to what was put.
-use Rattle.std.proofs.Common.{◌≡◌, ℕ, ◌+◌, ◌*◌, ◌^◌, ◌<◌, ◌≤◌, Bool, true, false, ◌&&◌, List, [], ◌∷◌, ◌++◌, length, Result, Ok, Err, OnOk, IfErr, refl, sym, ap, ◌∙◌, subst, arith, inl, inr}
+use Rattle.std.proofs.Common.{◌≡◌, ℕ, ◌+◌, ◌*◌, ◌^◌, ◌<◌, ◌≤◌, Bool, true, false, ◌&&◌, ◌⊎◌, List, [], ◌∷◌, ◌++◌, length, Result, Ok, Err, OnOk, IfErr, refl, sym, ap, ◌∙◌, subst, arith, inl, inr}
 use Rattle.std.specs.Io.KnownBytes.{Appends}
 use Rattle.std.proofs.Math.Seq.{take-append-add, take-length}
 use Rattle.std.proofs.lemmas.List.{append-nil, append_assoc, length-append}
@@ -7,17 +7,18 @@ use Rattle.std.proofs.KnownBytes.{Appends-nil, Appends-trans, Appends-kept}
 use Rattle.pb_io.specs.Source.{SourceState}
 use Rattle.pb_io.specs.Fault.{fault_of_read}
 use Rattle.pb_io.specs.Sink.{AwaitsFlush, Flush, Put, SinkState}
-use Rattle.pb_io.specs.LineTask.{AtEnd, AtLine, ReadUntil, StopsAtLast, TakesAll, TakesStream, TakesUntil, chunk_len}
+use Rattle.pb_io.specs.LineTask.{AtEnd, AtLine, ReadUntil, StopsAtLast, TakesAll, TakesStream, TakesUntil, chunk_len, either}
 use Rattle.pb_io.specs.declared.fault.ReadFault.{ReadFault}
 use Rattle.pb_io.specs.declared.fault.ReadFault.TheVariants as read
 use Rattle.pb_io.specs.declared.source.Failed.{Failed}
 use Rattle.pb_io.specs.Count.{next_count}
 use Rattle.pb_io.proofs.FlushLemmas.{AwaitsFlush-trans, not_flushed}
+use Rattle.pb_io.proofs.TaskLemmas.{takes-lines, takes-until}
 use Rattle.pb_io.proofs.EndLemmas.{AtEnd-weaker, AtFault-weaker, AtLine-weaker, AtNoEnd-weaker}
 use Rattle.pb_io.specs.declared.fault.Fault.{Fault}
 use Rattle.pb_io.specs.declared.fault.Fault.TheVariants.{Read, Write, Endless, Memory}
-use Rattle.pb_commands.specs.declared.lines.Answering.{Answering}
-use Rattle.pb_commands.specs.Answering.{AnswersLine, SameLent}
+use Rattle.pb_commands.specs.declared.answerer.Answering.{Answering}
+use Rattle.pb_commands.specs.Answering.{AnswersLine}
 use Rattle.pb_commands.specs.Judged.{HandedOnOnce, PutsFrontOfText, PutsText, Verdict}
 use Rattle.pb_commands.specs.LineAnswer.{PutsOrStops}
 use Rattle.pb_commands.specs.LinesRun.{AnswersOrEnds, PutsButLast, PutsLines}
@@ -109,19 +110,22 @@ lines_as shown others as_other number (line ∷ ls) verdict h =
     (h.0, h.1, h.2, h.3, as_other number line _ h.4, lines_as shown others as_other (number + 1) ls _ h.5, h.6)
 
 module _ {A K : Type 0} (shows : A → ℕ → List ℕ → Verdict → Type 0) (state : K → SinkState) where
-  kept : (s : Answering A K) → SameLent shows s s
-  kept s = record { answerer = refl; sink = refl; shown = λ number line verdict. (λ x. x, λ x. x) }
-
-  kept_on : (s m t : Answering A K) → SameLent shows s m → SameLent shows m t → SameLent shows s t
-  kept_on s m t h k = record {
-    answerer = k.answerer ∙ h.answerer;
-    sink = k.sink ∙ h.sink;
-    shown = λ number line verdict.
-        let one = h.shown number line verdict in let more = k.shown number line verdict in (λ x. one.0 (more.0 x), λ x. more.1 (one.1 x));
-  }
-
   abbrev Shown : Answering A K → ℕ → List ℕ → Verdict → Type 0
-  Shown s = shows s.answerer.now
+  Shown s = shows s.answerer
+
+  -- the same sink is lent, and what comes of lines stays
+  record Keeps (s t : Answering A K) : Type 0 where
+    lent : t.sink.ghost_name ≡ s.sink.ghost_name
+    same : (number : ℕ) (line : List ℕ) (verdict : Verdict) → Shown t number line verdict → Shown s number line verdict
+
+  kept : (s : Answering A K) → Keeps s s
+  kept s = record { lent = refl; same = λ number line verdict h. h }
+
+  kept_by : (s : Answering A K) (line : List ℕ) (result : Result (Unit {0}) Fault) (t : Answering A K) → AnswersLine shows state s line result t → Keeps s t
+  kept_by s line result t one = record { lent = one.lent; same = one.same }
+
+  kept_on : (s m t : Answering A K) → Keeps s m → Keeps m t → Keeps s t
+  kept_on s m t h k = record { lent = k.lent ∙ h.lent; same = λ number line verdict x. h.same number line verdict (k.same number line verdict x) }
 
   -- lines that were taken gave this, and it was put
   record Run (s t : Answering A K) (ls : List (List ℕ)) : Type 0 where
@@ -130,7 +134,7 @@ module _ {A K : Type 0} (shows : A → ℕ → List ℕ → Verdict → Type 0) 
     counted : t.lines ≡ s.lines + length ls
     answered : t.all_taken ≡ (s.all_taken && answer)
     awaits : AwaitsFlush (state s.sink.now) (state t.sink.now)
-    same : SameLent shows s t
+    keeps : Keeps s t
 
   run_of : (s t : Answering A K) (ls : List (List ℕ)) → s.lines + length ls < 2 ^ 64 → TakesAll (AnswersLine shows state) s ls t → Run s t ls
   run_of s t [] few h =
@@ -140,7 +144,7 @@ module _ {A K : Type 0} (shows : A → ℕ → List ℕ → Verdict → Type 0) 
         counted = omega arith;
         answered = and_true s.all_taken;
         awaits = inl refl;
-        same = kept s;
+        keeps = kept s;
       })
   run_of s t (line ∷ ls) few h =
       let m : Answering A K = h.0 in let one = h.1 in let first = one.puts in
@@ -148,7 +152,7 @@ module _ {A K : Type 0} (shows : A → ℕ → List ℕ → Verdict → Type 0) 
       let counted : m.lines ≡ s.lines + 1 = one.counted ∙ number in
       let rest = run_of m t ls (omega (arith, few, counted)) h.2 in
       let text = first.1.0 in
-      let others = lines_as (Shown m) (Shown s) (λ number line verdict. (one.same.shown number line verdict).0) (m.lines + 1) ls _ rest.puts.judged in record {
+      let others = lines_as (Shown m) (Shown s) one.same (m.lines + 1) ls _ rest.puts.judged in record {
         answer = first.0 && rest.answer;
         puts = record {
           out = text.out ++ rest.puts.out;
@@ -166,7 +170,7 @@ module _ {A K : Type 0} (shows : A → ℕ → List ℕ → Verdict → Type 0) 
         counted = omega (arith, rest.counted, counted);
         answered = rest.answered ∙ ap (λ b. b && rest.answer) first.2 ∙ and_assoc s.all_taken first.0 rest.answer;
         awaits = AwaitsFlush-trans (state s.sink.now) (state m.sink.now) (state t.sink.now) first.1.1 rest.awaits;
-        same = kept_on s m t one.same rest.same;
+        keeps = kept_on s m t (kept_by s line (Ok tt) m one) rest.keeps;
       }
 
   -- ---- the last line stopped the run
@@ -188,7 +192,7 @@ module _ {A K : Type 0} (shows : A → ℕ → List ℕ → Verdict → Type 0) 
         let last = h.5.puts in
         let text = run.puts in
         let number = last_number Write h in
-        let same = (run.same.shown _ _ _).0 last.judged in
+        let same = run.keeps.same _ _ _ last.judged in
         let one = subst (λ n. Shown s n h.1 (text_is last.answer last.out)) number same in
         let all = shown-push (Shown s) (s.lines + 1) h.0 h.1 run.answer last.answer text.out last.out text.judged one in record {
           answer = run.answer && last.answer;
@@ -200,8 +204,8 @@ module _ {A K : Type 0} (shows : A → ℕ → List ℕ → Verdict → Type 0) 
           flushes = last.flushes ∙ not_flushed (state s.sink.now) (state h.2.sink.now) run.awaits;
         }
 
-    same_at_stop : (e : Fault) → StopsAtLast (AnswersLine shows state) s ls e t → SameLent shows s t
-    same_at_stop e h = kept_on s h.2 t (run_before e h).same h.5.same
+    kept_at_stop : (e : Fault) → StopsAtLast (AnswersLine shows state) s ls e t → Keeps s t
+    kept_at_stop e h = kept_on s h.2 t (run_before e h).keeps (kept_by h.2 h.1 (Err e) t h.5)
 
   -- ---- the whole of a stream, from the first line on
 
@@ -240,7 +244,7 @@ module _ {A K : Type 0} (shows : A → ℕ → List ℕ → Verdict → Type 0) 
         let number : next_count h.2.lines ≡ length h.0 + 1 = omega (arith, first, last_number s t ls (few ls some) Memory h) in
         let run = run_before s t ls (few ls some) Memory h in
         let stop = h.5.puts in
-        let same = (run.same.shown _ _ _).0 stop.0 in record {
+        let same = run.keeps.same _ _ _ stop.0 in record {
           before = h.0;
           last = h.1;
           are = h.3;
@@ -248,17 +252,22 @@ module _ {A K : Type 0} (shows : A → ℕ → List ℕ → Verdict → Type 0) 
           puts = subst (λ (x : SinkState). PutsLines (Shown s) sink x h.0) (sym stop.1) (lines_put h.2 h.0 run);
         }
 
-    pub all_of : s.all_taken ≡ true → TakesStream (AnswersLine shows state) fills old new s t → AtEnd fills old new (λ ls. PutsText (LinesShown (Shown s) 1 ls) sink sink' t.all_taken)
-    all_of fresh =
-        AtEnd-weaker fills old new (λ ls. TakesAll (AnswersLine shows state) s ls t) (λ ls. PutsText (LinesShown (Shown s) 1 ls) sink sink' t.all_taken) (λ ls some h.
-        let run = run_of s t ls (few ls some) h in
-        let answer : t.all_taken ≡ run.answer = run.answered ∙ ap (λ b. b && run.answer) fresh in
-        subst (λ b. PutsText (LinesShown (Shown s) 1 ls) sink sink' b) (sym answer) (text_from_one ls sink' run.answer run.puts))
+    abbrev TakesLines : Type 0
+    TakesLines = TakesStream (either (AnswersLine shows state)) fills old new s (Ok tt) t
 
-    pub awaits_of : (r : Result (Unit {0}) Fault) → OnOk r (TakesStream (AnswersLine shows state) fills old new s t) → OnOk r (AwaitsFlush sink sink')
-    awaits_of (Ok tt) h =
-        (AtEnd-weaker fills old new (λ ls. TakesAll (AnswersLine shows state) s ls t) (λ ls. AwaitsFlush sink sink') (λ ls some h. (run_of s t ls (few ls some) h).awaits) h).done
-    awaits_of (Err e) h = tt
+    at_end : TakesLines → AtEnd fills old new (λ ls. Run s t ls)
+    at_end h =
+        AtEnd-weaker fills old new (λ ls. TakesAll (AnswersLine shows state) s ls t) (λ ls. Run s t ls) (λ ls some x. run_of s t ls (few ls some) x)
+        (takes-lines (AnswersLine shows state) fills old new s t h)
+
+    pub all_of : s.all_taken ≡ true → TakesLines → AtEnd fills old new (λ ls. PutsText (LinesShown (Shown s) 1 ls) sink sink' t.all_taken)
+    all_of fresh h =
+        AtEnd-weaker fills old new (λ ls. Run s t ls) (λ ls. PutsText (LinesShown (Shown s) 1 ls) sink sink' t.all_taken) (λ ls some run.
+        let answer : t.all_taken ≡ run.answer = run.answered ∙ ap (λ b. b && run.answer) fresh in
+        subst (λ b. PutsText (LinesShown (Shown s) 1 ls) sink sink' b) (sym answer) (text_from_one ls sink' run.answer run.puts)) (at_end h)
+
+    pub awaits_of : TakesLines → AwaitsFlush sink sink'
+    awaits_of h = (at_end h).done.awaits
 
     all_lines : (ls : List (List ℕ)) → length ls ≤ fills * chunk_len → TakesAll (AnswersLine shows state) s ls t → PutsLines (Shown s) sink sink' ls
     all_lines ls some h = lines_put t ls (run_of s t ls (few ls some) h)
@@ -283,28 +292,37 @@ module _ {A K : Type 0} (shows : A → ℕ → List ℕ → Verdict → Type 0) 
     stopped_until Endless h = absurd (never Endless (λ ls some x. x.5.puts) h)
 
     abbrev Until : Fault → Type 0
-    Until = TakesUntil (λ fault e. e ≡ fault_of_read fault) (AnswersLine shows state) fills old new s t
+    Until = TakesUntil (λ fault e. e ≡ fault_of_read fault) (either (AnswersLine shows state)) fills old new s t
+
+    taken_until : (e : Fault) → Until e
+        → ((fault : ReadFault) × (e ≡ fault_of_read fault) × ReadUntil (AnswersLine shows state) fills old new s t fault) ⊎ AtLine fills old new (Stopped e)
+    taken_until e = takes-until (AnswersLine shows state) (λ fault e. e ≡ fault_of_read fault) fills old new s t e
 
     pub until_of : (e : Fault) → Until e → AnswersOrEnds (Shown s) fills old new sink sink' (Err e)
-    until_of e (inl h) = subst (λ (fault : Fault). AnswersOrEnds (Shown s) fills old new sink sink' (Err fault)) (sym h.1) (read_until h.0 h.2)
-    until_of e (inr h) = stopped_until e h
+    until_of e h = elim (taken_until e h) [
+      inl x ↦ subst (λ (fault : Fault). AnswersOrEnds (Shown s) fills old new sink sink' (Err fault)) (sym x.1) (read_until x.0 x.2)
+      | inr x ↦ stopped_until e x
+    ]
 
-    same_all : (ls : List (List ℕ)) → length ls ≤ fills * chunk_len → TakesAll (AnswersLine shows state) s ls t → SameLent shows s t
-    same_all ls some h = (run_of s t ls (few ls some) h).same
+    kept_all : (ls : List (List ℕ)) → length ls ≤ fills * chunk_len → TakesAll (AnswersLine shows state) s ls t → Keeps s t
+    kept_all ls some h = (run_of s t ls (few ls some) h).keeps
 
-    abbrev Same : List (List ℕ) → Type 0
-    Same ls = SameLent shows s t
+    abbrev KeepsOf : List (List ℕ) → Type 0
+    KeepsOf ls = Keeps s t
 
-    same_read : (fault : ReadFault) → ReadUntil (AnswersLine shows state) fills old new s t fault → SameLent shows s t
-    same_read read.Memory h = subst (λ (x : Answering A K). SameLent shows s x) (sym h.1) (kept s)
-    same_read read.Read h = (AtFault-weaker fills old new (λ ls. TakesAll (AnswersLine shows state) s ls t) Same same_all h).done
-    same_read read.Endless h = (AtNoEnd-weaker fills old new (λ ls. TakesAll (AnswersLine shows state) s ls t) Same same_all h).done
+    kept_read : (fault : ReadFault) → ReadUntil (AnswersLine shows state) fills old new s t fault → Keeps s t
+    kept_read read.Memory h = subst (λ (x : Answering A K). Keeps s x) (sym h.1) (kept s)
+    kept_read read.Read h = (AtFault-weaker fills old new (λ ls. TakesAll (AnswersLine shows state) s ls t) KeepsOf kept_all h).done
+    kept_read read.Endless h = (AtNoEnd-weaker fills old new (λ ls. TakesAll (AnswersLine shows state) s ls t) KeepsOf kept_all h).done
 
-    pub same_of : (r : Result (Unit {0}) Fault) → OnOk r (TakesStream (AnswersLine shows state) fills old new s t) → IfErr r Until → SameLent shows s t
-    same_of (Ok tt) h k = (AtEnd-weaker fills old new (λ ls. TakesAll (AnswersLine shows state) s ls t) Same same_all h).done
-    same_of (Err e) h (inl k) = same_read k.0 k.2
-    same_of (Err e) h (inr k) =
-        elim (AtLine-weaker fills old new (Stopped e) Same (λ ls some x. same_at_stop s t ls (few ls some) e x) k) [ inl x ↦ x.done | inr x ↦ x.done ]
+    pub lent_until : (e : Fault) → Until e → t.sink.ghost_name ≡ s.sink.ghost_name
+    lent_until e h = elim (taken_until e h) [
+      inl x ↦ (kept_read x.0 x.2).lent
+      | inr x ↦ (elim (AtLine-weaker fills old new (Stopped e) KeepsOf (λ ls some y. kept_at_stop s t ls (few ls some) e y) x) [ inl y ↦ y.done | inr y ↦ y.done ]).lent
+    ]
+
+    pub lent_of : TakesLines → t.sink.ghost_name ≡ s.sink.ghost_name
+    lent_of h = (at_end h).done.keeps.lent
 
 -- all lines were answered, and what was put couldn't be handed on
 pub unflushed : (shown : ℕ → List ℕ → Verdict → Type 0) (fills : ℕ) (old new : SourceState) (k l m : SinkState) (answer : Bool) (e : Failed)

@@ -1,43 +1,26 @@
--- Lines of a stream that are answered by calls of a closure, which is handed the sink.
-use Rattle.std.specs.Prelude.{◌≡◌, ◌⊎◌, ℕ, ◌&&◌, Bool, true, List, Option, Result, Ok, Err}
-use Rattle.std.specs.Borrow.{Bor, MutBor}
-use Rattle.std.specs.Fn.{Called, Mut}
+-- What is done with each line of a stream whose lines are answered.
+use Rattle.std.specs.Prelude.{◌≡◌, ℕ, ◌&&◌, Bool, List, Result, Ok, Err}
+use Rattle.pb_io.specs.Sink.{SinkState}
 use Rattle.pb_io.specs.Count.{next_count}
-use Rattle.pb_io.specs.Fault.{fault_of_read}
-use Rattle.pb_io.specs.Lines.{IsLine}
-use Rattle.pb_io.specs.LineTask.{TakesStream, TakesUntil, either}
-use Rattle.pb_io.specs.Sink.{Flush, SinkState}
-use Rattle.pb_io.specs.Source.{SourceState}
 use Rattle.pb_io.specs.declared.fault.Fault.{Fault}
-use Rattle.pb_io.specs.declared.fault.Fault.TheVariants.{Write}
-use Rattle.pb_io.specs.declared.source.Failed.{Failed}
 use Rattle.pb_commands.specs.declared.lines.Answering.{Answering}
+use Rattle.pb_commands.specs.Judged.{Verdict}
+use Rattle.pb_commands.specs.LineAnswer.{PutsOrStops}
 
--- the calls at a sink, a number, and a line or none
-abbrev pub LineCall : Type 0 → Type 0 → Type 1
-LineCall F K = Mut F (MutBor K × (ℕ × (Option (Bor (List ℕ)) × Unit {0})))
-    (Result Bool Fault × (MutBor K × Unit {0}))
+-- what comes of a line was put, or a fault came, with the answer over all lines so far
+abbrev pub LineCounted : (Verdict → Type 0) → SinkState → SinkState → Bool → Bool
+    → Result (Unit {0}) Fault → Type 0
+LineCounted judges sink sink' answer answer' (Ok _) =
+    (taken : Bool) × PutsOrStops judges sink sink' (Ok taken) × (answer' ≡ (answer && taken))
+LineCounted judges sink sink' answer answer' (Err fault) = PutsOrStops judges sink sink' (Err fault)
 
--- a call answers a line of this number, and leaves the closure and the sink so
-pub record CallsAt {F K : Type 0} (calls : LineCall F K) (f : F) (sink : K) (number : ℕ)
-    (line : List ℕ) (answer : Result Bool Fault) (f' : F) (sink' : K) : Type 0 where
-  pub lent : MutBor K
-  pub lends : lent.now ≡ sink
-  pub given : Option (Bor (List ℕ))
-  pub is : IsLine given line
-  pub left : MutBor K
-  pub called : Called calls f (lent, (number, (given, tt))) (answer, (left, tt)) f'
-  pub leaves : left.now ≡ sink'
-
--- whether all lines were taken so far, once one more was answered so
-abbrev pub Counts : Bool → Bool → Result Bool Fault → Result (Unit {0}) Fault → Type 0
-Counts all all' (Ok taken) result = (all' ≡ (all && taken)) × (result ≡ Ok tt)
-Counts all all' (Err fault) result = result ≡ Err fault
-
--- one line is answered
-pub record AnswersLine {F K : Type 0} (calls : LineCall F K) (s : Answering F K) (line : List ℕ)
-    (result : Result (Unit {0}) Fault) (t : Answering F K) : Type 0 where
-  pub answer : Result Bool Fault
-  pub call : CallsAt calls s.answer s.sink.now (next_count s.lines) line answer t.answer t.sink.now
-  pub numbered : t.lines ≡ next_count s.lines
-  pub counts : Counts s.all_taken t.all_taken answer result
+-- one line is answered, the same sink is lent, and what comes of lines stays
+pub record AnswersLine {A K : Type 0} (shows : A → ℕ → List ℕ → Verdict → Type 0)
+    (state : K → SinkState) (s : Answering A K) (line : List ℕ) (result : Result (Unit {0}) Fault)
+    (t : Answering A K) : Type 0 where
+  pub puts : LineCounted (shows s.answerer (next_count s.lines) line) (state s.sink.now)
+      (state t.sink.now) s.all_taken t.all_taken result
+  pub counted : t.lines ≡ next_count s.lines
+  pub lent : t.sink.ghost_name ≡ s.sink.ghost_name
+  pub same : (number : ℕ) (line : List ℕ) (verdict : Verdict)
+      → shows t.answerer number line verdict → shows s.answerer number line verdict

@@ -1,10 +1,7 @@
 //! The command `epd`: each EPD line is written in its one ordered form, or refused.
-ghost use Rattle.std.specs.Prelude.{List, ℕ};
-ghost use Rattle.pb_io.specs.Lines.{IsLine};
 ghost use Rattle.pb_commands.specs.EpdRun.{RewritesOrEnds};
-ghost use Rattle.pb_commands.specs.EpdShown.{LineShown};
-ghost use Rattle.pb_commands.specs.LineAnswer.{PutsOrStops};
 
+use crate::line_answer::LineAnswer;
 use crate::line_refusal::{is_blank, put_refusal, refuse_line};
 use crate::lines::answer_lines;
 use crate::output::put_line;
@@ -12,6 +9,39 @@ use pb_board::without_return;
 use pb_epd::form_of;
 use pb_io::{Fault, Sink, Source};
 use std::alloc::Global;
+
+#[derive(Drop)]
+struct Rewriter {
+    alloc: Global,
+}
+
+impl LineAnswer for Rewriter {
+    ghost use Rattle.pb_commands.specs.EpdShown.{LineShown};
+
+    ghost shows = { λ _. LineShown };
+
+    fn answer<K: Sink>(
+        &mut self,
+        sink: &mut K,
+        number: u64,
+        line: Option<&[u8]>,
+    ) -> Result<bool, Fault> {
+        let Some(line) = line else {
+            return refuse_line(sink, number, &[b"long"]);
+        };
+        let text = without_return(line);
+        if is_blank(text) {
+            return Ok(true);
+        }
+        match form_of(self.alloc, text) {
+            Ok(form) => {
+                put_line(sink, &[form.as_slice()])?;
+                Ok(true)
+            }
+            Err(error) => put_refusal(sink, number, error),
+        }
+    }
+}
 
 /// Rewrites each EPD line in its one ordered form, or puts its number and why it is refused, and
 /// answers whether none was. A line of spaces alone is counted and skipped.
@@ -24,32 +54,5 @@ pub fn run_epd<S: Source, K: Sink>(
     ensures { RewritesOrEnds fills (S.state source.old) (S.state source.new)
         (K.state sink.old) (K.state sink.new) result }
 {
-    answer_lines(alloc, source, sink, fills, |sink, number, line| {
-        rewrite_line(alloc, sink, number, line)
-    })
-}
-
-fn rewrite_line<K: Sink>(
-    alloc: Global,
-    sink: &mut K,
-    number: u64,
-    line: Option<&[u8]>,
-) -> Result<bool, Fault>
-    ensures { (whole : List ℕ) → IsLine line.entry whole
-        → PutsOrStops (LineShown number whole) (K.state sink.old) (K.state sink.new) result }
-{
-    let Some(line) = line else {
-        return refuse_line(sink, number, &[b"long"]);
-    };
-    let text = without_return(line);
-    if is_blank(text) {
-        return Ok(true);
-    }
-    match form_of(alloc, text) {
-        Ok(form) => {
-            put_line(sink, &[form.as_slice()])?;
-            Ok(true)
-        }
-        Err(error) => put_refusal(sink, number, error),
-    }
+    answer_lines(alloc, source, sink, Rewriter { alloc }, fills)
 }

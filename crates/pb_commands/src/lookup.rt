@@ -1,14 +1,13 @@
 //! The command `lookup`: the moves that a book has for the position of each line.
-ghost use Rattle.std.specs.Prelude.{◌≡◌, Err, List, Ok, ℕ};
-ghost use Rattle.pb_io.specs.Lines.{IsLine};
+ghost use Rattle.std.specs.Prelude.{◌≡◌, Err, Ok};
 ghost use Rattle.pb_io.specs.Sink.{Put};
 ghost use Rattle.pb_commands.specs.EpdShown.{AsEpd};
 ghost use Rattle.pb_commands.specs.Judged.{ByInput};
-ghost use Rattle.pb_commands.specs.LineAnswer.{PutsOrStops};
 ghost use Rattle.pb_commands.specs.LookupRun.{LooksUp};
-ghost use Rattle.pb_commands.specs.LookupShown.{LineFound, moves_line};
+ghost use Rattle.pb_commands.specs.LookupShown.{moves_line};
 ghost use Rattle.pb_commands.specs.RecordJudged.{AsRecord};
 
+use crate::line_answer::LineAnswer;
 use crate::line_refusal::{is_blank, put_refusal, refuse_line};
 use crate::lines::answer_lines;
 use crate::output::put_line;
@@ -20,6 +19,42 @@ use pb_io::{Failed, Fault, Sink, Source};
 use pb_moves::Move;
 use pb_poly::{Book, Table, probe, read_book, take_table};
 use std::alloc::Global;
+
+#[derive(Drop)]
+struct Finder<'a> {
+    alloc: Global,
+    table: &'a Table,
+    book: &'a Book,
+}
+
+impl LineAnswer for Finder<'_> {
+    ghost use Rattle.pb_commands.specs.LookupShown.{LineFound};
+
+    ghost shows = { λ f. LineFound f.table.now f.book.now };
+
+    fn answer<K: Sink>(
+        &mut self,
+        sink: &mut K,
+        number: u64,
+        line: Option<&[u8]>,
+    ) -> Result<bool, Fault> {
+        let Some(line) = line else {
+            return refuse_line(sink, number, &[b"long"]);
+        };
+        let text = without_return(line);
+        if is_blank(text) {
+            return Ok(true);
+        }
+        match read_setup(self.alloc, text) {
+            Ok(setup) => {
+                let found = probe(self.alloc, self.book, self.table, &setup)?;
+                put_moves(sink, found.as_slice())?;
+                Ok(true)
+            }
+            Err(error) => put_refusal(sink, number, error),
+        }
+    }
+}
 
 /// Puts, for each line that is a FEN or an EPD record, the moves that the book has for its setup
 /// with their weights, or `-`, and refuses other lines as `run_epd` does. Table and book are read
@@ -38,38 +73,12 @@ pub fn answer_lookup<TableIn: Source, BookIn: Source, In: Source, Out: Sink>(
 {
     let table = accept(sink, take_table(alloc, table_source, fills).map_err(Refused::Table))?;
     let book = accept(sink, read_book(alloc, book_source, fills).map_err(Refused::Book))?;
-    let all_taken = answer_lines(alloc, source, sink, fills, |sink, number, line| {
-        look_up(alloc, &table, &book, sink, number, line)
-    })?;
-    Ok(all_taken)
-}
-
-fn look_up<K: Sink>(
-    alloc: Global,
-    table: &Table,
-    book: &Book,
-    sink: &mut K,
-    number: u64,
-    line: Option<&[u8]>,
-) -> Result<bool, Fault>
-    ensures { (whole : List ℕ) → IsLine line.entry whole
-        → PutsOrStops (LineFound table.now book.now number whole) (K.state sink.old)
-        (K.state sink.new) result }
-{
-    let Some(line) = line else {
-        return refuse_line(sink, number, &[b"long"]);
+    let finder = Finder {
+        alloc,
+        table: &table,
+        book: &book,
     };
-    let text = without_return(line);
-    if is_blank(text) {
-        return Ok(true);
-    }
-    match read_setup(alloc, text) {
-        Ok(setup) => {
-            put_moves(sink, probe(alloc, book, table, &setup)?.as_slice())?;
-            Ok(true)
-        }
-        Err(error) => put_refusal(sink, number, error),
-    }
+    Ok(answer_lines(alloc, source, sink, finder, fills)?)
 }
 
 /// The setup of a FEN record, or else of an EPD record. The error says why there is none of EPD.
