@@ -17,7 +17,7 @@ use Rattle.pb_io.proofs.TaskLemmas.{takes-lines, takes-until}
 use Rattle.pb_io.proofs.EndLemmas.{AtEnd-weaker, AtFault-weaker, AtLine-weaker, AtNoEnd-weaker}
 use Rattle.pb_io.specs.declared.fault.Fault.{Fault}
 use Rattle.pb_io.specs.declared.fault.Fault.TheVariants.{Read, Write, Endless, Memory}
-use Rattle.pb_commands.specs.declared.answerer.Answering.{Answering}
+use Rattle.pb_commands.specs.declared.lines.Answering.{Answering}
 use Rattle.pb_commands.specs.Answering.{AnswersLine}
 use Rattle.pb_commands.specs.Judged.{HandedOnOnce, PutsFrontOfText, PutsText, Verdict}
 use Rattle.pb_commands.specs.LineAnswer.{PutsOrStops}
@@ -111,7 +111,7 @@ lines_as shown others as_other number (line ∷ ls) verdict h =
 
 module _ {A K : Type 0} (shows : A → ℕ → List ℕ → Verdict → Type 0) (state : K → SinkState) where
   abbrev Shown : Answering A K → ℕ → List ℕ → Verdict → Type 0
-  Shown s = shows s.answerer
+  Shown s = shows s.answerer.now
 
   -- the same sink is lent, and what comes of lines stays
   record Keeps (s t : Answering A K) : Type 0 where
@@ -315,14 +315,28 @@ module _ {A K : Type 0} (shows : A → ℕ → List ℕ → Verdict → Type 0) 
     kept_read read.Read h = (AtFault-weaker fills old new (λ ls. TakesAll (AnswersLine shows state) s ls t) KeepsOf kept_all h).done
     kept_read read.Endless h = (AtNoEnd-weaker fills old new (λ ls. TakesAll (AnswersLine shows state) s ls t) KeepsOf kept_all h).done
 
+    lent_at : AtLine fills old new KeepsOf → t.sink.ghost_name ≡ s.sink.ghost_name
+    lent_at (inl h) = h.done.lent
+    lent_at (inr h) = h.done.lent
+
     pub lent_until : (e : Fault) → Until e → t.sink.ghost_name ≡ s.sink.ghost_name
     lent_until e h = elim (taken_until e h) [
       inl x ↦ (kept_read x.0 x.2).lent
-      | inr x ↦ (elim (AtLine-weaker fills old new (Stopped e) KeepsOf (λ ls some y. kept_at_stop s t ls (few ls some) e y) x) [ inl y ↦ y.done | inr y ↦ y.done ]).lent
+      | inr x ↦ lent_at (AtLine-weaker fills old new (Stopped e) KeepsOf (λ ls some y. kept_at_stop s t ls (few ls some) e y) x)
     ]
 
     pub lent_of : TakesLines → t.sink.ghost_name ≡ s.sink.ghost_name
     lent_of h = (at_end h).done.keeps.lent
+
+-- all lines were answered, and what was put was handed on
+pub flushed_all : (shown : ℕ → List ℕ → Verdict → Type 0) (fills : ℕ) (old new : SourceState) (k l m : SinkState) (answer : Bool) (v : Unit {0})
+    → AtEnd fills old new (λ ls. PutsText (LinesShown shown 1 ls) k l answer) → AwaitsFlush k l → Flush {E = Failed} l m (Ok v)
+    → AnswersOrEnds shown fills old new k m (Ok answer)
+flushed_all shown fills old new k l m answer v h awaits flush = (
+  AtEnd-weaker fills old new (λ ls. PutsText (LinesShown shown 1 ls) k l answer) (λ ls. PutsText (LinesShown shown 1 ls) k m answer)
+      (λ ls some text. record { out = text.out; judged = text.judged; put = Appends-kept _ _ _ _ text.put flush.bytes }) h,
+  flushed_once k l m v awaits flush,
+)
 
 -- all lines were answered, and what was put couldn't be handed on
 pub unflushed : (shown : ℕ → List ℕ → Verdict → Type 0) (fills : ℕ) (old new : SourceState) (k l m : SinkState) (answer : Bool) (e : Failed)

@@ -3,9 +3,6 @@ use Rattle.std.proofs.Common.{◌≡◌, ℕ, Bool, List, Result, Ok, Err, ap, i
 use Rattle.pb_io.specs.Sink.{SinkState}
 use Rattle.pb_commands.specs.Judged.{ByInput, PutsOrEnds, PutsText, PutsUntil, Verdict}
 use Rattle.pb_commands.specs.Laws.{OnlyTextsOf, TextsAreOf}
-use Rattle.pb_commands.specs.Refused.{GivesReason}
-use Rattle.pb_commands.specs.declared.refusal.Answer.{Answer}
-use Rattle.pb_commands.specs.declared.refusal.Answer.TheVariants as answer
 use Rattle.pb_commands.specs.Shows.{Shows}
 use Rattle.pb_io.specs.declared.fault.Fault.{Fault}
 use Rattle.pb_io.specs.declared.fault.Fault.TheVariants.{Read, Write, Endless, Memory}
@@ -74,9 +71,3 @@ pub only_texts : (judges others : Verdict → Type 0) → TextsAreOf judges othe
     → ((fault : Fault) → judges (Err fault) → fault ≡ Memory) → OnlyTextsOf judges others
 only_texts judges others as_other one faults text (Ok x) other h = inl (ap (λ (y : Bool × List ℕ). let v : Verdict = Ok y in v) (one x text (as_other x h) other))
 only_texts judges others as_other one faults text (Err fault) other h = inr (ap (λ (y : Fault). let v : Verdict = Err y in v) (faults fault h))
-
--- what is so of a command without lines is so of one with lines
-pub reason_with_lines : (lines : Type 0) (sink sink' : SinkState) (given : Answer) → GivesReason ⊥ sink sink' given → GivesReason lines sink sink' given
-reason_with_lines lines sink sink' answer.Taken h = tt
-reason_with_lines lines sink sink' answer.LinesRefused h = absurd h
-reason_with_lines lines sink sink' (answer.Refused why) h = h

@@ -11,4 +11,5 @@ mod Probing
 mod PutsInTurn
 mod Showing
 mod Shown
+pub mod Stopping
 pub mod Told

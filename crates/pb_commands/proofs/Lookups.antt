@@ -1,11 +1,11 @@
 -- What comes of lines that are short, and of those whose positions are looked up.
-use Rattle.std.proofs.Common.{◌≡◌, ℕ, ◌≤◌, List, [], Result, Ok, Err, ap, inl, inr, length, refl, subst, sym, true}
+use Rattle.std.proofs.Common.{◌≡◌, ◌∙◌, ℕ, Bor, List, Option, Some, Result, Ok, Err, ap, inl, inr, refl, subst, sym, true}
 use Rattle.std.specs.Str.Lines.{strip_carriage_return}
 use Rattle.pb_board.specs.Position.{Position}
 use Rattle.pb_board.specs.LineEnd.{with_end}
 use Rattle.pb_epd.specs.Epd.{epd_form}
 use Rattle.pb_epd.specs.declared.refusal.EpdError.{EpdError}
-use Rattle.pb_io.specs.Lines.{line_limit}
+use Rattle.pb_io.specs.Lines.{IsLine}
 use Rattle.pb_io.specs.declared.fault.Fault.TheVariants.{Memory}
 use Rattle.pb_moves.specs.Moved.{Moved}
 use Rattle.pb_poly.specs.declared.entry.Entry.{Entry}
@@ -16,14 +16,13 @@ use Rattle.pb_commands.specs.LookupShown.{moves_line}
 use Rattle.pb_commands.specs.ProbeShown.{FoundShown}
 use Rattle.pb_commands.specs.RecordJudged.{AsRecord}
 
--- a line that is short, and its text
-module _ (gives : ℕ → List ℕ → Verdict → Type 0) (number : ℕ) (line text : List ℕ) (short : length line ≤ line_limit) (is : text ≡ strip_carriage_return line) where
-  pub line_blank : IsBlank text → LineGives gives number line (Ok (true, []))
-  line_blank blank = inr (short, inl (subst IsBlank is blank, refl))
-
-  pub line_full : ¬ IsBlank text → (verdict : Verdict) → gives number text verdict → LineGives gives number line verdict
-  line_full full verdict h =
-      inr (short, inr (λ blank. full (subst IsBlank (sym is) blank), subst (λ (x : List ℕ). gives number x verdict) is h))
+-- a line that was told as its bytes, and its text
+pub line_full : (gives : ℕ → List ℕ → Verdict → Type 0) (number : ℕ) (given : Option (Bor (List ℕ))) (bytes : Bor (List ℕ)) (text line : List ℕ) → given ≡ Some bytes
+    → IsLine given line → text ≡ strip_carriage_return bytes.now → ¬ IsBlank text → (verdict : Verdict) → gives number text verdict → LineGives gives number line verdict
+line_full gives number given bytes text line some told stripped full verdict h =
+    let is = subst (λ (o : Option (Bor (List ℕ))). IsLine o line) some told in
+    let same : text ≡ strip_carriage_return line = stripped ∙ ap strip_carriage_return is.0 in
+    inr (is.1, inr (λ blank. full (subst IsBlank (sym same) blank), subst (λ (x : List ℕ). gives number x verdict) same h))
 
 -- what comes of the text for `epd`
 abbrev pub EpdGives : ℕ → List ℕ → Verdict → Type 0

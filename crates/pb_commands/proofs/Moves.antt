@@ -1,8 +1,8 @@
 -- Words that spell moves, and moves that are played one after the other.
-use Rattle.std.proofs.Common.{◌≡◌, ◌∙◌, ℕ, ◌+◌, ◌<◌, ◌≤◌, All, Bor, List, [], ◌∷◌, ◌++◌, ap, drop, get_or, length, None, Option, Some, subst, sym}
+use Rattle.std.proofs.Common.{◌≡◌, ◌≢◌, ◌∙◌, ℕ, ◌+◌, ◌<◌, ◌≤◌, All, Bool, Bor, List, [], ◌∷◌, ◌++◌, ap, drop, false, get_or, length, None, Option, Some, subst, sym, true}
 use Rattle.std.specs.List.{AllZip}
 use Rattle.std.specs.Prelude.{MatchOption}
-use Rattle.std.specs.Option.{SomeIff}
+use Rattle.std.specs.Option.{SomeIff, is_some}
 use Rattle.std.proofs.Math.ListN.{drop_of_length-le}
 use Rattle.std.proofs.lemmas.List.{drop_more}
 use Rattle.std.proofs.lemmas.List.Elements.{All-head, All-tail}
@@ -35,6 +35,17 @@ spelt_moves [] all = ([], tt)
 spelt_moves (w ∷ ws) all =
     let first = All-head IsSpelled w ws all in
     let others = spelt_moves ws (All-tail IsSpelled w ws all) in (first.0 ∷ others.0, (first.1, others.1))
+
+-- whether a word spells a move, by what is read of it
+pub is_spelt : (word text : List ℕ) (read : Option Moved) → text ≡ word → is_some read ≡ true
+    → MatchOption read ((m : Moved) → IsMove m → text ≢ spelling m) (λ m. IsMove m × (text ≡ spelling m)) → IsSpelled word
+is_spelt word text None same there h = absurd (cc there)
+is_spelt word text (Some m) same there h = (m, record { is_move = h.0; is = sym same ∙ h.1 })
+
+pub isnt_spelt : (word text : List ℕ) (read : Option Moved) → text ≡ word → is_some read ≡ false
+    → MatchOption read ((m : Moved) → IsMove m → text ≢ spelling m) (λ m. IsMove m × (text ≡ spelling m)) → ¬ IsSpelled word
+isnt_spelt word text None same there h spelt = h spelt.0 spelt.1.is_move (same ∙ spelt.1.is)
+isnt_spelt word text (Some m) same there h spelt = absurd (cc there)
 
 -- one move more
 pub plays_more : (f : Record) (ms : List Moved) (g : Record) (m : Moved) (h : Record) → Plays f ms g → Legal g.setup m

@@ -16,18 +16,22 @@ use Rattle.pb_poly.specs.declared.table_file.TableFault.{TableFault}
 use Rattle.pb_poly.specs.declared.table_file.TableFault.TheVariants as table_fault
 use Rattle.pb_poly.proofs.ToldReads.{no_endless, no_fault}
 use Rattle.pb_commands.specs.BookJudged.{AsBook, book_verdict}
-use Rattle.pb_commands.specs.Judged.{PutsOrEnds, Verdict}
+use Rattle.pb_commands.specs.Judged.{Verdict}
 use Rattle.pb_commands.specs.Laws.{OnlyTextsOf, TextsAreOf}
 use Rattle.pb_commands.specs.ProbeShown.{ProbeShown, ProbesSources, probe_text}
 use Rattle.pb_commands.specs.RecordJudged.{AsRecord, record_verdict}
+use Rattle.pb_commands.specs.Refused.{StopsOrEnds}
 use Rattle.pb_commands.specs.Shows.{Shows}
 use Rattle.pb_commands.specs.TableJudged.{AsTable, table_verdict}
+use Rattle.pb_commands.specs.declared.refusal.Stopped.{Stopped}
+use Rattle.pb_commands.specs.declared.refusal.Stopped.TheVariants as stopped
 use Rattle.pb_io.specs.declared.fault.Fault.{Fault}
 use Rattle.pb_io.specs.declared.fault.ReadFault.TheVariants as read
 use Rattle.pb_io.specs.declared.fault.Fault.TheVariants.{Memory}
-use Rattle.pb_commands.proofs.Judging.{only_texts, shows, text_not_shown, text_shown}
+use Rattle.pb_commands.proofs.Judging.{only_texts, text_not_shown, text_shown}
 use Rattle.pb_commands.proofs.OneProbe.{probe_is_one}
 use Rattle.pb_commands.proofs.Showing.{book_wants}
+use Rattle.pb_commands.proofs.Stopping.{stops_by}
 use Rattle.pb_commands.proofs.Told.{told_book, told_no_book, told_no_table, told_table}
 
 -- of a source that tells its bytes, doesn't fail and ends within the fills only want of memory comes
@@ -48,25 +52,25 @@ module _ (fills : ℕ) (t t' b b' : SourceState) (fen : List ℕ) where
   judges = ProbesSources fills t t' b b' fen
 
   module _ (sink sink' : SinkState) where
-    abbrev Ends : Result Bool Fault → Type 0
-    Ends = PutsOrEnds judges sink sink'
+    abbrev Ends : Result Bool Stopped → Type 0
+    Ends = StopsOrEnds judges sink sink'
 
-    pub at_table : b' ≡ b → (result : Result Bool Fault) (e : TableFault) → ReadsTable fills t t' (Err e)
-        → PutsOrEnds (λ verdict. verdict ≡ table_verdict e) sink sink' result → Ends result
-    at_table same result e h r = shows judges (table_verdict e) (Err e, (h, same), refl) sink sink' result r
+    pub at_table : b' ≡ b → (result : Result Bool Stopped) (e : TableFault) → ReadsTable fills t t' (Err e)
+        → StopsOrEnds (λ verdict. verdict ≡ table_verdict e) sink sink' result → Ends result
+    at_table same result e h r = stops_by judges (table_verdict e) (Err e, (h, same), refl) sink sink' result r
 
     module _ (words : List ℕ) (read : ReadsTable fills t t' (Ok words)) where
-      pub at_book : (result : Result Bool Fault) (e : BookError) → ReadsBook fills b b' (Err e)
-          → PutsOrEnds (λ verdict. verdict ≡ book_verdict e) sink sink' result → Ends result
-      at_book result e h r = shows judges (book_verdict e) (Ok words, (read, tt), (Err e, h, refl)) sink sink' result r
+      pub at_book : (result : Result Bool Stopped) (e : BookError) → ReadsBook fills b b' (Err e)
+          → StopsOrEnds (λ verdict. verdict ≡ book_verdict e) sink sink' result → Ends result
+      at_book result e h r = stops_by judges (book_verdict e) (Ok words, (read, tt), (Err e, h, refl)) sink sink' result r
 
       module _ (entries : List Entry) (read_too : ReadsBook fills b b' (Ok entries)) where
-        pub at_record : (result : Result Bool Fault) (e : FenError) → AsRecord fen (Err e)
-            → PutsOrEnds (λ verdict. verdict ≡ record_verdict e) sink sink' result → Ends result
-        at_record result e due r = shows judges (record_verdict e) (Ok words, (read, tt), (Ok entries, read_too, (Err e, due, refl))) sink sink' result r
+        pub at_record : (result : Result Bool Stopped) (e : FenError) → AsRecord fen (Err e)
+            → StopsOrEnds (λ verdict. verdict ≡ record_verdict e) sink sink' result → Ends result
+        at_record result e due r = stops_by judges (record_verdict e) (Ok words, (read, tt), (Ok entries, read_too, (Err e, due, refl))) sink sink' result r
 
         module _ (f : Record) (is_record : AsRecord fen (Ok f)) where
-          pub at_memory : sink' ≡ sink → Ends (Err Memory)
+          pub at_memory : sink' ≡ sink → Ends (Err (stopped.Fault Memory))
           at_memory same = ((Ok words, (read, tt), (Ok entries, read_too, (Ok f, is_record, inr refl))), same)
 
           -- the moves that are found for the record
@@ -78,9 +82,9 @@ module _ (fills : ℕ) (t t' b b' : SourceState) (fen : List ℕ) where
                 (Ok words, (read, tt), (Ok entries, read_too, (Ok f, is_record, inl (others, here, refl))))
 
             pub at_moves : {A : Type 0} (v : A) → Shows {A = A} sink sink' (Ok v) (probe_text others) → Ends (Ok true)
-            at_moves = text_shown judges sink sink' true (probe_text others) shown
+            at_moves v h = (refl, text_shown judges sink sink' true (probe_text others) shown v h)
 
-            pub at_fault : {A : Type 0} (e : Fault) → Shows {A = A} sink sink' (Err e) (probe_text others) → Ends (Err e)
+            pub at_fault : {A : Type 0} (e : Fault) → Shows {A = A} sink sink' (Err e) (probe_text others) → Ends (Err (stopped.Fault e))
             at_fault = text_not_shown judges sink sink' true (probe_text others) shown
 
   -- where both sources tell their bytes

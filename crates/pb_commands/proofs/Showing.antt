@@ -11,13 +11,17 @@ use Rattle.pb_poly.specs.declared.reading.BookError.TheVariants as book_error
 use Rattle.pb_poly.proofs.ToldReads.{no_endless, no_fault}
 use Rattle.pb_commands.specs.BookJudged.{AsBook, book_verdict}
 use Rattle.pb_commands.specs.BookShown.{BookShown, show_text}
-use Rattle.pb_commands.specs.Judged.{PutsOrEnds, Verdict}
+use Rattle.pb_commands.specs.Judged.{Verdict}
 use Rattle.pb_commands.specs.Laws.{OnlyTextsOf}
+use Rattle.pb_commands.specs.Refused.{StopsOrEnds}
 use Rattle.pb_commands.specs.Shows.{Shows}
+use Rattle.pb_commands.specs.declared.refusal.Stopped.{Stopped}
+use Rattle.pb_commands.specs.declared.refusal.Stopped.TheVariants as stopped
 use Rattle.pb_io.specs.declared.fault.Fault.{Fault}
 use Rattle.pb_io.specs.declared.fault.Fault.TheVariants.{Memory}
-use Rattle.pb_commands.proofs.Judging.{only_texts, shows, text_not_shown, text_shown}
+use Rattle.pb_commands.proofs.Judging.{only_texts, text_not_shown, text_shown}
 use Rattle.pb_commands.proofs.OneBook.{shown_is_one}
+use Rattle.pb_commands.proofs.Stopping.{stops_by}
 use Rattle.pb_commands.proofs.Told.{told_shown}
 
 -- of a source that tells its bytes, doesn't fail and ends within the fills only want of memory comes
@@ -41,8 +45,8 @@ module _ (fills : ℕ) (s s' : SourceState) (sink sink' : SinkState) where
   abbrev judges : Verdict → Type 0
   judges = BookShown (ReadsBook fills s s')
 
-  abbrev Ends : Result Bool Fault → Type 0
-  Ends = PutsOrEnds judges sink sink'
+  abbrev Ends : Result Bool Stopped → Type 0
+  Ends = StopsOrEnds judges sink sink'
 
   -- the book was read, and these are its entries
   module _ (book entries : List Entry) (read : ReadsBook fills s s' (Ok book)) (same : entries ≡ book) where
@@ -50,10 +54,10 @@ module _ (fills : ℕ) (s s' : SourceState) (sink sink' : SinkState) where
     shown = (Ok entries, subst (λ (es : List Entry). ReadsBook fills s s' (Ok es)) (sym same) read, refl)
 
     pub at_entries : {A : Type 0} (v : A) → Shows {A = A} sink sink' (Ok v) (show_text entries) → Ends (Ok true)
-    at_entries = text_shown judges sink sink' true (show_text entries) shown
+    at_entries v h = (refl, text_shown judges sink sink' true (show_text entries) shown v h)
 
-    pub at_fault : {A : Type 0} (e : Fault) → Shows {A = A} sink sink' (Err e) (show_text entries) → Ends (Err e)
+    pub at_fault : {A : Type 0} (e : Fault) → Shows {A = A} sink sink' (Err e) (show_text entries) → Ends (Err (stopped.Fault e))
     at_fault = text_not_shown judges sink sink' true (show_text entries) shown
 
-  pub at_refusal : (result : Result Bool Fault) (e : BookError) → ReadsBook fills s s' (Err e) → PutsOrEnds (λ verdict. verdict ≡ book_verdict e) sink sink' result → Ends result
-  at_refusal result e h r = shows judges (book_verdict e) (Err e, h, refl) sink sink' result r
+  pub at_refusal : (result : Result Bool Stopped) (e : BookError) → ReadsBook fills s s' (Err e) → StopsOrEnds (λ verdict. verdict ≡ book_verdict e) sink sink' result → Ends result
+  at_refusal result e h r = stops_by judges (book_verdict e) (Err e, h, refl) sink sink' result r

@@ -18,9 +18,9 @@ LineCounted judges sink sink' answer answer' (Err fault) = PutsOrStops judges si
 pub record AnswersLine {A K : Type 0} (shows : A → ℕ → List ℕ → Verdict → Type 0)
     (state : K → SinkState) (s : Answering A K) (line : List ℕ) (result : Result (Unit {0}) Fault)
     (t : Answering A K) : Type 0 where
-  pub puts : LineCounted (shows s.answerer (next_count s.lines) line) (state s.sink.now)
+  pub puts : LineCounted (shows s.answerer.now (next_count s.lines) line) (state s.sink.now)
       (state t.sink.now) s.all_taken t.all_taken result
   pub counted : t.lines ≡ next_count s.lines
   pub lent : t.sink.ghost_name ≡ s.sink.ghost_name
   pub same : (number : ℕ) (line : List ℕ) (verdict : Verdict)
-      → shows t.answerer number line verdict → shows s.answerer number line verdict
+      → shows t.answerer.now number line verdict → shows s.answerer.now number line verdict

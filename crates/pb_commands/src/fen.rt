@@ -1,7 +1,6 @@
 //! The command `fen`: moves are played from a FEN record, and the record after them is written.
 ghost use Rattle.std.specs.List.{AllZip};
-ghost use Rattle.std.specs.Prelude.{◌≡◌, ◌↔◌, All, IfOk, IsTrue, List, MatchOption, MatchResult, Ok};
-ghost use Rattle.std.specs.Prelude.{true};
+ghost use Rattle.std.specs.Prelude.{◌≡◌, All, List, MatchOption, MatchResult, Ok, true};
 ghost use Rattle.pb_board.specs.Position.{IsRecord};
 ghost use Rattle.pb_board.specs.LineEnd.{with_end};
 ghost use Rattle.pb_board.specs.Refusal.{BreaksAt};
@@ -68,8 +67,12 @@ fn misspelt(move_texts: &[&str]) -> Option<usize>
     ensures { MatchOption result (All IsSpelled (texts move_texts.now))
         (BreaksAt (All IsSpelled) (texts move_texts.now)) }
 {
-    let index = move_texts.iter().position(|text| read_move(text.as_bytes()).is_none())?;
-    Some(index + 1)
+    for (index, text) in move_texts.iter().enumerate() {
+        if read_move(text.as_bytes()).is_none() {
+            return Some(index + 1);
+        }
+    }
+    None
 }
 
 fn play_moves(start: Fen, move_texts: &[&str]) -> Result<Fen, usize>

@@ -1,6 +1,6 @@
 //! Laws of how commands end, as contracts of functions that do nothing.
 
-ghost use Rattle.std.specs.Prelude.{◌≡◌, ℕ, Bool, Err, List, Ok, Some};
+ghost use Rattle.std.specs.Prelude.{◌≡◌, ℕ, Bool, Err, IfOk, List, Ok, Result, Some};
 ghost use Rattle.pb_io.specs.LineTask.{IfKnown};
 ghost use Rattle.pb_io.specs.Lines.{lines};
 ghost use Rattle.pb_io.specs.Sink.{SinkState};
@@ -19,7 +19,9 @@ ghost use Rattle.pb_commands.specs.LinesShown.{LinesShown};
 ghost use Rattle.pb_commands.specs.LookupRun.{LooksUp};
 ghost use Rattle.pb_commands.specs.LookupShown.{LookupShown};
 ghost use Rattle.pb_commands.specs.ProbeShown.{ProbeShown, ProbesSources};
+ghost use Rattle.pb_commands.specs.Refused.{taken};
 ghost use Rattle.pb_commands.specs.TableJudged.{AsTable};
+ghost use Rattle.pb_commands.specs.declared.refusal.Stopped.{Stopped};
 
 /// No fault ends `run_fen` but one of the sink.
 pub fn fen_ends()
@@ -55,10 +57,11 @@ pub fn probe_ends()
         (ProbeShown (AsTable table) (AsBook book) fen) }
 {}
 
-/// What `run_lookup` puts, where the bytes of its three sources are known, is what these give.
+/// What `answer_lookup` puts, where the bytes of its three sources are known, is what these give.
 pub fn lookup_ends()
-    ensures { (fills : ℕ) (t t' b b' s s' : SourceState) (k k' : SinkState) (answer : Bool)
-        (table book bytes : List ℕ) → t.to_come ≡ Some table → b.to_come ≡ Some book
-        → s.to_come ≡ Some bytes → LooksUp fills t t' b b' s s' k k' (Ok answer)
-        → PutsText (LookupShown (AsTable table) (AsBook book) (lines bytes)) k k' answer }
+    ensures { (fills : ℕ) (t t' b b' s s' : SourceState) (k k' : SinkState)
+        (result : Result Bool Stopped) (table book bytes : List ℕ) → t.to_come ≡ Some table
+        → b.to_come ≡ Some book → s.to_come ≡ Some bytes → LooksUp fills t t' b b' s s' k k' result
+        → IfOk (taken result)
+        (PutsText (LookupShown (AsTable table) (AsBook book) (lines bytes)) k k') }
 {}

@@ -1,4 +1,5 @@
 //! Streams of lines, each of which is answered.
+ghost use Rattle.std.specs.Prelude.{◌≡◌, true};
 ghost use Rattle.pb_commands.specs.LinesRun.{AnswersOrEnds};
 
 use crate::line_answer::LineAnswer;
@@ -6,15 +7,15 @@ use pb_io::{Fault, LineTask, Sink, Source, take_lines};
 use std::alloc::Global;
 
 #[derive(Drop)]
-struct Answering<'s, A, K> {
-    answerer: A,
+struct Answering<'a, 's, A, K> {
+    answerer: &'a mut A,
     sink: &'s mut K,
     lines: u64,
     /// Whether no line was refused so far.
     all_taken: bool,
 }
 
-impl<A: LineAnswer, K: Sink> LineTask for Answering<'_, A, K> {
+impl<A: LineAnswer, K: Sink> LineTask for Answering<'_, '_, A, K> {
     type Stop = Fault;
 
     ghost use Rattle.pb_io.specs.LineTask.{either};
@@ -30,25 +31,42 @@ impl<A: LineAnswer, K: Sink> LineTask for Answering<'_, A, K> {
     }
 }
 
+impl<A: LineAnswer, K: Sink> Answering<'_, '_, A, K> {
+    fn answer_all<S: Source>(
+        &mut self,
+        alloc: Global,
+        source: &mut S,
+        fills: u32,
+    ) -> Result<bool, Fault>
+        requires first { self.old.lines ≡ 0 }
+        requires none_refused { self.old.all_taken ≡ true }
+        ensures ends { AnswersOrEnds (A.shows self.old.answerer.now) fills (S.state source.old)
+            (S.state source.new) (K.state self.old.sink.now) (K.state self.new.sink.now) result }
+        ensures lent { self.new.sink.ghost_name ≡ self.old.sink.ghost_name }
+    {
+        take_lines(alloc, source, self, fills)?;
+        self.sink.flush()?;
+        Ok(self.all_taken)
+    }
+}
+
 /// Answers the lines of the source in order, tells whether none was refused, and hands on what was
 /// put once, at the end. A piece that no LF ended is a line at the end of input alone.
 pub fn answer_lines<S: Source, K: Sink, A: LineAnswer>(
     alloc: Global,
     source: &mut S,
     sink: &mut K,
-    answerer: A,
+    mut answerer: A,
     fills: u32,
 ) -> Result<bool, Fault>
     ensures { AnswersOrEnds (A.shows answerer) fills (S.state source.old) (S.state source.new)
         (K.state sink.old) (K.state sink.new) result }
 {
     let mut answering = Answering {
-        answerer,
+        answerer: &mut answerer,
         sink,
         lines: 0,
         all_taken: true,
     };
-    take_lines(alloc, source, &mut answering, fills)?;
-    answering.sink.flush()?;
-    Ok(answering.all_taken)
+    answering.answer_all(alloc, source, fills)
 }

@@ -2,4 +2,4 @@ use Rattle.pb_commands.proofs.LookupClauses.{told_looked_up}
 use Rattle.pb_commands.proofs.laws.lookup_ends.Goals as goal
 
 pub returns : goal.returns
-returns c fills t t' b b' s s' k k' answer table book bytes = told_looked_up fills t t' b b' s s' k k' answer table book bytes
+returns c fills t t' b b' s s' k k' result table book bytes told_t told_b told_s = told_looked_up fills t t' b b' s s' k k' table book bytes told_t told_b told_s result
