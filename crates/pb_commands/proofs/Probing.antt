@@ -1,7 +1,11 @@
 -- What the command `probe` puts, from what its parts do.
 use Rattle.std.proofs.Common.{◌≡◌, ℕ, Bool, List, Some, Result, Ok, Err, inl, inr, refl, subst, sym, true}
+use Rattle.std.specs.Prelude.{IfErr, IfOk}
+use Rattle.pb_board.specs.Fields.{fields, space}
+use Rattle.pb_board.specs.Refusal.{IsDueFen, IsFirstOf, fen_errors}
+use Rattle.pb_board.specs.Text.{fen_text}
 use Rattle.pb_board.specs.declared.refusal.FenError.{FenError}
-use Rattle.pb_board.specs.Position.{Position, Record}
+use Rattle.pb_board.specs.Position.{IsRecord, Position, Record}
 use Rattle.pb_moves.specs.Moved.{Moved}
 use Rattle.pb_poly.specs.Found.{Found}
 use Rattle.pb_io.specs.Sink.{SinkState}
@@ -46,6 +50,12 @@ module _ (fills : ℕ) (t t' : SourceState) (bytes : List ℕ) (tells : Tells fi
   table_wants fault (table_fault.Fault read.Endless) given is =
       let h = found_no_table fills t t' (table_fault.Fault read.Endless) given in absurd (no_endless table_limit fills t t' bytes tells h.came h.reads)
   table_wants fault (table_fault.Fault read.Memory) h is = cc is
+
+-- what is read of a text as a record
+pub as_record : (fen : List ℕ) (read : Result Record FenError) → IfOk read (λ f. IsRecord f × (fen ≡ fen_text f)) → IfErr read (IsFirstOf fen_errors (IsDueFen (fields space fen)))
+    → AsRecord fen read
+as_record fen (Ok f) found refused = found
+as_record fen (Err e) found refused = refused
 
 module _ (fills : ℕ) (t t' b b' : SourceState) (fen : List ℕ) where
   abbrev judges : Verdict → Type 0
