@@ -1,5 +1,5 @@
 -- Words that spell moves, and moves that are played one after the other.
-use Rattle.std.proofs.Common.{◌≡◌, ◌≢◌, ◌∙◌, ℕ, ◌+◌, ◌<◌, ◌≤◌, All, Bool, Bor, List, [], ◌∷◌, ◌++◌, ap, drop, false, get_or, length, None, Option, Some, subst, sym, true}
+use Rattle.std.proofs.Common.{◌≡◌, ◌≢◌, ◌∙◌, ℕ, ◌+◌, ◌<◌, ◌≤◌, All, Bor, List, [], ◌∷◌, ◌++◌, ap, drop, false, get_or, length, None, Option, Some, subst, sym, true}
 use Rattle.std.specs.List.{AllZip}
 use Rattle.std.specs.Prelude.{MatchOption}
 use Rattle.std.specs.Option.{SomeIff, is_some}

@@ -1,5 +1,6 @@
 //! Laws of how commands end, as contracts of functions that do nothing.
 
+ghost use Rattle.std.specs.Bool.{Decides};
 ghost use Rattle.std.specs.Prelude.{◌≡◌, ℕ, Bool, Err, IfOk, List, Ok, Result, Some};
 ghost use Rattle.pb_io.specs.LineTask.{IfKnown};
 ghost use Rattle.pb_io.specs.Lines.{lines};
@@ -23,6 +24,8 @@ ghost use Rattle.pb_commands.specs.Refused.{taken};
 ghost use Rattle.pb_commands.specs.TableJudged.{AsTable};
 ghost use Rattle.pb_commands.specs.declared.refusal.Stopped.{Stopped};
 
+use crate::refusal::Stopped;
+
 /// No fault ends `run_fen` but one of the sink.
 pub fn fen_ends()
     ensures { (fen : List ℕ) (words : List (List ℕ)) (k k' : SinkState) (fault : Fault)
@@ -34,6 +37,11 @@ pub fn epd_ends()
     ensures { (fills : ℕ) (s s' : SourceState) (k k' : SinkState) (answer : Bool)
         → RewritesOrEnds fills s s' k k' (Ok answer)
         → IfKnown s s' (λ ls. PutsText (LinesShown LineShown 1 ls) k k' answer) }
+{}
+
+/// Reasons why a command stopped are equal exactly where they are one.
+pub fn equal_values()
+    ensures { (a b : Stopped) → Decides (⟦<Stopped as PartialEq>⟧.eq a b) (a ≡ b) }
 {}
 
 /// What `run_show` puts, where its bytes are known, is what they show; only want of memory comes in

@@ -39,7 +39,7 @@ impl LineAnswer for Finder<'_> {
         line: Option<&[u8]>,
     ) -> Result<bool, Fault> {
         let Some(line) = line else {
-            return refuse_line(sink, number, &[b"long"]);
+            return refuse_line(sink, number, b"long", b"");
         };
         let text = without_return(line);
         if is_blank(text) {

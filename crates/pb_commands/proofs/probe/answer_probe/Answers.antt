@@ -1,14 +1,12 @@
 use Rattle.std.proofs.Common.{◌∙◌, Err, Ok, refl, subst, true}
 use Rattle.std.proofs.lemmas.Result.{err_from_is_err_and}
 use Rattle.pb_io.specs.Sink.{SinkState}
-use Rattle.pb_io.specs.declared.fault.Fault.TheVariants.{Memory}
 use Rattle.pb_poly.specs.Reading.{ReadsBook}
 use Rattle.pb_poly.specs.TableReading.{ReadsTable}
 use Rattle.pb_commands.specs.ProbeShown.{ProbesSources}
 use Rattle.pb_commands.specs.RecordJudged.{AsRecord}
 use Rattle.pb_commands.specs.Refused.{StopsOrEnds}
 use Rattle.pb_commands.specs.declared.refusal.Refused.TheVariants.{Book, Fen, Table}
-use Rattle.pb_commands.specs.declared.refusal.Stopped.TheVariants as stopped
 use Rattle.pb_commands.proofs.Probing.{as_record, at_book, at_fault, at_memory, at_moves, at_record, at_table}
 use Rattle.pb_commands.proofs.Stopping.{accepted, refused}
 use Rattle.pb_commands.proofs.probe.answer_probe.Goals as goal

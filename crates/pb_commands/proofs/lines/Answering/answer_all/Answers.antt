@@ -1,6 +1,4 @@
-use Rattle.std.proofs.Common.{◌∙◌, subst, sym, true}
 use Rattle.std.proofs.lemmas.Result.{err_from_is_err_and}
-use Rattle.pb_commands.specs.LinesRun.{AnswersOrEnds}
 use Rattle.pb_commands.proofs.Answering.{all_of, awaits_of, flushed_all, lent_of, lent_until, unflushed, until_of}
 use Rattle.pb_commands.proofs.lines.Answering.answer_all.Goals as goal
 
