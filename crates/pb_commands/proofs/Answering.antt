@@ -300,7 +300,7 @@ module _ {A K : Type 0} (shows : A → ℕ → List ℕ → Verdict → Type 0) 
 
     pub until_of : (e : Fault) → Until e → AnswersOrEnds (Shown s) fills old new sink sink' (Err e)
     until_of e h = elim (taken_until e h) [
-      inl x ↦ subst (λ (fault : Fault). AnswersOrEnds (Shown s) fills old new sink sink' (Err fault)) (sym x.1) (read_until x.0 x.2)
+      | inl x ↦ subst (λ (fault : Fault). AnswersOrEnds (Shown s) fills old new sink sink' (Err fault)) (sym x.1) (read_until x.0 x.2)
       | inr x ↦ stopped_until e x
     ]
 
@@ -321,7 +321,7 @@ module _ {A K : Type 0} (shows : A → ℕ → List ℕ → Verdict → Type 0) 
 
     pub lent_until : (e : Fault) → Until e → t.sink.ghost_name ≡ s.sink.ghost_name
     lent_until e h = elim (taken_until e h) [
-      inl x ↦ (kept_read x.0 x.2).lent
+      | inl x ↦ (kept_read x.0 x.2).lent
       | inr x ↦ lent_at (AtLine-weaker fills old new (Stopped e) KeepsOf (λ ls some y. kept_at_stop s t ls (few ls some) e y) x)
     ]
 

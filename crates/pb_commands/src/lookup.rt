@@ -71,8 +71,14 @@ pub fn answer_lookup<TableIn: Source, BookIn: Source, In: Source, Out: Sink>(
         (BookIn.state book_source.old) (BookIn.state book_source.new) (In.state source.old)
         (In.state source.new) (Out.state sink.old) (Out.state sink.new) result }
 {
-    let table = accept(sink, take_table(alloc, table_source, fills).map_err(Refused::Table))?;
-    let book = accept(sink, read_book(alloc, book_source, fills).map_err(Refused::Book))?;
+    let table = accept(
+        sink,
+        take_table(alloc, table_source, fills).map_err(Refused::Table),
+    )?;
+    let book = accept(
+        sink,
+        read_book(alloc, book_source, fills).map_err(Refused::Book),
+    )?;
     let finder = Finder {
         alloc,
         table: &table,

@@ -29,8 +29,14 @@ pub fn answer_probe<TableIn: Source, BookIn: Source, Out: Sink>(
         (BookIn.state book_source.old) (BookIn.state book_source.new) fen.now)
         (Out.state sink.old) (Out.state sink.new) result }
 {
-    let table = accept(sink, take_table(alloc, table_source, fills).map_err(Refused::Table))?;
-    let book = accept(sink, read_book(alloc, book_source, fills).map_err(Refused::Book))?;
+    let table = accept(
+        sink,
+        take_table(alloc, table_source, fills).map_err(Refused::Table),
+    )?;
+    let book = accept(
+        sink,
+        read_book(alloc, book_source, fills).map_err(Refused::Book),
+    )?;
     let record = accept(sink, read_fen(fen).map_err(Refused::Fen))?;
     let found = probe(alloc, &book, &table, &record.setup())?;
     show_found(sink, found.as_slice())?;

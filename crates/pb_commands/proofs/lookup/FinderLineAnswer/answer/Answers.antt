@@ -10,8 +10,11 @@ use Rattle.pb_commands.proofs.lookup.FinderLineAnswer.answer.Goals as goal
 pub returns-in_err-found-in-Ok-clause-puts : goal.returns-in_err-found-in-Ok-clause-puts
 returns-in_err-found-in-Ok-clause-puts g c line told =
     let p = err_from_is_err_and c.from_residual.result c.from_residual.ensures.1 in
-    rw (p.1, p.2) ((line_full (Gives c.args.self.now.table.now c.args.self.now.book.now) c.args.number _ c.in-Some.line _ line c.in-Some.is told c.without_return-text.ensures (λ blank. false≢true (c.if-is_blank.ensures.1 blank)) _
-    (text_wants c.args.self.now.table.now c.args.self.now.book.now c.args.number _ c.in-Ok.setup c.in-Ok.ensures)), refl)
+    rw (p.1, p.2) (
+      (line_full (Gives c.args.self.now.table.now c.args.self.now.book.now) c.args.number _ c.in-Some.line _ line c.in-Some.is told c.without_return-text.ensures (λ blank. false≢true (c.if-is_blank.ensures.1 blank)) _
+          (text_wants c.args.self.now.table.now c.args.self.now.book.now c.args.number _ c.in-Ok.setup c.in-Ok.ensures)),
+      refl,
+    )
 
 pub returns-in_err-put_moves-in-Ok-clause-puts : goal.returns-in_err-put_moves-in-Ok-clause-puts
 returns-in_err-put_moves-in-Ok-clause-puts g c line told =
