@@ -1,2 +1,2 @@
 mod Commands
-mod Refusals
+mod Matches

@@ -1,9 +1,10 @@
 -- The command line of `pbook`: one level of commands, each with its arguments.
-use Rattle.std.specs.Prelude.{ℕ, Some, [], ◌∷◌, codes, true}
+use Rattle.std.specs.Prelude.{ℕ, Some, [], ◌∷◌, codes, true, false}
 use Rattle.clap.specs.Words.{App, Rule, Text, new_app, new_rule, with_rule, with_subcommand}
 use Rattle.clap.specs.Simple.{on_top}
 use Rattle.clap.specs.Lexer.{usize_max}
 use Rattle.clap.specs.declared.builder.action.ArgAction.TheVariants.{Append, Set, SetTrue}
+use Rattle.clap.specs.declared.builder.value_parser.ValueParser.TheVariants.{Unsigned}
 
 -- an argument that has to be given
 abbrev pub required_argument : Text → Rule
@@ -16,34 +17,32 @@ arguments_from least id = record (new_rule id) {
   range = Some (record { start_inclusive = least; end_inclusive = usize_max });
 }
 
--- an option with a value, which has none where it isn't given
-abbrev pub option_if_given : Text → Rule
-option_if_given id = record (new_rule id) { long = Some id; action = Some Set; value_names = 1 }
+-- an option with a value
+abbrev pub option : Text → Rule
+option id = record (new_rule id) { long = Some id; action = Some Set; value_names = 1 }
 
--- an option with a value, and the value where it isn't given
-abbrev pub option_with : Text → Text → Rule
-option_with id value = record (option_if_given id) { defaults = value ∷ [] }
+-- an option with a number from 1 to `most`, which is `value` where it isn't given
+abbrev pub number : Text → Text → ℕ → Rule
+number id value most = record (option id) {
+  defaults = value ∷ [];
+  parser = Some (Unsigned 1 most);
+}
 
 -- an option without a value, which is given or isn't
 abbrev pub flag : Text → Rule
 flag id = record (new_rule id) { long = Some id; action = Some SetTrue }
 
--- the flag that leaves only errors on standard error: `--quiet`, or `-q`, whose letter is 113
-abbrev pub quiet_flag : Rule
-quiet_flag = record (flag (codes "quiet")) { short = Some 113 }
-
--- a command with the three options that say what is kept beside the book
-abbrev pub with_keeping : App → App
-with_keeping app = with_rule (with_rule (with_rule app (option_if_given (codes "ledger")))
-    (option_if_given (codes "journal"))) (flag (codes "sync"))
+-- an argument that may not stand with some other, or needs it
+abbrev pub bound : Rule → Rule
+bound rule = record rule { is_free = false }
 
 -- a command that takes games: with the two options that say what of them counts, the flags that ask
--- for the summary and for errors alone, and the table
+-- for the summary and for errors alone (`--quiet`, or `-q`, whose letter is 113), and the table
 abbrev pub with_games : App → App
 with_games app = with_rule (with_rule (with_rule
-    (with_rule (with_rule app (option_with (codes "plies") (codes "1024")))
-    (option_with (codes "least") (codes "1"))) (flag (codes "summary"))) quiet_flag)
-    (required_argument (codes "TABLE"))
+    (with_rule (with_rule app (number (codes "plies") (codes "1024") 1024))
+    (number (codes "least") (codes "1") 1000000)) (flag (codes "summary")))
+    (record (flag (codes "quiet")) { short = Some 113 })) (required_argument (codes "TABLE"))
 
 abbrev pub fen_command : App
 fen_command = with_rule (with_rule (new_app (codes "fen")) (required_argument (codes "FEN")))
@@ -67,9 +66,11 @@ lookup_command = with_rule (with_rule (new_app (codes "lookup")) (required_argum
 abbrev pub check_command : App
 check_command = new_app (codes "check")
 
+-- `--ledger`, `--journal` and `--sync` say what is kept beside the book
 abbrev pub collect_command : App
-collect_command =
-    with_rule (with_games (with_keeping (new_app (codes "collect")))) (required_argument (codes "BOOK"))
+collect_command = with_rule (with_games (with_rule (with_rule
+    (with_rule (new_app (codes "collect")) (bound (option (codes "ledger"))))
+    (option (codes "journal"))) (bound (flag (codes "sync"))))) (required_argument (codes "BOOK"))
 
 abbrev pub export_command : App
 export_command = with_games (new_app (codes "export"))

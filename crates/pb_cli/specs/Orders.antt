@@ -1,9 +1,9 @@
 -- What an order has of the arguments of the command line.
-use Rattle.std.specs.Prelude.{◌≡◌, ◌↔◌, ℕ, Bool, false, IsTrue, List, []}
-use Rattle.std.specs.Prelude.{MatchResult, Option, Some, None, Result, codes, option_map, unwrap_or}
+use Rattle.std.specs.Prelude.{◌≡◌, ℕ, Bool, false, List, [], Option, Some, None, codes, unwrap_or}
 use Rattle.std.specs.Borrow.{Bor}
-use Rattle.std.specs.Str.Parse.{IsNumeral, digits_value}
-use Rattle.clap.specs.Words.{Row, Text, all_of, first_of, found_of, rows_of}
+use Rattle.std.specs.Str.Parse.{IsNumeral, digits_value, without_leading_plus}
+use Rattle.clap.specs.Words.{Row, Text, all_of, first_of, found_of, one_of, rows_of}
+use Rattle.clap.specs.Values.{bool_text}
 use Rattle.clap.specs.Walk.{texts}
 use Rattle.clap.specs.declared.parser.matches.ArgMatches.{ArgMatches}
 use Rattle.pb_accepted.specs.Rules.{AreRules, CountingRules}
@@ -31,20 +31,20 @@ name_of (Collect _) = codes "collect"
 name_of (Export _) = codes "export"
 name_of (Games _) = codes "games"
 
--- the argument of this name was given this text
+-- the text that the argument of this name was given, or no text where it wasn't
 abbrev pub HasArgument : Text → Bor Text → List Row → Type 0
-HasArgument id text rows = first_of id rows ≡ Some text.now
+HasArgument id text rows = text.now ≡ unwrap_or (first_of id rows) []
 
--- the argument of this name was given this text, or it wasn't given and there is none
-abbrev pub HasArgumentIfGiven : Text → Option (Bor Text) → List Row → Type 0
-HasArgumentIfGiven id text rows = first_of id rows ≡ option_map (λ t. t.now) text
+-- the texts that it was given
+abbrev pub HasTexts : Text → List (Bor Text) → List Row → Type 0
+HasTexts id all rows = texts all ≡ unwrap_or (all_of id rows) []
 
--- whether the option of this name, which has no value, was given
+-- whether the option of this name, which has no value, was given, as its text says
 abbrev pub HasFlag : Text → Bool → List Row → Type 0
-HasFlag id flag rows = IsTrue flag ↔ (first_of id rows ≡ Some (codes "true"))
+HasFlag id flag rows = (given : Bool)
+    → unwrap_or (one_of id rows) (codes "false") ≡ bool_text given → flag ≡ given
 
--- Where this is kept: the text of `--ledger`, that of `--journal`, and whether `--sync` is given. A
--- saved ledger and a journal aren't kept at once, and a journal alone is synced.
+-- the text of `--ledger`, that of `--journal`, and whether there is `--sync`, where this is kept
 abbrev pub options_of : Keeping → Option Text × Option Text × Bool
 options_of Book = (None, None, false)
 options_of (Ledger path) = (Some path.now, None, false)
@@ -52,25 +52,28 @@ options_of (Journal path sync) = (None, Some path.now, sync)
 
 -- the options say what is kept beside the book
 abbrev pub HasKeeping : Keeping → List Row → Type 0
-HasKeeping kept rows = (first_of (codes "ledger") rows ≡ (options_of kept).0)
-    × (first_of (codes "journal") rows ≡ (options_of kept).1)
-    × HasFlag (codes "sync") (options_of kept).2 rows
+HasKeeping (Ledger path) rows = first_of (codes "ledger") rows ≡ Some path.now
+HasKeeping (Journal path sync) rows = (first_of (codes "ledger") rows ≡ None)
+    × (first_of (codes "journal") rows ≡ Some path.now) × HasFlag (codes "sync") sync rows
+HasKeeping Book rows =
+    (first_of (codes "ledger") rows ≡ None) × (first_of (codes "journal") rows ≡ None)
 
--- the argument of this name was given a text that writes this number in digits
-abbrev pub HasNumber : Text → ℕ → List Row → Type 0
-HasNumber id number rows = (text : Text) × (first_of id rows ≡ Some text) × IsNumeral 10 text
-    × (digits_value 10 text ≡ number)
+-- the option of this name was given a text that writes this number in digits, after a plus or none
+abbrev pub SaysNumber : Text → ℕ → List Row → Type 0
+SaysNumber id number rows = (text : Text) × (one_of id rows ≡ Some text)
+    × IsNumeral 10 (without_leading_plus text)
+    × (digits_value 10 (without_leading_plus text) ≡ number)
 
--- the options say these rules
-pub record HasRules (rules : CountingRules) (rows : List Row) : Type 0 where
-  pub are : AreRules rules
-  pub plies : HasNumber (codes "plies") rules.plies rows
-  pub least : HasNumber (codes "least") rules.least rows
+-- the rules are those that the options say, where they say rules
+abbrev pub HasRules : CountingRules → List Row → Type 0
+HasRules rules rows = (said : CountingRules) → AreRules said
+    → SaysNumber (codes "plies") said.plies rows → SaysNumber (codes "least") said.least rows
+    → rules ≡ said
 
 -- the order has the arguments of these matches; the others have none
 abbrev pub HasArguments : Order → List Row → Type 0
-HasArguments (Fen fen moves) rows = HasArgument (codes "FEN") fen rows
-    × (texts moves.items ≡ unwrap_or (all_of (codes "MOVES") rows) [])
+HasArguments (Fen fen moves) rows =
+    HasArgument (codes "FEN") fen rows × HasTexts (codes "MOVES") moves.items rows
 HasArguments (Show book) rows = HasArgument (codes "BOOK") book rows
 HasArguments (Probe table book fen) rows = HasArgument (codes "TABLE") table rows
     × HasArgument (codes "BOOK") book rows × HasArgument (codes "FEN") fen rows
@@ -82,21 +85,12 @@ HasArguments (Collect given) rows = HasRules given.rules rows × HasKeeping give
 HasArguments (Export given) rows = HasRules given.rules rows
     × HasArgument (codes "TABLE") given.table rows
     × HasFlag (codes "summary") given.summary rows × HasFlag (codes "quiet") given.quiet rows
-HasArguments (Games files) rows = all_of (codes "FILE") rows ≡ Some (texts files.items)
+HasArguments (Games files) rows = HasTexts (codes "FILE") files.items rows
 HasArguments other rows = Unit {0}
 
 -- the order is that of the command that was found, with its arguments as the matches give them
 abbrev pub IsOrderOf : Order → Option (Text × List Row) → Type 0
 IsOrderOf o found = (rows : List Row) × (found ≡ Some (name_of o, rows)) × HasArguments o rows
-
--- the fault is want of memory where these matches of the command have the arguments of an order
-abbrev pub RefusesFor : Text → List Row → ParseFault → Type 0
-RefusesFor name rows fault = (o : Order) → name_of o ≡ name → HasArguments o rows → fault ≡ Memory
-
--- an order of the command of this name with the arguments of these matches, or such a fault
-abbrev pub AnswersFor : Text → List Row → Result Order ParseFault → Type 0
-AnswersFor name rows answer =
-    MatchResult answer (λ o. (name_of o ≡ name) × HasArguments o rows) (RefusesFor name rows)
 
 -- the fault is want of memory where the command that was found gives an order
 abbrev pub RefusesRightly : Option (Text × List Row) → ParseFault → Type 0

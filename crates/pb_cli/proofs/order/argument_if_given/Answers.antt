@@ -1,8 +1,0 @@
-use Rattle.std.proofs.Common.{◌∙◌, sym}
-use Rattle.clap.specs.Words.{found_of}
-use Rattle.clap.proofs.WalkLemmas.{first_value-rows}
-use Rattle.pb_cli.proofs.order.argument_if_given.Goals as goal
-
-pub returns : goal.returns
-returns c =
-    sym (first_value-rows (found_of c.args.given.now) c.args.id.now) ∙ sym c.get_str.ensures
