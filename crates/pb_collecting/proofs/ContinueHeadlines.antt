@@ -1,9 +1,10 @@
 -- The theorem of a run that goes on from games that are held first, from what it does.
-use Rattle.std.proofs.Common.{◌≡◌, ◌∙◌, ℕ, List, [], ◌++◌, All, Result, Ok, Err, ap, inl, inr, refl, subst, sym}
+use Rattle.std.proofs.Common.{◌≡◌, ◌∙◌, ℕ, List, [], ◌++◌, All, Result, Ok, Err, ap, refl, subst, sym}
 use Rattle.std.specs.Prelude.{IfOk}
 use Rattle.pb_io.specs.Lines.{lines}
 use Rattle.pb_io.specs.LineTask.{AtEnd}
 use Rattle.pb_io.specs.declared.fault.Fault.{Fault}
+use Rattle.pb_io.specs.Sink.{SinkState}
 use Rattle.pb_io.specs.Source.{SourceState}
 use Rattle.pb_poly.proofs.ToldReads.{handed_out}
 use Rattle.pb_poly.specs.Book.{book_bytes}
@@ -21,23 +22,22 @@ use Rattle.pb_accepted.specs.Rules.{CountingRules}
 use Rattle.pb_accepted.proofs.Steps.{runs_join}
 use Rattle.pb_ledger.proofs.Continued.{continued, loaded_back}
 use Rattle.pb_ledger.proofs.Changes.{from_to}
+use Rattle.pb_ledger.specs.Collecting.{CollectsStream}
 use Rattle.pb_ledger.specs.Loading.{Loads}
 use Rattle.pb_ledger.specs.Change.{across}
 use Rattle.pb_ledger.specs.Making.{Makes}
 use Rattle.pb_ledger.specs.declared.totals.Totals.{Totals}
 use Rattle.pb_collecting.specs.ContinueHeadline.{GoesOn, HasHeadlineOfBoth}
 use Rattle.pb_collecting.specs.Ends.{Change, EndStates}
-use Rattle.pb_collecting.specs.Laws.{GoesOnAsOneRun}
-use Rattle.pb_collecting.specs.Runs as runs
-use Rattle.pb_collecting.specs.Runs.{Collected, ContinueRun, Left, MakesBook, Takes, new_ledger}
+use Rattle.pb_collecting.specs.Run.{MakesBook}
+use Rattle.pb_collecting.specs.RunLaws.{GoesOnAsOneRun}
+use Rattle.pb_collecting.specs.Runs.{ContinueRun, Holds, Takes, new_ledger}
+use Rattle.pb_collecting.specs.declared.run.Taken.{Taken}
 use Rattle.pb_collecting.proofs.Headlines.{effect}
-
--- a ledger that differs from another one in its games alone
-pub same_but_games : (old new : LedgerState) → new.basis ≡ old.basis → new.cap ≡ old.cap → new ≡ record old { accepted = new.accepted }
-same_but_games old new basis cap = ap (λ (T : Basis). record new { basis = T }) basis ∙ ap (λ n. record old { cap = n; accepted = new.accepted }) cap
+use Rattle.pb_collecting.proofs.Taking.{same_but_games}
 
 module _ (rules : CountingRules) (fills : ℕ) (e : EndStates) (randoms : List ℕ) (held : List Submission) (left : LedgerState) (totals : Totals) (entries : List Entry)
-    (read : ReadsTable fills e.table.old e.table.new (Ok randoms)) (takes : Takes fills e (from_to (record (new_ledger rules randoms) { accepted = held }) left) (Ok totals))
+    (read : ReadsTable fills e.table.old e.table.new (Ok randoms)) (takes : CollectsStream fills e.lines e.replies (from_to (record (new_ledger rules randoms) { accepted = held }) left) totals)
     (book : IsBook (counted left.basis left.accepted) left.basis.rules.least entries) (bounds : All IsEntry entries) where
   pub goes_on : GoesOn rules e held left.accepted entries (book_bytes entries)
   goes_on =
@@ -80,24 +80,29 @@ module _ (rules : CountingRules) (fills : ℕ) (e : EndStates) (randoms : List �
       }
 
 module _ (rules : CountingRules) (fills : ℕ) (e : EndStates) (source : Change SourceState) where
-  abbrev pub Heads : Left → Type 0
-  Heads run = IfOk run.made (λ made. HasHeadlineOfBoth rules e source run.ledger made.entries (book_bytes made.entries))
+  by_end : (randoms : List ℕ) (held left : LedgerState) (end : Result Totals Fault) (entries : List Entry) → ReadsTable fills e.table.old e.table.new (Ok randoms)
+      → across (AtEnd fills) source (Makes Loads (from_to (new_ledger rules randoms) held)) → held ≡ record (new_ledger rules randoms) { accepted = held.accepted }
+      → Takes fills e.lines e.replies held (record { ledger = left; end = end }) → MakesBook (record { ledger = left; end = end }) (Ok entries)
+      → HasHeadlineOfBoth rules e source left entries (book_bytes entries)
+  by_end randoms held left (Ok totals) entries read loads like takes (book, bounds) =
+      has_headline rules fills e randoms held.accepted left totals entries read (subst (λ (l : LedgerState). CollectsStream fills e.lines e.replies (from_to l left) totals) like takes) book bounds source loads
+  by_end randoms held left (Err fault) entries read loads like takes is = absurd (cc is)
 
-  headed : (randoms : List ℕ) (loaded left : LedgerState) (end : Result Totals Fault) (made : Result Collected Fault) → ReadsTable fills e.table.old e.table.new (Ok randoms)
-      → across (AtEnd fills) source (Makes Loads (from_to (new_ledger rules randoms) loaded)) → loaded ≡ record (new_ledger rules randoms) { accepted = loaded.accepted } → Takes fills e (from_to loaded left) end
-      → MakesBook left end made → Heads (record { ledger = left; made = made })
-  headed randoms loaded left (Ok totals) (Ok made) read loads like takes (book, bounds, same) =
-      has_headline rules fills e randoms loaded.accepted left totals made.entries read (subst (λ (l : LedgerState). Takes fills e (from_to l left) (Ok totals)) like takes) book bounds source loads
-  headed randoms loaded left (Err fault) (Ok made) read loads like takes makes = absurd (cc makes)
-  headed randoms loaded left end (Err fault) read loads like takes makes = tt
+  pub headline : (taken : Taken) → ContinueRun rules fills e source (Ok taken) → (entries : List Entry) → MakesBook taken (Ok entries)
+      → HasHeadlineOfBoth rules e source taken.ledger entries (book_bytes entries)
+  headline taken (held, (new, (randoms, read, counting, is), loads, like), takes) entries made =
+      by_end randoms held taken.ledger taken.end entries read (subst (λ (l : LedgerState). across (AtEnd fills) source (Makes Loads (from_to l held))) is loads)
+      (subst (λ (l : LedgerState). held ≡ record l { accepted = held.accepted }) is like) takes made
 
-  pub headline : (run : Left) → ContinueRun rules fills e source (Ok run) → Heads run
-  headline run (runs.began randoms read counting (inl (loaded, loads, like, (left, end, takes, Ok x, (same, makes), is)))) =
-      let one : x ≡ run = cc is in
-      subst Heads one (subst (λ (l : LedgerState). Heads (record x { ledger = l })) (sym same) (headed randoms loaded left end x.made read loads like takes makes))
-  headline run (runs.began randoms read counting (inl (loaded, loads, like, (left, end, takes, Err fault, makes, is)))) = absurd makes
-  headline run (runs.began randoms read counting (inr (cause, left, until, unread, refused))) = absurd refused
-  headline run (runs.lacks cause found alone refused) = absurd refused
+  pub headline_of_book : (taken : Taken) → ContinueRun rules fills e source (Ok taken) → (book : Result (List Entry) Fault) → MakesBook taken book
+      → IfOk book (λ entries. HasHeadlineOfBoth rules e source taken.ledger entries (book_bytes entries))
+  headline_of_book taken run (Ok entries) made = headline taken run entries made
+  headline_of_book taken run (Err fault) made = tt
+
+  -- from the games of a saved ledger on the submissions were taken so
+  pub continued_so : (mid : SinkState) (held : LedgerState) (taken : Taken) → Holds rules fills e.table source held → mid ≡ e.replies.old
+      → Takes fills e.lines (record e.replies { old = mid }) held taken → ContinueRun rules fills e source (Ok taken)
+  continued_so mid held taken holds same takes = (held, holds, subst (λ (m : SinkState). Takes fills e.lines (record e.replies { old = m }) held taken) same takes)
 
 -- ---- what an earlier run saved
 

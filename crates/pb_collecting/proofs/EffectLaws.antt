@@ -4,7 +4,7 @@ use Rattle.pb_games.specs.Submissions.{Submission}
 use Rattle.pb_games.specs.declared.refusal.Refusal.{Refusal}
 use Rattle.pb_accepted.specs.Accepting.{Answer, Run, Step}
 use Rattle.pb_accepted.proofs.Steps.{one_left, refusal_step}
-use Rattle.pb_collecting.specs.Laws.{RefusalsLeaveTheGames}
+use Rattle.pb_collecting.specs.RunLaws.{RefusalsLeaveTheGames}
 
 -- ---- refused lines
 

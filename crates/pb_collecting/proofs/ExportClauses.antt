@@ -1,104 +1,100 @@
 -- What a run of the command `export` blames, from how it ends.
-use Rattle.std.proofs.Common.{◌≡◌, ◌∙◌, ◌≢◌, ℕ, Result, Ok, Err, ap, false, refl, subst, sym, true}
-use Rattle.std.specs.Prelude.{IfErr}
-use Rattle.pb_io.specs.Sink.{AwaitsFlush, SinkState}
+use Rattle.std.proofs.Common.{◌≡◌, ◌∙◌, ◌≢◌, ℕ, Result, Ok, Err, ap, false, inl, inr, refl, subst, sym, true}
+use Rattle.std.specs.Prelude.{IfErr, IfOk, IsErrAnd, IsOk, MatchResult}
+use Rattle.pb_io.specs.Sink.{SinkState}
+use Rattle.pb_io.specs.Source.{SourceState}
 use Rattle.pb_io.specs.declared.fault.Fault.{Fault}
 use Rattle.pb_io.specs.declared.fault.Fault.TheVariants.{Read, Write, Endless, Memory}
 use Rattle.pb_io.proofs.FlushLemmas.{still_works}
 use Rattle.pb_accepted.specs.Ledger.{LedgerState}
 use Rattle.pb_accepted.specs.Rules.{CountingRules}
+use Rattle.pb_export.specs.Exporting as exporting
 use Rattle.pb_export.specs.Exporting.{ExportsUntil, fault_of_export}
 use Rattle.pb_export.specs.declared.exporting.ExportFault.{ExportFault}
 use Rattle.pb_export.specs.declared.exporting.ExportFault.TheVariants as export
-use Rattle.pb_ledger.proofs.Changes.{from_to}
+use Rattle.pb_ledger.specs.declared.totals.Totals.{Totals}
 use Rattle.pb_commands.specs.Judged.{PutsUntil, Verdict}
-use Rattle.pb_collecting.specs.Ends.{Change, EndStates, IsSame}
-use Rattle.pb_collecting.specs.ExportRun.{BlamesEither, BlamesSink}
-use Rattle.pb_collecting.specs.Into.{Exported}
-use Rattle.pb_collecting.specs.Reasons.{unread_verdict}
-use Rattle.pb_collecting.specs.Runs as runs
-use Rattle.pb_collecting.specs.Runs.{ExportRun, Takes, new_ledger}
-use Rattle.pb_collecting.specs.declared.made.Made.{Made}
-use Rattle.pb_collecting.specs.declared.made.Report.{Report}
-use Rattle.pb_collecting.specs.declared.made.Stopped.{Stopped}
-use Rattle.pb_collecting.specs.declared.made.Stopped.TheVariants as stopped
-use Rattle.pb_collecting.specs.declared.made.Unread.TheVariants as reason
+use Rattle.pb_commands.specs.Refused.{refused_verdict}
+use Rattle.pb_commands.specs.declared.refusal.Refused.{Refused}
+use Rattle.pb_commands.specs.declared.refusal.Stopped.{Stopped}
+use Rattle.pb_commands.specs.declared.refusal.Stopped.TheVariants as stopped
+use Rattle.pb_collecting.specs.Ends.{Change, IsSame}
+use Rattle.pb_collecting.specs.ExportRun.{BlamesSink, ExportRun, Exports}
+use Rattle.pb_collecting.specs.Runs.{StopsFor, Takes}
+use Rattle.pb_collecting.specs.declared.run.Report.{Report}
+
+abbrev Fails : Fault → Stopped
+Fails fault = stopped.Fault fault
+
+same_fault : (f g : Fault) → Fails f ≡ Fails g → f ≡ g
+same_fault f g is = cc is
+
+-- where the sink works, it isn't blamed
+works_still : (sink : Change SinkState) (why : Stopped) → why ≢ Fails Write → sink.new.failed ≡ false → BlamesSink sink why
+works_still sink why other works = record { only = λ is. absurd (other is); always = λ worked fails. absurd (cc (sym fails ∙ works)) }
 
 -- a sink that was left alone isn't blamed
-no_blame : (sink : Change SinkState) (fault : Fault) → fault ≢ Write → IsSame sink → BlamesSink sink fault
-no_blame sink fault other same = record {
+no_blame : (sink : Change SinkState) (why : Stopped) → why ≢ Fails Write → IsSame sink → BlamesSink sink why
+no_blame sink why other same = record {
   only = λ is. absurd (other is);
   always = λ works fails. absurd (cc (sym fails ∙ ap (λ (x : SinkState). x.failed) same ∙ works));
 }
 
 -- a sink that has not failed is no reason to end
-not_written : (fills : ℕ) (e : EndStates) (l l' : LedgerState) (fault : Fault) → e.replies.new.failed ≡ false → Takes fills e (from_to l l') (Err fault) → fault ≢ Write
-not_written fills e l l' Read works h = λ is. cc is
-not_written fills e l l' Write works h = absurd (cc (sym h.1.0 ∙ works))
-not_written fills e l l' Endless works h = λ is. cc is
-not_written fills e l l' Memory works h = λ is. cc is
+not_written : (fills : ℕ) (lines : Change SourceState) (replies : Change SinkState) (held left : LedgerState) (end : Result Totals Fault) (fault : Fault) → replies.new.failed ≡ false
+    → Takes fills lines replies held (record { ledger = left; end = end }) → end ≡ Err fault → Fails fault ≢ Fails Write
+not_written fills lines replies held left (Ok totals) fault works h is = absurd (cc is)
+not_written fills lines replies held left (Err Read) fault works h is = λ same. cc (same_fault _ _ same, is)
+not_written fills lines replies held left (Err Write) fault works h is = absurd (cc (sym h.1.0 ∙ works))
+not_written fills lines replies held left (Err Endless) fault works h is = λ same. cc (same_fault _ _ same, is)
+not_written fills lines replies held left (Err Memory) fault works h is = λ same. cc (same_fault _ _ same, is)
 
 -- at the export
-blame_export : (l : LedgerState) (sink : Change SinkState) (fault : Fault) (e : ExportFault) → ExportsUntil l sink.old sink.new e → fault ≡ fault_of_export e → BlamesSink sink fault
-blame_export l sink fault export.Write h is = record { only = λ _. h.cause.0; always = λ works fails. is }
-blame_export l sink fault export.Memory h is = record {
-  only = λ write. absurd (cc (sym write ∙ is));
+blame_export : (l : LedgerState) (sink : Change SinkState) (e : ExportFault) → ExportsUntil l sink.old sink.new e → BlamesSink sink (Fails (fault_of_export e))
+blame_export l sink export.Write h = record { only = λ _. h.cause.0; always = λ works fails. refl }
+blame_export l sink export.Memory h = record {
+  only = λ write. absurd (cc (same_fault _ _ write));
   always = λ works fails. absurd (cc (sym fails ∙ still_works sink.old sink.new h.cause works));
 }
 
 -- at the line that refuses the table
-blame_line : (judges : Verdict → Type 0) (sink : Change SinkState) (fault : Fault) → PutsUntil judges sink.old sink.new fault → BlamesSink sink fault
-blame_line judges sink Write h = record { only = λ is. h.fails; always = λ works fails. refl }
-blame_line judges sink Read h = no_blame sink Read (λ is. cc is) h.1
-blame_line judges sink Endless h = no_blame sink Endless (λ is. cc is) h.1
-blame_line judges sink Memory h = no_blame sink Memory (λ is. cc is) h.1
+blame_until : (judges : Verdict → Type 0) (sink : Change SinkState) (fault : Fault) → PutsUntil judges sink.old sink.new fault → BlamesSink sink (Fails fault)
+blame_until judges sink Write h = record { only = λ is. h.fails; always = λ works fails. refl }
+blame_until judges sink Read h = no_blame sink (Fails Read) (λ is. cc (same_fault _ _ is)) h.1
+blame_until judges sink Endless h = no_blame sink (Fails Endless) (λ is. cc (same_fault _ _ is)) h.1
+blame_until judges sink Memory h = no_blame sink (Fails Memory) (λ is. cc (same_fault _ _ is)) h.1
 
-module _ (rules : CountingRules) (fills : ℕ) (e : EndStates) (out : Change SinkState) (fault : Fault) where
-  abbrev Fails : Type 0
-  Fails = ExportRun rules fills e out (Err (stopped.Fault fault))
+blame_line : (why : Refused) (sink : Change SinkState) (stop : Stopped) → StopsFor why sink stop → BlamesSink sink stop
+blame_line why sink (stopped.Refused told) (is, shown) = works_still sink (stopped.Refused told) (λ same. cc same) shown.1.0.0
+blame_line why sink (stopped.Fault fault) (other, is, until) = blame_until (λ v. v ≡ refused_verdict other) sink fault until
 
-  same_fault : {f : Fault} → (let r : Result Report Stopped = Err (stopped.Fault fault) in r) ≡ Err (stopped.Fault f) → f ≡ fault
-  same_fault is = cc
+pub blame : (rules : CountingRules) (fills : ℕ) (table lines : Change SourceState) (sink : Change SinkState) (result : Result Report Stopped)
+    → ExportRun rules fills table lines sink result → IfErr result (BlamesSink sink)
+blame rules fills table lines sink (Ok report) h = tt
+blame rules fills table lines sink (Err why) (inl ((cause, read, stops), unread)) = blame_line _ sink why stops
+blame rules fills table lines sink (Err why) (inr (taken, (new, opens, replies, works, takes), fault, inl (is, same), stop)) =
+    subst (BlamesSink sink) (sym stop) (no_blame sink (Fails fault) (not_written fills lines replies new taken.ledger taken.end fault works takes is) same)
+blame rules fills table lines sink (Err why) (inr (taken, took, fault, inr (took_all, e, until, is), stop)) =
+    subst (BlamesSink sink) (sym stop) (subst (λ (f : Fault). BlamesSink sink (Fails f)) (sym is) (blame_export taken.ledger sink e until))
 
-  -- where the sink for the replies hasn't failed
-  module _ (works : e.replies.new.failed ≡ false) where
-    lines_blamed : Fails → BlamesSink out fault
-    lines_blamed (runs.began randoms read counting (left, end, takes, Ok x, makes, same)) = absurd (cc same)
-    lines_blamed (runs.began randoms read counting (left, Ok totals, takes, Err f, (why, until, is), same)) =
-        subst (BlamesSink out) (same_fault same) (blame_export left out f why until is)
-    lines_blamed (runs.began randoms read counting (left, Err f, takes, Err g, (one, kept), same)) =
-        let is : f ≡ fault = cc (one, same) in subst (BlamesSink out) is (no_blame out f (not_written fills e (new_ledger rules randoms) left f works takes) kept)
-    lines_blamed (runs.lacks cause found alone puts) = blame_line (λ verdict. verdict ≡ unread_verdict (reason.Table cause)) out fault puts
+-- ---- the export itself
 
-  -- where it worked before and has failed in the run
-  module _ (works : e.replies.old.failed ≡ false) (fails : e.replies.new.failed ≡ true) where
-    abbrev Breaks : Fault → Type 0
-    Breaks f = (f ≡ Write) × IsSame out
+module _ (l : LedgerState) (old mid new : SinkState) (same : mid ≡ old) (answer : Result ℕ ExportFault) (told : Result ℕ Fault) where
+  -- the answer with a fault of the run
+  abbrev AsFault : Type 0
+  AsFault = MatchResult answer (λ n. told ≡ Ok n) (λ e. IsErrAnd told (λ fault. fault ≡ fault_of_export e))
 
-    not_failed : e.replies.new.failed ≡ false → ⊥
-    not_failed is = cc (sym fails ∙ is)
+  pub export_made : (count : ℕ) → IfOk answer (exporting.Exports l mid new) → AsFault → told ≡ Ok count → exporting.Exports l old new count
+  export_made count made as_fault is = by answer made as_fault
+    where
+      by : (a : Result ℕ ExportFault) → IfOk a (exporting.Exports l mid new) → MatchResult a (λ n. told ≡ Ok n) (λ e. IsErrAnd told (λ fault. fault ≡ fault_of_export e)) → exporting.Exports l old new count
+      by (Ok n) h one = let c : n ≡ count = cc (one, is) in subst (exporting.Exports l old new) c (subst (λ (m : SinkState). exporting.Exports l m new n) same h)
+      by (Err e) h one = absurd (let none : IsErrAnd (let r : Result ℕ Fault = Ok count in r) (λ fault. fault ≡ fault_of_export e) = subst (λ (r : Result ℕ Fault). IsErrAnd r (λ fault. fault ≡ fault_of_export e)) is one in none)
 
-    never_same : IsSame e.replies → ⊥
-    never_same same = not_failed (ap (λ (x : SinkState). x.failed) same ∙ works)
-
-    never_awaits : AwaitsFlush e.replies.old e.replies.new → ⊥
-    never_awaits awaits = not_failed (still_works e.replies.old e.replies.new awaits works)
-
-    breaks_off : (l l' : LedgerState) (f : Fault) → Takes fills e (from_to l l') (Err f) → IsSame out → Breaks f
-    breaks_off l l' Read h kept = absurd (never_awaits h.1)
-    breaks_off l l' Write h kept = (refl, kept)
-    breaks_off l l' Endless h kept = absurd (never_awaits h.1)
-    breaks_off l l' Memory h kept = absurd (never_same h.1)
-
-    replies_blamed : Fails → Breaks fault
-    replies_blamed (runs.began randoms read counting (left, end, takes, Ok x, makes, same)) = absurd (cc same)
-    replies_blamed (runs.began randoms read counting (left, Ok totals, takes, Err f, makes, same)) = absurd (not_failed takes.1.0.0)
-    replies_blamed (runs.began randoms read counting (left, Err f, takes, Err g, (one, kept), same)) =
-        let is : f ≡ fault = cc (one, same) in subst Breaks is (breaks_off (new_ledger rules randoms) left f takes kept)
-    replies_blamed (runs.lacks cause found alone puts) = absurd (never_same alone.1)
-
-pub blame : (rules : CountingRules) (fills : ℕ) (e : EndStates) (out : Change SinkState) (result : Result Made Fault) → Exported (ExportRun rules fills e out) result
-    → IfErr result (BlamesEither e.replies out)
-blame rules fills e out (Ok made) h = tt
-blame rules fills e out (Err fault) h =
-    record { replies = λ works fails. replies_blamed rules fills e out fault works fails h; lines = λ works. lines_blamed rules fills e out fault works h }
+  pub export_fails : (fault : Fault) → IfErr answer (ExportsUntil l mid new) → AsFault → told ≡ Err fault → (why : ExportFault) × ExportsUntil l old new why × (fault ≡ fault_of_export why)
+  export_fails fault broke as_fault is = by answer broke as_fault
+    where
+      by : (a : Result ℕ ExportFault) → IfErr a (ExportsUntil l mid new) → MatchResult a (λ n. told ≡ Ok n) (λ e. IsErrAnd told (λ f. f ≡ fault_of_export e))
+          → (why : ExportFault) × ExportsUntil l old new why × (fault ≡ fault_of_export why)
+      by (Ok n) h one = absurd (cc (one, is))
+      by (Err e) h one = (e, subst (λ (m : SinkState). ExportsUntil l m new e) same h, subst (λ (r : Result ℕ Fault). IsErrAnd r (λ f. f ≡ fault_of_export e)) is one)

@@ -1,6 +1,7 @@
 -- The theorem of `pbook collect`, from what a run does.
-use Rattle.std.proofs.Common.{◌≡◌, ℕ, List, [], All, Ok, Err, refl, subst, sym}
+use Rattle.std.proofs.Common.{◌≡◌, ℕ, List, [], All, Result, Ok, Err, refl, subst, sym}
 use Rattle.pb_io.specs.Lines.{lines}
+use Rattle.pb_io.specs.Sink.{SinkState}
 use Rattle.pb_poly.proofs.EntryBytes.{book_is_one}
 use Rattle.pb_poly.proofs.ToldReads.{handed_out}
 use Rattle.pb_poly.specs.Book.{BookBytes, book_bytes}
@@ -18,13 +19,16 @@ use Rattle.pb_accepted.specs.Replies.{replies, reply_texts}
 use Rattle.pb_accepted.specs.Rules.{AreRules, CountingRules}
 use Rattle.pb_accepted.proofs.BookLaws.{one_book}
 use Rattle.pb_accepted.proofs.Replyings.{replies_are, replies_number, run_to}
+use Rattle.pb_io.specs.declared.fault.Fault.{Fault}
+use Rattle.pb_ledger.specs.Collecting.{CollectsStream}
 use Rattle.pb_ledger.specs.declared.totals.Totals.{Totals}
 use Rattle.pb_ledger.proofs.Changes.{from_to}
 use Rattle.pb_collecting.specs.Ends.{EndStates}
 use Rattle.pb_collecting.specs.Answered.{IsAnswered}
 use Rattle.pb_collecting.specs.Headline.{Effect}
-use Rattle.pb_collecting.specs.Runs as runs
-use Rattle.pb_collecting.specs.Runs.{Collected, CollectRun, Takes, new_ledger}
+use Rattle.pb_collecting.specs.Run.{MakesBook}
+use Rattle.pb_collecting.specs.Runs.{CollectRun, Opens, Takes, new_ledger}
+use Rattle.pb_collecting.specs.declared.run.Taken.{Taken}
 
 -- the effect of lines that were answered as a ledger answers them, wherever they came from
 pub effect : (L : List (List ℕ)) (R : List Answer) (games : List Submission) → Run most_games [] L R games
@@ -45,7 +49,7 @@ effect L R games run T entries bounds book = record {
 
 module _ (rules : CountingRules) (fills : ℕ) (e : EndStates) where
   has_headline : (randoms : List ℕ) (left : LedgerState) (totals : Totals) (entries : List Entry) → ReadsTable fills e.table.old e.table.new (Ok randoms) → AreRules rules
-      → Takes fills e (from_to (new_ledger rules randoms) left) (Ok totals) → IsBook (counted left.basis left.accepted) left.basis.rules.least entries → All IsEntry entries
+      → CollectsStream fills e.lines e.replies (from_to (new_ledger rules randoms) left) totals → IsBook (counted left.basis left.accepted) left.basis.rules.least entries → All IsEntry entries
       → IsAnswered rules e entries (book_bytes entries)
   has_headline randoms left totals entries read counting takes book bounds =
       let table = found_table fills e.table.old e.table.new randoms read in
@@ -76,10 +80,17 @@ module _ (rules : CountingRules) (fills : ℕ) (e : EndStates) where
         record { answers = collects.answers; said = refl; run = collects.leads.run },
       )
 
-  pub headline : (made : Collected) → CollectRun rules fills e (Ok made) → IsAnswered rules e made.entries (book_bytes made.entries)
-  headline made (runs.began randoms read counting (left, Ok totals, takes, Ok x, (book, bounds, same), is)) =
-      let one : x ≡ made = cc is in
-      subst (λ (m : Collected). IsAnswered rules e m.entries (book_bytes m.entries)) one (has_headline randoms left totals x.entries read counting takes book bounds)
-  headline made (runs.began randoms read counting (left, Err fault, takes, Ok x, makes, is)) = absurd (cc makes)
-  headline made (runs.began randoms read counting (left, end, takes, Err fault, makes, is)) = absurd (cc is)
-  headline made (runs.lacks cause found unread refused) = absurd refused
+  by_end : (randoms : List ℕ) (left : LedgerState) (end : Result Totals Fault) (entries : List Entry) → ReadsTable fills e.table.old e.table.new (Ok randoms) → AreRules rules
+      → Takes fills e.lines e.replies (new_ledger rules randoms) (record { ledger = left; end = end }) → MakesBook (record { ledger = left; end = end }) (Ok entries)
+      → IsAnswered rules e entries (book_bytes entries)
+  by_end randoms left (Ok totals) entries read counting takes (book, bounds) = has_headline randoms left totals entries read counting takes book bounds
+  by_end randoms left (Err fault) entries read counting takes is = absurd (cc is)
+
+  pub headline : (taken : Taken) → CollectRun rules fills e (Ok taken) → (entries : List Entry) → MakesBook taken (Ok entries) → IsAnswered rules e entries (book_bytes entries)
+  headline taken (new, (randoms, read, counting, is), takes) entries made =
+      by_end randoms taken.ledger taken.end entries read counting (subst (λ (l : LedgerState). Takes fills e.lines e.replies l taken) is takes) made
+
+  -- from the games of a table on the submissions were taken so
+  pub collected : (mid : SinkState) (new : LedgerState) (taken : Taken) → Opens rules fills e.table new → mid ≡ e.replies.old → Takes fills e.lines (record e.replies { old = mid }) new taken
+      → CollectRun rules fills e (Ok taken)
+  collected mid new taken opens same takes = (new, opens, subst (λ (m : SinkState). Takes fills e.lines (record e.replies { old = m }) new taken) same takes)

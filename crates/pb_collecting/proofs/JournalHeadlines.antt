@@ -13,6 +13,7 @@ use Rattle.pb_accepted.specs.Counting.{IsBook, counted}
 use Rattle.pb_accepted.specs.Holding.{most_games}
 use Rattle.pb_accepted.specs.Ledger.{LedgerState}
 use Rattle.pb_accepted.specs.Rules.{CountingRules}
+use Rattle.pb_ledger.specs.Collecting.{CollectsStream}
 use Rattle.pb_ledger.specs.Journaling.{Gains}
 use Rattle.pb_ledger.proofs.Changes.{from_to}
 use Rattle.pb_ledger.specs.declared.totals.Totals.{Totals}
@@ -21,15 +22,15 @@ use Rattle.pb_collecting.specs.Ends.{EndStates, JournalStates}
 use Rattle.pb_collecting.specs.JournalHeadline.{HasHeadlineOfJournal}
 use Rattle.pb_collecting.proofs.ContinueHeadlines.{goes_on}
 use Rattle.pb_collecting.proofs.JournalGains.{Replayed, gains_all}
-use Rattle.pb_collecting.specs.Runs.{Takes, new_ledger}
+use Rattle.pb_collecting.specs.Runs.{new_ledger}
 
 module _ (rules : CountingRules) (fills : ℕ) (e : EndStates) (j : JournalStates) where
   pub has_headline : (randoms : List ℕ) (held left : LedgerState) (mended : SinkState) (totals : Totals) (entries : List Entry) → ReadsTable fills e.table.old e.table.new (Ok randoms)
       → Replayed fills j.kept (from_to j.journal.old mended) (from_to (new_ledger rules randoms) held) → held ≡ record (new_ledger rules randoms) { accepted = held.accepted }
-      → Takes fills e (from_to held left) (Ok totals) → Gains (from_to mended j.journal.new) (from_to held left) → IsBook (counted left.basis left.accepted) left.basis.rules.least entries
+      → CollectsStream fills e.lines e.replies (from_to held left) totals → Gains (from_to mended j.journal.new) (from_to held left) → IsBook (counted left.basis left.accepted) left.basis.rules.least entries
       → All IsEntry entries → HasHeadlineOfJournal rules e j entries (book_bytes entries)
   has_headline randoms held left mended totals entries read replays like takes gains book bounds =
-      let takes_on = subst (λ (m : LedgerState). Takes fills e (from_to m left) (Ok totals)) like takes in
+      let takes_on = subst (λ (m : LedgerState). CollectsStream fills e.lines e.replies (from_to m left) totals) like takes in
       let collects = takes_on.0.done.collects in
       let on = goes_on rules fills e randoms held.accepted left totals entries read takes_on book bounds in
       record {

@@ -18,20 +18,19 @@ use Rattle.pb_accepted.specs.Ledger.{LedgerState}
 use Rattle.pb_accepted.specs.Replies.{replies, reply_line}
 use Rattle.pb_accepted.specs.Rules.{CountingRules}
 use Rattle.pb_ledger.specs.Journal.{GameLines, Journals, mending}
-use Rattle.pb_ledger.specs.Collecting.{Collects, CollectsButOne, Leads}
+use Rattle.pb_ledger.specs.Collecting.{Collects, CollectsButOne, CollectsStream, CollectsUntil, Leads}
 use Rattle.pb_ledger.specs.Journaling.{CollectsUnkept, Gains, JournalsUntil}
 use Rattle.pb_ledger.proofs.Changes.{from_to}
 use Rattle.pb_ledger.proofs.Lasting.{lasts_first}
 use Rattle.pb_ledger.specs.Change.{across}
 use Rattle.pb_ledger.specs.Streams.{AtLast, Puts}
 use Rattle.pb_accepted.proofs.Steps.{runs_join}
-use Rattle.pb_io.specs.declared.fault.Fault.TheVariants as collect
-use Rattle.pb_ledger.specs.declared.journaling.JournalFault.{JournalFault}
-use Rattle.pb_ledger.specs.declared.journaling.JournalFault.TheVariants as journal
+use Rattle.pb_io.specs.declared.fault.Fault.{Fault}
+use Rattle.pb_io.specs.declared.fault.Fault.TheVariants as fault
 use Rattle.pb_ledger.specs.declared.totals.Totals.{Totals}
 use Rattle.pb_collecting.specs.Ends.{Change, EndStates, IsSame, JournalStates}
 use Rattle.pb_collecting.specs.JournalHeadline.{HoldsAnswered}
-use Rattle.pb_collecting.specs.Runs.{Takes, new_ledger}
+use Rattle.pb_collecting.specs.Runs.{new_ledger}
 use Rattle.pb_collecting.proofs.JournalGains.{IsNumber-front, Replayed, gains_all, gains_torn, has_numbers, replies-push}
 
 -- ---- the first lines of the submissions
@@ -159,12 +158,12 @@ module _ (rules : CountingRules) (fills : ℕ) (e : EndStates) (j : JournalState
     on : Leads from h.middle before answers
     on = leads_on h.middle before answers h.collects.leads
 
-    run : Run most_games held.accepted (before ++ line ∷ []) (answers ++ Ok h.number ∷ []) left.accepted
-    run = runs_join most_games held.accepted h.middle.accepted left.accepted before (line ∷ []) answers (Ok h.number ∷ []) on.run
-        (subst (λ cap. Run cap h.middle.accepted (line ∷ []) (Ok h.number ∷ []) left.accepted) on.cap h.leads.run)
+    run : Run most_games held.accepted (before ++ line ∷ []) (answers ++ Ok h.unkept.number ∷ []) left.accepted
+    run = runs_join most_games held.accepted h.middle.accepted left.accepted before (line ∷ []) answers (Ok h.unkept.number ∷ []) on.run
+        (subst (λ cap. Run cap h.middle.accepted (line ∷ []) (Ok h.unkept.number ∷ []) left.accepted) on.cap h.unkept.leads.run)
 
-    games : left.accepted ≡ held.accepted ++ new ++ h.game ∷ []
-    games = h.brings ∙ ap (λ (A : List Submission). A ++ h.game ∷ []) h.gains.are
+    games : left.accepted ≡ held.accepted ++ new ++ h.unkept.game ∷ []
+    games = h.unkept.brings ∙ ap (λ (A : List Submission). A ++ h.unkept.game ∷ []) h.gains.are
 
     abbrev Has : List Submission → Type 0
     Has G = (i n : ℕ) → slice_get answers i ≡ Some (Ok n) → (s : Submission) × Arrives before i s × IsNumber G n s
@@ -172,8 +171,8 @@ module _ (rules : CountingRules) (fills : ℕ) (e : EndStates) (j : JournalState
     has_before : Has (held.accepted ++ new)
     has_before = has_numbers most_games held.accepted before answers (held.accepted ++ new) (subst (λ (X : List Submission). Run most_games held.accepted before answers X) h.gains.are on.run)
 
-    has_after : Has (held.accepted ++ new ++ h.game ∷ [])
-    has_after i n told = let has = has_before i n told in (has.0, has.1, IsNumber-front (held.accepted ++ new) (h.game ∷ []) n has.0 has.2)
+    has_after : Has (held.accepted ++ new ++ h.unkept.game ∷ [])
+    has_after i n told = let has = has_before i n told in (has.0, has.1, IsNumber-front (held.accepted ++ new) (h.unkept.game ∷ []) n has.0 has.2)
 
     answered : (gains : List ℕ) (G : List Submission) → Journals most_games (kept ++ gains) G → Has G → HoldsAnswered (kept ++ gains) e
     answered gains G journals has =
@@ -193,25 +192,25 @@ module _ (rules : CountingRules) (fills : ℕ) (e : EndStates) (j : JournalState
         }
 
     abbrev torn : List ℕ
-    torn = take h.breaks.front.0 (with_end (submission_text h.game))
+    torn = take h.unkept.breaks.front.0 (with_end (submission_text h.unkept.game))
 
     survives_so : (G : List Submission) → Journals most_games (kept ++ mending kept ++ text ++ torn) G → Has G → HoldsBy e kept (Puts j.journal)
     survives_so G journals has = (
       mending kept ++ (text ++ torn),
-      gained (text ++ torn) j.journal.new (Appends-trans _ _ _ _ _ h.gains.put h.breaks.front.1),
+      gained (text ++ torn) j.journal.new (Appends-trans _ _ _ _ _ h.gains.put h.unkept.breaks.front.1),
       answered (mending kept ++ (text ++ torn)) G
           (subst (λ (bytes : List ℕ). Journals most_games bytes G) (append_assoc (kept ++ mending kept) text torn ∙ append_assoc kept (mending kept) (text ++ torn)) journals) has,
     )
 
     unkept : Safe e j kept
     unkept = (
-      elim (gains_torn most_games kept held.accepted left.accepted (before ++ line ∷ []) (answers ++ Ok h.number ∷ []) holds run new h.game text h.breaks.front.0 games h.gains.lines) [
+      elim (gains_torn most_games kept held.accepted left.accepted (before ++ line ∷ []) (answers ++ Ok h.unkept.number ∷ []) holds run new h.unkept.game text h.unkept.breaks.front.0 games h.gains.lines) [
         | inl lost ↦ survives_so (held.accepted ++ new) lost has_before
-        | inr whole ↦ survives_so (held.accepted ++ new ++ h.game ∷ []) whole has_after
+        | inr whole ↦ survives_so (held.accepted ++ new ++ h.unkept.game ∷ []) whole has_after
       ],
       λ all. (
         mending kept ++ text,
-        lasts_first j.journal.old h.kept j.journal.new (mending kept ++ text) (gained text h.kept h.gains.put) (h.gains.all_lasts (replays.all_lasts all)) h.breaks.lasts,
+        lasts_first j.journal.old h.kept j.journal.new (mending kept ++ text) (gained text h.kept h.gains.put) (h.gains.all_lasts (replays.all_lasts all)) h.unkept.breaks.lasts,
         answered (mending kept ++ text) (held.accepted ++ new) (holds_all h.middle before answers on new text h.gains.are h.gains.lines) has_before,
       ),
     )
@@ -223,16 +222,19 @@ module _ (rules : CountingRules) (fills : ℕ) (e : EndStates) (j : JournalState
     at_line P follows (inl h) = follows (ended_lines h.came) (front_read fills e.lines h.came h.reads) h.done
     at_line P follows (inr h) = follows (lines h.came) (all_read fills e.lines h.came h.reads) h.done
 
-    pub stream_survives : (totals : Totals) → Takes fills e (from_to held left) (Ok totals) → Gains (from_to mended j.journal.new) (from_to held left) → IsSame e.lines ⊎ Safe e j kept
+    pub stream_survives : (totals : Totals) → CollectsStream fills e.lines e.replies (from_to held left) totals → Gains (from_to mended j.journal.new) (from_to held left) → IsSame e.lines ⊎ Safe e j kept
     stream_survives totals takes gains = inr (collected left (lines takes.0.came) (all_read fills e.lines takes.0.came takes.0.reads) takes.0.done.collects gains)
 
-    pub until_survives : (why : JournalFault) → JournalsUntil fills e.lines e.replies (from_to mended j.journal.new) (from_to held left) why → IsSame e.lines ⊎ Safe e j kept
-    until_survives (journal.Lines collect.Read) h = inr (collected left (ended_lines h.0.0.came) (first_read fills e.lines h.0.0.came h.0.0.reads.reads) h.0.0.done h.1)
-    until_survives (journal.Lines collect.Endless) h = inr (collected left (ended_lines h.0.0.came) (first_read fills e.lines h.0.0.came h.0.0.reads.reads) h.0.0.done h.1)
-    until_survives (journal.Lines collect.Memory) h = inl h.0.0
-    until_survives (journal.Lines collect.Write) h = elim h.0.0 [
-      | inl at ↦ inr (at_line (CollectsButOne e.replies (from_to held left)) (λ L front but_one. collected_but_one left L front but_one h.1) at)
-      | inr at ↦ inr (collected left (lines at.came) (all_read fills e.lines at.came at.reads) at.done h.1)
+    kept_survives : (why : Fault) → CollectsUntil fills e.lines e.replies (from_to held left) why → Gains (from_to mended j.journal.new) (from_to held left) → IsSame e.lines ⊎ Safe e j kept
+    kept_survives fault.Read h gains = inr (collected left (ended_lines h.0.came) (first_read fills e.lines h.0.came h.0.reads.reads) h.0.done gains)
+    kept_survives fault.Endless h gains = inr (collected left (ended_lines h.0.came) (first_read fills e.lines h.0.came h.0.reads.reads) h.0.done gains)
+    kept_survives fault.Memory h gains = inl h.0
+    kept_survives fault.Write h gains = elim h.0 [
+      | inl at ↦ inr (at_line (CollectsButOne e.replies (from_to held left)) (λ L front but_one. collected_but_one left L front but_one gains) at)
+      | inr at ↦ inr (collected left (lines at.came) (all_read fills e.lines at.came at.reads) at.done gains)
     ]
-    until_survives journal.Journal h = inr (at_line (AtLast (CollectsUnkept e.replies (from_to mended j.journal.new) (from_to held left)))
-        (λ L front last. unkept left last.before last.line (subst (λ (X : List (List ℕ)). AreFirst X e.lines) last.are front) last.done) h.0)
+
+    pub until_survives : (why : Fault) → JournalsUntil fills e.lines e.replies (from_to mended j.journal.new) (from_to held left) why → IsSame e.lines ⊎ Safe e j kept
+    until_survives why (inl h) = kept_survives why h.0 h.1
+    until_survives why (inr h) = inr (at_line (AtLast (CollectsUnkept e.replies (from_to mended j.journal.new) (from_to held left)))
+        (λ L front last. unkept left last.before last.line (subst (λ (X : List (List ℕ)). AreFirst X e.lines) last.are front) last.done) h.1)

@@ -1,14 +1,11 @@
-mod ByteLemmas
 mod Checking
 mod ContinueHeadlines
 mod EffectLaws
 mod ExportClauses
-mod Finishings
 mod Headlines
-mod Intos
 mod JournalClauses
 mod JournalGains
 mod JournalHeadlines
 mod JournalSurvives
-mod Openings
-mod Refused
+mod Taking
+mod Unread

@@ -1,70 +1,55 @@
--- What runs make, and what they leave at the stores of a ledger and of a book.
+-- What runs keep at the stores of a ledger and of a book.
 use Rattle.std.specs.Prelude.{◌≡◌, ◌⊎◌, ◌-◌, ◌^◌, ℕ, List, Result, Ok, Err, IfOk, length, min}
-use Rattle.pb_io.specs.declared.fault.Fault.{Fault}
 use Rattle.pb_poly.specs.Book.{book_bytes}
 use Rattle.pb_poly.specs.declared.entry.Entry.{Entry}
-use Rattle.pb_accepted.specs.Ledger.{LedgerState}
 use Rattle.pb_ledger.specs.Change.{across}
 use Rattle.pb_ledger.specs.Saving.{Saved}
+use Rattle.pb_ledger.specs.declared.totals.Totals.{Totals}
+use Rattle.pb_io.specs.declared.fault.Fault.{Fault}
+use Rattle.pb_commands.specs.declared.refusal.Stopped.{Stopped}
+use Rattle.pb_commands.specs.declared.refusal.Stopped.TheVariants as stopped
 use Rattle.pb_collecting.specs.Ends.{Change, IsSame}
-use Rattle.pb_collecting.specs.Runs.{Collected, Left}
+use Rattle.pb_collecting.specs.Run.{MakesBook}
 use Rattle.pb_collecting.specs.Store.{KeepsBytes, StoreState}
 use Rattle.pb_collecting.specs.declared.keeping.NoBook.{NoBook}
 use Rattle.pb_collecting.specs.declared.keeping.NoBook.TheVariants as no
-use Rattle.pb_collecting.specs.declared.made.Made.{Made}
-use Rattle.pb_collecting.specs.declared.made.Made.TheVariants.{Book, Unread}
-use Rattle.pb_collecting.specs.declared.made.Report.{Report}
-use Rattle.pb_collecting.specs.declared.made.Stopped.{Stopped}
-use Rattle.pb_collecting.specs.declared.made.Stopped.TheVariants as stopped
+use Rattle.pb_collecting.specs.declared.run.Report.{Report}
+use Rattle.pb_collecting.specs.declared.run.Taken.{Taken}
 use Rattle.pb_collecting.specs.declared.store.StoreError.{StoreError}
 
--- the bytes of these entries were kept with this answer, which counts them
-abbrev pub KeepsEntries : Change StoreState → List Entry → Result ℕ StoreError → Type 0
-KeepsEntries store entries answer = across KeepsBytes store answer (book_bytes entries)
+-- the bytes of the book's entries were kept with this answer, which counts them
+abbrev pub KeepsEntries : Change StoreState → Taken → Result ℕ StoreError → Type 0
+KeepsEntries store taken answer = (entries : List Entry) × MakesBook taken (Ok entries)
+    × across KeepsBytes store answer (book_bytes entries)
     × IfOk answer (λ n. n ≡ min (length entries) (2 ^ 64 - 1))
 
--- how a run ends that keeps its book: at the store, and the report counts its entries; with the
--- line that says why it read no submission, or with a fault, and the store as it was; or with a
--- book that wasn't kept
-abbrev pub Into : (Result Collected Stopped → Type 0) → Change StoreState → Result Made NoBook
+-- the book of what was taken was kept, or not; or there is none by the fault that ended that, and
+-- the store is as it was
+abbrev pub KeepsBook : Change StoreState → Taken → Result Report NoBook → Type 0
+KeepsBook store taken (Ok report) =
+    (taken.end ≡ Ok report.totals) × KeepsEntries store taken (Ok report.entries)
+KeepsBook store taken (Err (no.Keep why)) = KeepsEntries store taken (Err why)
+KeepsBook store taken (Err (no.Run (stopped.Fault fault))) =
+    (taken.end ≡ Err fault) × IsSame store
+KeepsBook store taken (Err why) = ⊥
+
+-- the book is kept once the ledger was kept with this answer: there is none without its ledger
+abbrev pub KeepsAfter : Result ℕ StoreError → Result Totals Fault → Change StoreState → Taken
+    → Result Report NoBook → Type 0
+KeepsAfter (Err why) (Ok totals) store taken result =
+    IsSame store × (result ≡ Err (no.Ledger why))
+KeepsAfter kept end store taken result = KeepsBook store taken result
+
+-- the ledger was kept, also where a fault ended the submissions, and then the book
+abbrev pub KeepsBoth : Change StoreState → Change StoreState → Taken → Result Report NoBook
     → Type 0
-Into run store (Ok (Book report)) = (made : Collected) × run (Ok made)
-    × KeepsEntries store made.entries (Ok report.entries) × (report.totals ≡ made.totals)
-Into run store (Ok (Unread why)) = run (Err (stopped.Unread why)) × IsSame store
-Into run store (Err (no.Run fault)) = run (Err (stopped.Fault fault)) × IsSame store
-Into run store (Err (no.Ledger why)) = ⊥
-Into run store (Err (no.Keep why)) =
-    (made : Collected) × run (Ok made) × KeepsEntries store made.entries (Err why)
+KeepsBoth ledger book taken result = (bytes : List ℕ) × Saved taken.ledger.accepted bytes
+    × (kept : Result ℕ StoreError) × across KeepsBytes ledger kept bytes
+    × KeepsAfter kept taken.end book taken result
 
--- a run leaves a ledger, and this was made of it, and the ledger was kept with this answer
-pub record KeepsLedger (run : Result Left Stopped → Type 0) (store : Change StoreState)
-    (made : Result Collected Fault) (answer : Result ℕ StoreError) : Type 0 where
-  pub left : LedgerState
-  pub ran : run (Ok (record { ledger = left; made = made }))
-  pub bytes : List ℕ
-  pub saved : Saved left.accepted bytes
-  pub keeps : across KeepsBytes store answer bytes
-
--- A run that keeps its ledger before its book: what was made of it, once the ledger was kept; or
--- why nothing was, and then the ledger was kept if its store took it, or there is none.
-abbrev pub LedgerFirst : (Result Left Stopped → Type 0) → Change StoreState
-    → Result Collected Stopped → Type 0
-LedgerFirst run store (Ok made) = (games : ℕ) × KeepsLedger run store (Ok made) (Ok games)
-LedgerFirst run store (Err why) = (run (Err why) × IsSame store)
-    ⊎ ((fault : Fault) × (answer : Result ℕ StoreError) × (why ≡ stopped.Fault fault)
-    × KeepsLedger run store (Err fault) answer)
-
--- how a run ends that keeps its ledger and then its book: as one that keeps its book, once the
--- ledger was kept; or without the ledger at its store, and the book's as it was
-abbrev pub ContinuesInto : (Result Left Stopped → Type 0) → Change StoreState → Change StoreState
-    → Result Made NoBook → Type 0
-ContinuesInto run ledger book (Err (no.Ledger why)) =
-    (made : Collected) × KeepsLedger run ledger (Ok made) (Err why) × IsSame book
-ContinuesInto run ledger book result = Into (LedgerFirst run ledger) book result
-
--- how an export ends: with a report, with the line that says why it read no submission, or with a
--- fault
-abbrev pub Exported : (Result Report Stopped → Type 0) → Result Made Fault → Type 0
-Exported run (Ok (Book report)) = run (Ok report)
-Exported run (Ok (Unread why)) = run (Err (stopped.Unread why))
-Exported run (Err fault) = run (Err (stopped.Fault fault))
+-- how a run ends that keeps what is made of what it took; or it stopped before that, and the stores
+-- were left alone
+abbrev pub Into : (Result Taken Stopped → Type 0) → (Taken → Result Report NoBook → Type 0)
+    → Type 0 → Result Report NoBook → Type 0
+Into run keeps alone result = ((taken : Taken) × run (Ok taken) × keeps taken result)
+    ⊎ ((why : Stopped) × run (Err why) × alone × (result ≡ Err (no.Run why)))

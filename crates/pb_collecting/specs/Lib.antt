@@ -8,9 +8,8 @@ pub mod ExportRun
 pub mod Headline
 pub mod Into
 pub mod JournalHeadline
-pub mod Laws
-pub mod Reasons
 pub mod Run
+pub mod RunLaws
 pub mod Runs
 pub mod Store
 pub use Rattle.pb_ledger.specs.Games

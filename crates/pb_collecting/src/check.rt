@@ -1,7 +1,5 @@
 //! The command `check`: each line submits a legal game, or is refused.
-ghost use Rattle.std.specs.Prelude.{◌≡◌, ◌≤◌, Err, Ok, false, length};
-ghost use Rattle.pb_accepted.specs.Replies.{named, reply_line};
-ghost use Rattle.pb_commands.specs.LineAnswer.{PutsOrStops};
+
 ghost use Rattle.pb_collecting.specs.CheckRun.{ChecksOrEnds};
 
 use pb_commands::{LineAnswer, answer_lines};
@@ -19,37 +17,25 @@ impl<Watch: Watcher> LineAnswer for Checker<'_, Watch> {
 
     ghost shows = { λ _ _. CheckShown };
 
-    fn answer<K: Sink>(&mut self, sink: &mut K, _number: u64, line: &[u8]) -> Result<bool, Fault> {
-        match check_line(line) {
+    fn answer<K: Sink>(
+        &mut self,
+        sink: &mut K,
+        _number: u64,
+        line: Option<&[u8]>,
+    ) -> Result<bool, Fault> {
+        // A long line isn't kept, so its id isn't known.
+        match line.map_or(Err(Refusal::Long), check_line) {
             Ok(game) => {
                 put_pieces(sink, &[b"ok ", game.id_bytes()], b"\n")?;
                 self.watcher.judged(Ok(()));
                 Ok(true)
             }
-            Err(refusal) => self.refuse(sink, line, refusal),
+            Err(refusal) => {
+                sink.put(Reply::new(line.unwrap_or(b""), Err(refusal)).as_bytes())?;
+                self.watcher.judged(Err(refusal));
+                Ok(false)
+            }
         }
-    }
-
-    fn answer_long<K: Sink>(&mut self, sink: &mut K, _number: u64) -> Result<bool, Fault> {
-        // A long line isn't kept, so its id isn't known.
-        self.refuse(sink, b"", Refusal::Long)
-    }
-}
-
-impl<Watch: Watcher> Checker<'_, Watch> {
-    fn refuse<K: Sink>(
-        &mut self,
-        sink: &mut K,
-        line: &[u8],
-        refusal: Refusal,
-    ) -> Result<bool, Fault>
-        requires { length (named line.now (Err refusal)) ≤ 64 }
-        ensures { PutsOrStops (λ verdict. verdict ≡ Ok (false, reply_line line.now (Err refusal)))
-            (K.state sink.old) (K.state sink.new) result }
-    {
-        sink.put(Reply::new(line, Err(refusal)).as_bytes())?;
-        self.watcher.judged(Err(refusal));
-        Ok(false)
     }
 }
 
@@ -69,5 +55,5 @@ pub fn run_check<In: Source, Out: Sink, Watch: Watcher>(
     ensures { ChecksOrEnds fills (In.state source.old) (In.state source.new)
         (Out.state sink.old) (Out.state sink.new) result }
 {
-    answer_lines(alloc, source, sink, &mut Checker { watcher }, fills)
+    answer_lines(alloc, source, sink, Checker { watcher }, fills)
 }

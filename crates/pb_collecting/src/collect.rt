@@ -1,15 +1,16 @@
 //! The command `collect`: submissions are answered, and the book of the games is made.
+
 ghost use Rattle.std.specs.Prelude.{IfOk, IfSome};
 ghost use Rattle.pb_poly.specs.Book.{book_bytes};
-ghost use Rattle.pb_collecting.specs.Ends.{between};
 ghost use Rattle.pb_collecting.specs.Answered.{IsAnswered};
-ghost use Rattle.pb_collecting.specs.Run.{LeavesLedger};
-ghost use Rattle.pb_collecting.specs.Runs.{Answers, CollectRun};
+ghost use Rattle.pb_collecting.specs.Ends.{between};
+ghost use Rattle.pb_collecting.specs.Run.{Answers, MakesBook};
+ghost use Rattle.pb_collecting.specs.Runs.{CollectRun};
 
-use crate::made::Stopped;
-use crate::run::{Taken, book_of, open};
+use crate::run::{book_of, open, take};
+use pb_commands::unless_refused;
 use pb_io::{Fault, Sink, Source};
-use pb_ledger::{Rules, Watcher, collect_watched};
+use pb_ledger::Rules;
 use pb_poly::Book;
 use std::alloc::Global;
 
@@ -33,7 +34,7 @@ pub fn run_collect<Table: Source, In: Source, Out: Sink>(
       table = between Table.state table_source.old table_source.new;
       lines = between In.state source.old source.new;
       replies = between Out.state sink.old sink.new;
-    })) (λ made. made.entries) result }
+    })) MakesBook result }
     // Which lines are accepted, that each game counts once, and that the book has one text.
     ensures headline { IfOk result (λ answer. IfSome answer (λ book. IsAnswered rules (record {
       table = between Table.state table_source.old table_source.new;
@@ -42,31 +43,9 @@ pub fn run_collect<Table: Source, In: Source, Out: Sink>(
     })
         book (book_bytes book))) }
 {
-    match take(alloc, rules, table_source, source, sink, &mut (), fills) {
-        Ok(taken) => Ok(Some(book_of(alloc, &taken.ledger)?)),
-        Err(stopped) => match stopped {
-            Stopped::Unread(_) => Ok(None),
-            Stopped::Fault(fault) => Err(fault),
-        },
-    }
-}
-
-pub(crate) fn take<Table: Source, In: Source, Out: Sink, Watch: Watcher>(
-    alloc: Global,
-    rules: Rules,
-    table: &mut Table,
-    lines: &mut In,
-    replies: &mut Out,
-    watcher: &mut Watch,
-    fills: u32,
-) -> Result<Taken, Stopped>
-    ensures { LeavesLedger (CollectRun rules fills (record {
-      table = between Table.state table.old table.new;
-      lines = between In.state lines.old lines.new;
-      replies = between Out.state replies.old replies.new;
-    })) result }
-{
-    let mut ledger = open(alloc, rules, table, replies, fills)?;
-    let totals = collect_watched(alloc, lines, replies, &mut ledger, watcher, fills)?;
-    Ok(Taken { ledger, totals })
+    let Some(ledger) = unless_refused(open(alloc, rules, table_source, sink, fills))? else {
+        return Ok(None);
+    };
+    let taken = take(alloc, ledger, source, sink, &mut (), fills);
+    Ok(Some(book_of(alloc, &taken)?))
 }

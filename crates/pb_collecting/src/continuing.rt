@@ -1,24 +1,20 @@
 //! The command `collect` that goes on from a saved ledger, also up to the stores.
 
-ghost use Rattle.std.specs.Prelude.{◌≡◌, IfOk, IfSome};
+ghost use Rattle.std.specs.Prelude.{IfOk, IfSome, MatchResult};
 ghost use Rattle.pb_poly.specs.Book.{book_bytes};
-ghost use Rattle.pb_commands.specs.Judged.{Refuses};
 ghost use Rattle.pb_collecting.specs.ContinueHeadline.{HasHeadlineOfBoth};
-ghost use Rattle.pb_collecting.specs.Ends.{between, states};
-ghost use Rattle.pb_collecting.specs.Into.{ContinuesInto};
-ghost use Rattle.pb_collecting.specs.Reasons.{saved_verdict};
-ghost use Rattle.pb_collecting.specs.Run.{LeavesGone, MayBeLeft};
-ghost use Rattle.pb_collecting.specs.Runs.{Answers, ContinueRun, continued};
+ghost use Rattle.pb_collecting.specs.Ends.{IsSame, between, states};
+ghost use Rattle.pb_collecting.specs.Into.{Into, KeepsBoth};
+ghost use Rattle.pb_collecting.specs.Run.{Answers, Headed, MakesContinued};
+ghost use Rattle.pb_collecting.specs.Runs.{ContinueRun, Holds, HoldsNone};
 
 use crate::ends::{Ends, LedgerEnds};
-use crate::keeping::NoBook;
-use crate::made::{Made, Report, Stopped, Unread};
-use crate::run::{book_of, open};
+use crate::keeping::{NoBook, keep_book};
+use crate::run::{Report, Taken, book_of, open, take};
 use crate::store::Store;
-use crate::text::LedgerBook;
-use pb_commands::refuse_with;
+use pb_commands::{Refused, Stopped, accept, unless_refused};
 use pb_io::{Fault, Sink, Source};
-use pb_ledger::{Ledger, LoadError, MapTally, Rules, Totals, Watcher, collect_watched, load};
+use pb_ledger::{Ledger, MapTally, Rules, Watcher, load};
 use pb_poly::Book;
 use std::alloc::Global;
 
@@ -52,7 +48,7 @@ pub fn run_continue<Table: Source, Saved: Source, In: Source, Out: Sink>(
       lines = between In.state source.old source.new;
       replies = between Out.state sink.old sink.new;
     })
-        (between Saved.state saved.old saved.new)) continued result }
+        (between Saved.state saved.old saved.new)) MakesContinued result }
     ensures headline { IfOk result (λ answer. IfSome answer (λ run.
         IfOk run.book (λ book. HasHeadlineOfBoth rules (record {
           table = between Table.state table_source.old table_source.new;
@@ -61,85 +57,37 @@ pub fn run_continue<Table: Source, Saved: Source, In: Source, Out: Sink>(
         })
         (between Saved.state saved.old saved.new) run.ledger book (book_bytes book)))) }
 {
-    match go_on(
-        alloc,
-        rules,
-        table_source,
-        saved,
-        source,
-        sink,
-        &mut (),
-        fills,
-    ) {
-        Ok(gone) => Ok(Some(gone.continued(alloc))),
-        Err(stopped) => match stopped {
-            Stopped::Unread(_) => Ok(None),
-            Stopped::Fault(fault) => Err(fault),
-        },
-    }
+    let began = load_first(alloc, rules, table_source, saved, sink, fills);
+    let Some(ledger) = unless_refused(began)? else {
+        return Ok(None);
+    };
+    let taken = take(alloc, ledger, source, sink, &mut (), fills);
+    let book = book_of(alloc, &taken);
+    Ok(Some(Continued {
+        ledger: taken.ledger,
+        book,
+    }))
 }
 
-/// A run that went on from a saved ledger, up to the book.
-#[derive(Drop)]
-struct Gone {
-    ledger: Ledger<MapTally>,
-    end: Result<Totals, Fault>,
-}
-
-impl Gone {
-    ghost use Rattle.pb_collecting.specs.Run.{MayBeEnd};
-
-    fn continued(self, alloc: Global) -> Continued
-        ensures ledger { result.ledger ≡ self.ledger }
-        ensures book { MayBeEnd self result.book }
-    {
-        let book = match self.end {
-            Ok(_) => book_of(alloc, &self.ledger),
-            Err(fault) => Err(fault),
-        };
-        Continued {
-            ledger: self.ledger,
-            book,
-        }
-    }
-}
-
-fn go_on<Table: Source, Saved: Source, In: Source, Out: Sink, Watch: Watcher>(
+/// Reads the table and the saved ledger; or puts the line that refuses one of them.
+fn load_first<Table: Source, Saved: Source, Out: Sink>(
     alloc: Global,
     rules: Rules,
     table: &mut Table,
     saved: &mut Saved,
-    lines: &mut In,
     replies: &mut Out,
-    watcher: &mut Watch,
     fills: u32,
-) -> Result<Gone, Stopped>
-    ensures { LeavesGone (ContinueRun rules fills (record {
-      table = between Table.state table.old table.new;
-      lines = between In.state lines.old lines.new;
-      replies = between Out.state replies.old replies.new;
-    })
-        (between Saved.state saved.old saved.new)) result }
+) -> Result<Ledger<MapTally>, Stopped>
+    ensures { let file = between Table.state table.old table.new in
+        let earlier = between Saved.state saved.old saved.new in
+        let sink = between Out.state replies.old replies.new in
+        MatchResult result (λ held. Holds rules fills file earlier held × IsSame sink)
+        (HoldsNone rules fills file earlier sink) }
 {
     let mut ledger = open(alloc, rules, table, replies, fills)?;
-    if let Err(error) = load(alloc, saved, &mut ledger, fills) {
-        refuse_ledger(replies, error)?;
-        return Err(Stopped::Unread(Unread::Ledger(error)));
-    }
-    let end = collect_watched(alloc, lines, replies, &mut ledger, watcher, fills);
-    Ok(Gone { ledger, end })
-}
-
-fn refuse_ledger<K: Sink>(sink: &mut K, error: LoadError) -> Result<(), Fault>
-    ensures { Refuses (saved_verdict error) (K.state sink.old) (K.state sink.new)
-        result }
-{
-    match error {
-        LoadError::Line(number) => { refuse_with(sink, b"refused ledger line ", number as usize) }
-        LoadError::Read => Err(Fault::Read),
-        LoadError::Endless => Err(Fault::Endless),
-        LoadError::Memory => Err(Fault::Memory),
-    }
+    let loaded = load(alloc, saved, &mut ledger, fills);
+    accept(replies, loaded.map_err(Refused::Ledger))?;
+    Ok(ledger)
 }
 
 /// Goes on from a saved ledger as `run_continue` does, keeps the ledger at its store, also where
@@ -163,55 +111,46 @@ pub fn continue_into<
     ledger: &mut LedgerEnds<Saved, LedgerStore>,
     book: &mut BookStore,
     fills: u32,
-) -> Result<Made, NoBook>
+) -> Result<Report, NoBook>
     ensures { let e = states Table.state In.state Out.state ends.old ends.new in
         let saved = between Saved.state ledger.old.saved ledger.new.saved in
-        ContinuesInto (λ end. ContinueRun rules fills e saved end
-        × IfOk end (λ left. IfOk left.made (λ made. HasHeadlineOfBoth rules e saved left.ledger
-        made.entries (book_bytes made.entries))))
-        (between LedgerStore.state ledger.old.store ledger.new.store)
-        (between BookStore.state book.old book.new) result }
+        let kept = between LedgerStore.state ledger.old.store ledger.new.store in
+        let store = between BookStore.state book.old book.new in
+        Into (Headed (ContinueRun rules fills e saved) (λ left entries.
+        HasHeadlineOfBoth rules e saved left entries (book_bytes entries)))
+        (KeepsBoth kept store) (IsSame kept × IsSame store) result }
 {
-    match go_on(
+    let began = load_first(
         alloc,
         rules,
         &mut ends.table,
         &mut ledger.saved,
+        &mut ends.replies,
+        fills,
+    )?;
+    let taken = take(
+        alloc,
+        began,
         &mut ends.lines,
         &mut ends.replies,
         &mut ends.watcher,
         fills,
-    ) {
-        Ok(gone) => keep_both(alloc, &gone, &mut ledger.store, book),
-        Err(stopped) => match stopped {
-            Stopped::Unread(why) => Ok(Made::Unread(why)),
-            Stopped::Fault(fault) => Err(NoBook::Run(fault)),
-        },
-    }
+    );
+    keep_both(alloc, &taken, &mut ledger.store, book)
 }
 
 fn keep_both<LedgerStore: Store, BookStore: Store>(
     alloc: Global,
-    gone: &Gone,
-    ledger_store: &mut LedgerStore,
-    book_store: &mut BookStore,
-) -> Result<Made, NoBook>
-    ensures { ContinuesInto (MayBeLeft gone.now)
-        (between LedgerStore.state ledger_store.old ledger_store.new)
-        (between BookStore.state book_store.old book_store.new) result }
+    taken: &Taken,
+    ledger: &mut LedgerStore,
+    book: &mut BookStore,
+) -> Result<Report, NoBook>
+    ensures { KeepsBoth (between LedgerStore.state ledger.old ledger.new)
+        (between BookStore.state book.old book.new) taken.now result }
 {
-    let book = LedgerBook::of(alloc, &gone.ledger);
     // The ledger is kept first: what was answered `ok` is in it.
-    let kept = ledger_store.keep(&gone.ledger);
-    let totals = match gone.end {
-        Ok(totals) => totals,
-        Err(fault) => return Err(NoBook::Run(fault)),
-    };
-    if let Err(why) = kept {
-        return Err(NoBook::Ledger(why));
-    }
-    match book_store.keep(&book) {
-        Ok(entries) => Ok(Made::Book(Report { totals, entries })),
-        Err(why) => Err(NoBook::Keep(why)),
+    match (ledger.keep(&taken.ledger), taken.end) {
+        (Err(why), Ok(_)) => Err(NoBook::Ledger(why)),
+        _ => keep_book(alloc, taken, book),
     }
 }

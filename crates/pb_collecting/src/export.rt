@@ -1,15 +1,18 @@
 //! The command `export`: the book of submissions as EPD lines.
-ghost use Rattle.std.specs.Prelude.{IfErr};
-ghost use Rattle.pb_collecting.specs.Ends.{between, states};
-ghost use Rattle.pb_collecting.specs.ExportRun.{BlamesEither, BlamesSink};
-ghost use Rattle.pb_collecting.specs.Into.{Exported};
-ghost use Rattle.pb_collecting.specs.Runs.{ExportRun, SilentExportRun};
 
-use crate::ends::Ends;
-use crate::made::{Made, Report, Stopped};
-use crate::run::open;
+ghost use Rattle.std.specs.Prelude.{◌≡◌, IfErr, Result, is_some};
+ghost use Rattle.std.specs.Result.{result_map_both};
+ghost use Rattle.pb_commands.specs.Refused.{unless_refused};
+ghost use Rattle.pb_commands.specs.declared.refusal.Stopped.{Stopped};
+ghost use Rattle.pb_commands.specs.declared.refusal.Stopped.TheVariants as stopped;
+ghost use Rattle.pb_collecting.specs.Ends.{between};
+ghost use Rattle.pb_collecting.specs.ExportRun.{BlamesSink, ExportRun};
+ghost use Rattle.pb_collecting.specs.declared.run.Report.{Report};
+
+use crate::run::{Report, open, take};
+use pb_commands::{Stopped, unless_refused};
 use pb_io::{Fault, NullSink, Sink, Source};
-use pb_ledger::{Rules, Watcher, collect_watched, export};
+use pb_ledger::{Rules, Watcher, export};
 use std::alloc::Global;
 
 /// Takes submission lines, drops the replies, and puts the book of the games that are held at the
@@ -27,91 +30,43 @@ pub fn run_export<Table: Source, In: Source, Out: Sink>(
     sink: &mut Out,
     fills: u32,
 ) -> Result<bool, Fault>
-    ensures ends { SilentExportRun rules fills
+    ensures ends { (made : Result Report Stopped) × ExportRun rules fills
         (between Table.state table_source.old table_source.new)
-        (between In.state source.old source.new) (between Out.state sink.old sink.new) result }
-    ensures blame { IfErr result (BlamesSink (between Out.state sink.old sink.new)) }
+        (between In.state source.old source.new) (between Out.state sink.old sink.new) made
+        × (result ≡ result_map_both is_some (λ fault. fault) (unless_refused made)) }
+    ensures blame { IfErr result (λ fault.
+        BlamesSink (between Out.state sink.old sink.new) (stopped.Fault fault)) }
 {
-    let mut replies = NullSink::default();
-    match export_all(
-        alloc,
-        rules,
-        table_source,
-        source,
-        &mut replies,
-        sink,
-        &mut (),
-        fills,
-    )? {
-        Made::Book(_) => Ok(true),
-        Made::Unread(_) => Ok(false),
-    }
+    let made = export_submissions(alloc, rules, table_source, source, sink, &mut (), fills);
+    Ok(unless_refused(made)?.is_some())
 }
 
-/// Exports as `run_export` does, and puts the replies as `run_collect` does, before the export. The
-/// report counts the answers, and the lines of the export.
+/// Exports as `run_export` does, and tells the watcher each answer. The report counts the answers,
+/// and the lines of the export.
 ///
 /// # Errors
 ///
-/// `Write` comes where either sink has failed.
-pub fn export_submissions<Table: Source, In: Source, Replies: Sink, Watch: Watcher, Out: Sink>(
-    alloc: Global,
-    rules: Rules,
-    ends: &mut Ends<Table, In, Replies, Watch>,
-    sink: &mut Out,
-    fills: u32,
-) -> Result<Made, Fault>
-    ensures ends { Exported (ExportRun rules fills
-        (states Table.state In.state Replies.state ends.old ends.new)
-        (between Out.state sink.old sink.new)) result }
-    ensures blame { IfErr result (BlamesEither
-        (between Replies.state ends.old.replies ends.new.replies)
-        (between Out.state sink.old sink.new)) }
-{
-    export_all(
-        alloc,
-        rules,
-        &mut ends.table,
-        &mut ends.lines,
-        &mut ends.replies,
-        sink,
-        &mut ends.watcher,
-        fills,
-    )
-}
-
-fn export_all<Table: Source, In: Source, Replies: Sink, Out: Sink, Watch: Watcher>(
+/// As for `run_export`, and the reason where the table is refused.
+pub fn export_submissions<Table: Source, In: Source, Out: Sink, Watch: Watcher>(
     alloc: Global,
     rules: Rules,
     table: &mut Table,
     lines: &mut In,
-    replies: &mut Replies,
     sink: &mut Out,
     watcher: &mut Watch,
     fills: u32,
-) -> Result<Made, Fault>
-    ensures ends { Exported (ExportRun rules fills (record {
-      table = between Table.state table.old table.new;
-      lines = between In.state lines.old lines.new;
-      replies = between Replies.state replies.old replies.new;
-    })
-        (between Out.state sink.old sink.new)) result }
-    ensures blame { IfErr result (BlamesEither (between Replies.state replies.old replies.new)
-        (between Out.state sink.old sink.new)) }
+) -> Result<Report, Stopped>
+    ensures ends { ExportRun rules fills (between Table.state table.old table.new)
+        (between In.state lines.old lines.new) (between Out.state sink.old sink.new) result }
+    ensures blame { IfErr result (BlamesSink (between Out.state sink.old sink.new)) }
 {
-    let mut ledger = match open(alloc, rules, table, sink, fills) {
-        Ok(ledger) => ledger,
-        Err(stopped) => {
-            return match stopped {
-                Stopped::Unread(why) => Ok(Made::Unread(why)),
-                Stopped::Fault(fault) => Err(fault),
-            };
-        }
-    };
-    let totals = collect_watched(alloc, lines, replies, &mut ledger, watcher, fills)?;
-    let count = export(alloc, &ledger, sink)?;
-    Ok(Made::Book(Report {
+    let ledger = open(alloc, rules, table, sink, fills)?;
+    let mut nobody = NullSink::default();
+    let taken = take(alloc, ledger, lines, &mut nobody, watcher, fills);
+    let totals = taken.end?;
+    let count = export(alloc, &taken.ledger, sink).map_err(Fault::from)?;
+    Ok(Report {
         totals,
         entries: u64::from(count),
-    }))
+    })
 }

@@ -1,19 +1,18 @@
 //! The command `collect` with a journal, up to the store.
 
-ghost use Rattle.std.specs.Prelude.{IfOk};
 ghost use Rattle.pb_poly.specs.Book.{book_bytes};
-ghost use Rattle.pb_collecting.specs.Ends.{between, journal_states, states};
-ghost use Rattle.pb_collecting.specs.Into.{Into};
+ghost use Rattle.pb_collecting.specs.Ends.{IsSame, between, journal_states, states};
+ghost use Rattle.pb_collecting.specs.Into.{Into, KeepsBook};
 ghost use Rattle.pb_collecting.specs.JournalHeadline.{HasHeadlineOfJournal, LosesNone};
 ghost use Rattle.pb_collecting.specs.JournalHeadline.{LosesNoneLater};
-ghost use Rattle.pb_collecting.specs.Run.{LeavesLedger};
+ghost use Rattle.pb_collecting.specs.Run.{Headed};
 ghost use Rattle.pb_collecting.specs.Runs.{JournalRun};
 
 use crate::ends::{Ends, JournalEnds};
 use crate::keeping::{NoBook, keep_book};
-use crate::made::{Made, Stopped};
-use crate::run::{Taken, open};
+use crate::run::{Report, Taken, open};
 use crate::store::Store;
+use pb_commands::Stopped;
 use pb_io::{Sink, Source};
 use pb_ledger::{Rules, Watcher, collect_journaled, replay};
 use std::alloc::Global;
@@ -24,8 +23,8 @@ use std::alloc::Global;
 ///
 /// # Errors
 ///
-/// `Run` is a fault of the table, the journal, the submissions or the replies; `Keep` is that of
-/// the store, or want of memory for the book.
+/// `Run` is a refused table, or a fault of the table, the journal, the submissions or the replies;
+/// `Keep` is that of the store, or want of memory for the book.
 pub fn journal_into<
     Table: Source,
     In: Source,
@@ -41,45 +40,19 @@ pub fn journal_into<
     journal: &mut JournalEnds<Kept, Journal>,
     book: &mut BookStore,
     fills: u32,
-) -> Result<Made, NoBook>
+) -> Result<Report, NoBook>
     ensures ends { let e = states Table.state In.state Out.state ends.old ends.new in
         let j = journal_states Kept.state Journal.state journal.old journal.new in
-        Into (λ end. JournalRun rules fills e j end
-        × IfOk end (λ made. HasHeadlineOfJournal rules e j made.entries (book_bytes made.entries)))
-        (between BookStore.state book.old book.new) result }
+        let store = between BookStore.state book.old book.new in
+        Into (Headed (JournalRun rules fills e j)
+        (λ _ entries. HasHeadlineOfJournal rules e j entries (book_bytes entries)))
+        (KeepsBook store) (IsSame store) result }
     // No submission was read, or the journal holds each game that a reply calls `ok`.
     ensures survives { LosesNone (states Table.state In.state Out.state ends.old ends.new)
         (journal_states Kept.state Journal.state journal.old journal.new) }
     // Nor by whatever ends the run, where what the journal had before lasts.
     ensures outlives { LosesNoneLater (states Table.state In.state Out.state ends.old ends.new)
         (journal_states Kept.state Journal.state journal.old journal.new) }
-{
-    match take_journaled(alloc, rules, ends, journal, fills) {
-        Ok(taken) => keep_book(alloc, &taken, book),
-        Err(stopped) => match stopped {
-            Stopped::Unread(why) => Ok(Made::Unread(why)),
-            Stopped::Fault(fault) => Err(NoBook::Run(fault)),
-        },
-    }
-}
-
-fn take_journaled<
-    Table: Source,
-    In: Source,
-    Out: Sink,
-    Watch: Watcher,
-    Kept: Source,
-    Journal: Sink,
->(
-    alloc: Global,
-    rules: Rules,
-    ends: &mut Ends<Table, In, Out, Watch>,
-    journal: &mut JournalEnds<Kept, Journal>,
-    fills: u32,
-) -> Result<Taken, Stopped>
-    ensures { LeavesLedger (JournalRun rules fills
-        (states Table.state In.state Out.state ends.old ends.new)
-        (journal_states Kept.state Journal.state journal.old journal.new)) result }
 {
     let mut ledger = open(alloc, rules, &mut ends.table, &mut ends.replies, fills)?;
     replay(
@@ -89,8 +62,9 @@ fn take_journaled<
         &mut ledger,
         &mut ends.watcher,
         fills,
-    )?;
-    let totals = collect_journaled(
+    )
+    .map_err(Stopped::Fault)?;
+    let end = collect_journaled(
         alloc,
         &mut ends.lines,
         &mut ends.replies,
@@ -98,6 +72,6 @@ fn take_journaled<
         &mut ledger,
         &mut ends.watcher,
         fills,
-    )?;
-    Ok(Taken { ledger, totals })
+    );
+    keep_book(alloc, &Taken { ledger, end }, book)
 }

@@ -2,7 +2,6 @@
 //! ends that they are handed and over the stores where a ledger and its book are kept.
 #![tactic(auto)]
 
-mod bytes;
 mod check;
 mod collect;
 mod continuing;
@@ -10,13 +9,11 @@ mod ends;
 mod export;
 mod journaling;
 mod keeping;
-pub mod laws;
-mod made;
 mod run;
+pub mod run_laws;
 mod store;
 mod text;
 
-pub use bytes::collect_bytes;
 pub use check::run_check;
 pub use collect::run_collect;
 pub use continuing::{Continued, continue_into, run_continue};
@@ -24,10 +21,10 @@ pub use ends::{Ends, JournalEnds, LedgerEnds};
 pub use export::{export_submissions, run_export};
 pub use journaling::journal_into;
 pub use keeping::{NoBook, collect_into};
-pub use made::{Made, Report, Unread};
 pub use pb_ledger::{
     Accepted, LoadError, MAX_LEAST, MAX_PLIES, Refusal, Rules, Totals, Watcher, WriteFault,
     pick_games,
 };
+pub use run::Report;
 pub use store::{Store, StoreError};
 pub use text::{LedgerBook, Text};

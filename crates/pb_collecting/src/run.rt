@@ -1,24 +1,32 @@
-//! How the runs begin that take submissions, and the book at their end.
+//! What runs share that take submissions.
 
-ghost use Rattle.std.specs.Prelude.{◌≡◌, ℕ, Err, List, MatchResult, Ok};
-ghost use Rattle.pb_poly.specs.TableReading.{ReadsTable};
-ghost use Rattle.pb_accepted.specs.Rules.{AreRules};
-ghost use Rattle.pb_collecting.specs.Ends.{between};
-ghost use Rattle.pb_collecting.specs.Run.{MayBeBook, Opens};
-ghost use Rattle.pb_collecting.specs.Runs.{new_ledger};
+ghost use Rattle.std.specs.Prelude.{MatchResult};
+ghost use Rattle.pb_collecting.specs.Ends.{IsSame, between};
+ghost use Rattle.pb_collecting.specs.Run.{MakesBook};
+ghost use Rattle.pb_collecting.specs.Runs.{Opens, OpensNone, Takes};
 
-use crate::made::{Stopped, Unread};
-use pb_commands::{TableFault, refuse_table, take_table};
-use pb_io::{Fault, ReadFault, Sink, Source};
-use pb_ledger::{Ledger, MAX_CAP, MapTally, Rules, Totals};
-use pb_poly::Book;
+use pb_commands::{Refused, Stopped, accept};
+use pb_io::{Fault, NullSink, Sink, Source};
+use pb_ledger::{Ledger, MAX_CAP, MapTally, Rules, Totals, Watcher, collect_journaled};
+use pb_poly::{Book, take_table};
 use std::alloc::Global;
 
-/// The games that are held, and what became of the lines.
+/// What became of the submissions, and how much was made of the games.
+#[derive(Clone, Copy, Debug, PartialEq, Eq)]
+pub struct Report {
+    /// Counts the lines by their answers.
+    pub totals: Totals,
+    /// The entries of the book, or the lines of the export.
+    pub entries: u64,
+}
+
+/// What a run has taken.
 #[derive(Drop)]
 pub(crate) struct Taken {
+    /// The games that are held.
     pub(crate) ledger: Ledger<MapTally>,
-    pub(crate) totals: Totals,
+    /// What became of the lines, or the fault that ended them.
+    pub(crate) end: Result<Totals, Fault>,
 }
 
 /// Reads the table, and makes a ledger without games; or puts the line that refuses the table.
@@ -29,39 +37,43 @@ pub(crate) fn open<Table: Source, Out: Sink>(
     sink: &mut Out,
     fills: u32,
 ) -> Result<Ledger<MapTally>, Stopped>
-    ensures { Opens rules fills (between Table.state table.old table.new)
-        (between Out.state sink.old sink.new) result }
+    ensures { let file = between Table.state table.old table.new in
+        let out = between Out.state sink.old sink.new in
+        MatchResult result (λ new. Opens rules fills file new × IsSame out)
+        (OpensNone fills file out) }
 {
-    match empty_ledger(alloc, rules, table, fills) {
-        Ok(ledger) => Ok(ledger),
-        Err(error) => {
-            refuse_table(sink, error)?;
-            Err(Stopped::Unread(Unread::Table(error)))
-        }
-    }
+    let table = accept(sink, take_table(alloc, table, fills).map_err(Refused::Table))?;
+    Ok(Ledger::with_rules(alloc, &table, MAX_CAP, rules)?)
 }
 
-/// Want of memory for the ledger is answered as that for the table.
-fn empty_ledger<Table: Source>(
+/// Takes the submissions from the games of this ledger on, without a journal.
+pub(crate) fn take<In: Source, Out: Sink, Watch: Watcher>(
     alloc: Global,
-    rules: Rules,
-    table: &mut Table,
+    mut ledger: Ledger<MapTally>,
+    lines: &mut In,
+    replies: &mut Out,
+    watcher: &mut Watch,
     fills: u32,
-) -> Result<Ledger<MapTally>, TableFault>
-    ensures { MatchResult result
-        (λ ledger. (randoms : List ℕ) × (ledger ≡ new_ledger rules randoms) × AreRules rules
-        × ReadsTable fills (Table.state table.old) (Table.state table.new) (Ok randoms))
-        (λ e. ReadsTable fills (Table.state table.old) (Table.state table.new) (Err e)) }
+) -> Taken
+    ensures { Takes fills (between In.state lines.old lines.new)
+        (between Out.state replies.old replies.new) ledger result }
 {
-    let read = take_table(alloc, table, fills)?;
-    match Ledger::with_rules(alloc, &read, MAX_CAP, rules) {
-        Ok(ledger) => Ok(ledger),
-        Err(_) => Err(TableFault::Fault(ReadFault::Memory)),
-    }
+    let mut nowhere = NullSink::default();
+    let end = collect_journaled(
+        alloc,
+        lines,
+        replies,
+        &mut nowhere,
+        &mut ledger,
+        watcher,
+        fills,
+    );
+    Taken { ledger, end }
 }
 
-pub(crate) fn book_of(alloc: Global, ledger: &Ledger<MapTally>) -> Result<Book, Fault>
-    ensures { MayBeBook ledger.now result }
+pub(crate) fn book_of(alloc: Global, taken: &Taken) -> Result<Book, Fault>
+    ensures { MakesBook taken.now result }
 {
-    Ok(ledger.make_book(alloc)?)
+    taken.end?;
+    Ok(taken.ledger.make_book(alloc)?)
 }

@@ -1,19 +1,30 @@
-use Rattle.pb_collecting.proofs.ContinueHeadlines.{headline}
-use Rattle.pb_collecting.proofs.Finishings.{book_made, of_book, same_run}
+use Rattle.std.proofs.Common.{◌≡◌, None, Ok, Some, refl}
+use Rattle.pb_commands.specs.Refused.{unless_refused}
+use Rattle.pb_collecting.specs.Ends.{EndStates, between}
+use Rattle.pb_collecting.proofs.ContinueHeadlines.{continued_so, headline_of_book}
+use Rattle.pb_collecting.proofs.Taking.{was_made, was_refused}
 use Rattle.pb_collecting.proofs.continuing.run_continue.Goals as goal
 
-pub returns-in-Ok-clause-ends : goal.returns-in-Ok-clause-ends
-returns-in-Ok-clause-ends g c =
-    let made = book_made c.in-Ok.gone c.continued.result.book c.continued.ensures.book in
-    (record { ledger = c.in-Ok.gone.ledger; made = made.0 }, c.in-Ok.ensures made.0 made.1, same_run c.continued.result c.in-Ok.gone.ledger _ c.continued.ensures.ledger made.2)
+pub returns-in_default-clause-ends : goal.returns-in_default-clause-ends
+returns-in_default-clause-ends g c =
+    let is : unless_refused c.load_first-began.result ≡ Ok None = cc (c.in_ok-ledger.ensures, c.in_default.is) in
+    let h = was_refused c.load_first-began.result is in (h.0, (rw h.1 at c.load_first-began.ensures, refl))
 
-pub returns-in-Ok-clause-headline : goal.returns-in-Ok-clause-headline
-returns-in-Ok-clause-headline g c =
-    let made = book_made c.in-Ok.gone c.continued.result.book c.continued.ensures.book in
-    rw c.continued.ensures.ledger (of_book _ made.0 c.continued.result.book made.2 (headline _ _ _ _ _ (c.in-Ok.ensures made.0 made.1)))
+pub returns-clause-ends : goal.returns-clause-ends
+returns-clause-ends g c =
+    let e : EndStates = record {
+      table = between g.Table.Source.state c.args.table_source.now c.load_first-began.new.table;
+      lines = between g.In.Source.state c.args.source.now c.take-taken.new.lines;
+      replies = between g.Out.Sink.state c.args.sink.now c.take-taken.new.replies;
+    } in
+    let is : unless_refused c.load_first-began.result ≡ Ok (Some c.in-Some.ledger) = cc (c.in_ok-ledger.ensures, c.in-Some.is) in
+    let began = rw (was_made c.load_first-began.result c.in-Some.ledger is) at c.load_first-began.ensures in
+    (
+      c.take-taken.result,
+      continued_so c.args.rules c.args.fills e _ _ c.in-Some.ledger c.take-taken.result began.0 began.1 c.take-taken.ensures,
+      (refl, c.book_of-book.ensures),
+    )
 
-pub returns-in-Unread-clause-ends : goal.returns-in-Unread-clause-ends
-returns-in-Unread-clause-ends g c = (c.in-Unread.field-0, rw c.in-Unread.is at c.in-Err.ensures)
-
-pub returns-in-Fault-clause-ends : goal.returns-in-Fault-clause-ends
-returns-in-Fault-clause-ends g c = rw c.in-Fault.is at c.in-Err.ensures
+pub returns-clause-headline : goal.returns-clause-headline
+unfolding returns-clause-ends
+returns-clause-headline g c = let ran = returns-clause-ends g c in headline_of_book _ _ _ _ ran.0 ran.1 c.book_of-book.result ran.2.1
