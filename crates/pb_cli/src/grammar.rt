@@ -10,7 +10,7 @@ ghost use Rattle.pb_cli.specs.CommandLine.{with_games};
 
 use clap::builder::ValueParser;
 use clap::{Arg, ArgAction, Command};
-use pb_collecting::{MAX_LEAST, MAX_PLIES};
+use pb_commands::{MAX_LEAST, MAX_PLIES};
 use std::alloc::{AllocError, Global};
 
 const RECORD_HELP: &str = "A FEN record: its six fields as one quoted word";

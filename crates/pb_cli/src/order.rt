@@ -10,7 +10,7 @@ ghost use Rattle.pb_cli.specs.declared.order.ParseFault.TheVariants.{Memory};
 use crate::grammar::command_line;
 use clap::ArgMatches;
 use clap::error::ErrorKind;
-use pb_collecting::Rules;
+use pb_commands::Rules;
 use std::alloc::{AllocError, Global};
 use thiserror::Error;
 

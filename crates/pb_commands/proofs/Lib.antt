@@ -1,15 +1,26 @@
 pub mod Answering
-mod Hexadecimals
+pub mod Checking
+pub mod ContinueHeadlines
+pub mod ExportClauses
+pub mod Headlines
+pub mod Hexadecimals
+pub mod JournalClauses
+pub mod JournalGains
+pub mod JournalHeadlines
+pub mod JournalSurvives
 pub mod Judging
-mod LookupClauses
-mod Lookups
-mod Moves
-mod MovesLines
-mod OneBook
-mod OneProbe
-mod Probing
-mod PutsInTurn
-mod Showing
-mod Shown
+pub mod LookupClauses
+pub mod Lookups
+pub mod Moves
+pub mod MovesLines
+pub mod OneBook
+pub mod OneProbe
+pub mod Probing
+pub mod PutsInTurn
+pub mod Sentences
+pub mod Showing
+pub mod Shown
 pub mod Stopping
+pub mod Taking
 pub mod Told
+pub mod Unread

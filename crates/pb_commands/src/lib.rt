@@ -1,10 +1,18 @@
-//! The commands `fen`, `epd`, `show`, `probe` and `lookup`, as functions over sources and sinks,
-//! and what all commands share: the exit status, why a command stops, answers to lines.
+//! The commands of `pbook` as functions over the ends that they are handed, and over the stores where
+//! a ledger and its book are kept; and what all commands share: the exit status, why one stopped,
+//! answers to lines.
 #![tactic(auto)]
 
+mod check;
+mod collect;
+mod continuing;
+mod ends;
 mod epd;
 mod exit;
+mod export;
 mod fen;
+mod journaling;
+mod keeping;
 pub mod laws;
 mod line_answer;
 mod line_refusal;
@@ -13,15 +21,31 @@ mod lookup;
 mod output;
 mod probe;
 mod refusal;
+mod run;
+pub mod run_laws;
 mod show;
+mod store;
+mod text;
 
+pub use check::run_check;
+pub use collect::run_collect;
+pub use continuing::{Continued, continue_into, run_continue};
+pub use ends::{Ends, JournalEnds, LedgerEnds};
 pub use epd::run_epd;
 pub use exit::{FAULT_STATUS, status};
+pub use export::{export_submissions, run_export};
 pub use fen::{answer_fen, run_fen};
-pub use line_answer::LineAnswer;
-pub use lines::answer_lines;
+pub use journaling::journal_into;
+pub use keeping::{NoBook, collect_into};
 pub use lookup::answer_lookup;
 pub use pb_io::Fault;
+pub use pb_ledger::{
+    Accepted, LoadError, MAX_LEAST, MAX_PLIES, Refusal, Rules, Totals, Watcher, WriteFault,
+    pick_games,
+};
 pub use probe::{answer_probe, run_probe};
-pub use refusal::{Refused, Stopped, accept, unless_refused};
+pub use refusal::{Refused, Stopped};
+pub use run::Report;
 pub use show::{answer_show, run_show};
+pub use store::{Store, StoreError};
+pub use text::{LedgerBook, Text};

@@ -7,7 +7,7 @@ ghost use Rattle.pb_commands.specs.LineAnswer.{PutsOrStops};
 use pb_io::{Fault, Sink};
 
 /// Answers lines, each by what is put for it.
-pub trait LineAnswer: Drop {
+pub(crate) trait LineAnswer: Drop {
     ghost use Rattle.std.specs.Prelude.{ℕ, List};
     ghost use Rattle.pb_commands.specs.Judged.{Verdict};
 

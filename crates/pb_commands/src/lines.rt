@@ -52,7 +52,7 @@ impl<A: LineAnswer, K: Sink> Answering<'_, '_, A, K> {
 
 /// Answers the lines of the source in order, tells whether none was refused, and hands on what was
 /// put once, at the end. A piece that no LF ended is a line at the end of input alone.
-pub fn answer_lines<S: Source, K: Sink, A: LineAnswer>(
+pub(crate) fn answer_lines<S: Source, K: Sink, A: LineAnswer>(
     alloc: Global,
     source: &mut S,
     sink: &mut K,

@@ -67,7 +67,7 @@ impl From<AllocError> for Stopped {
 }
 
 /// Gives what was made, or none where an input was refused.
-pub fn unless_refused<X>(made: Result<X, Stopped>) -> Result<Option<X>, Fault>
+pub(crate) fn unless_refused<X>(made: Result<X, Stopped>) -> Result<Option<X>, Fault>
     ensures { result ≡ unless_refused made }
 {
     match made {
@@ -78,7 +78,7 @@ pub fn unless_refused<X>(made: Result<X, Stopped>) -> Result<Option<X>, Fault>
 }
 
 /// Gives what an input was judged to be, or shows the line that refuses it.
-pub fn accept<X, K: Sink>(sink: &mut K, judged: Result<X, Refused>) -> Result<X, Stopped>
+pub(crate) fn accept<X, K: Sink>(sink: &mut K, judged: Result<X, Refused>) -> Result<X, Stopped>
     ensures { Accepts judged (K.state sink.old) (K.state sink.new) result }
 {
     match judged {

@@ -1,0 +1,113 @@
+-- The theorem of a run that goes on from games that are held first, from what it does.
+use Rattle.std.proofs.Common.{◌≡◌, ◌∙◌, ℕ, List, [], ◌++◌, All, Result, Ok, Err, ap, refl, subst, sym}
+use Rattle.std.specs.Prelude.{IfOk}
+use Rattle.pb_io.specs.Lines.{lines}
+use Rattle.pb_io.specs.LineTask.{AtEnd}
+use Rattle.pb_io.specs.declared.fault.Fault.{Fault}
+use Rattle.pb_io.specs.Sink.{SinkState}
+use Rattle.pb_io.specs.Source.{SourceState}
+use Rattle.pb_poly.proofs.ToldReads.{handed_out}
+use Rattle.pb_poly.specs.Book.{book_bytes}
+use Rattle.pb_poly.specs.Entry.{IsEntry}
+use Rattle.pb_poly.specs.declared.entry.Entry.{Entry}
+use Rattle.pb_poly.proofs.ReadRows.{found_table}
+use Rattle.pb_poly.specs.TableReading.{ReadsTable}
+use Rattle.pb_games.specs.Submissions.{Submission}
+use Rattle.pb_accepted.specs.Basis.{Basis}
+use Rattle.pb_accepted.specs.Counting.{IsBook, counted}
+use Rattle.pb_accepted.specs.Holding.{most_games}
+use Rattle.pb_accepted.specs.Ledger.{LedgerState}
+use Rattle.pb_accepted.specs.Replies.{replies}
+use Rattle.pb_accepted.specs.Rules.{CountingRules}
+use Rattle.pb_accepted.proofs.Steps.{runs_join}
+use Rattle.pb_ledger.proofs.Continued.{continued, loaded_back}
+use Rattle.pb_ledger.proofs.Changes.{from_to}
+use Rattle.pb_ledger.specs.Collecting.{CollectsStream}
+use Rattle.pb_ledger.specs.Loading.{Loads}
+use Rattle.pb_ledger.specs.Change.{across}
+use Rattle.pb_ledger.specs.Making.{Makes}
+use Rattle.pb_ledger.specs.declared.totals.Totals.{Totals}
+use Rattle.pb_commands.specs.ContinueHeadline.{GoesOn, HasHeadlineOfBoth}
+use Rattle.pb_commands.specs.Ends.{Change, EndStates}
+use Rattle.pb_commands.specs.Run.{MakesBook}
+use Rattle.pb_commands.specs.RunLaws.{GoesOnAsOneRun}
+use Rattle.pb_commands.specs.Runs.{ContinueRun, Holds, Takes, new_ledger}
+use Rattle.pb_commands.specs.declared.run.Taken.{Taken}
+use Rattle.pb_commands.proofs.Headlines.{effect}
+use Rattle.pb_commands.proofs.Taking.{same_but_games}
+
+module _ (rules : CountingRules) (fills : ℕ) (e : EndStates) (randoms : List ℕ) (held : List Submission) (left : LedgerState) (totals : Totals) (entries : List Entry)
+    (read : ReadsTable fills e.table.old e.table.new (Ok randoms)) (takes : CollectsStream fills e.lines e.replies (from_to (record (new_ledger rules randoms) { accepted = held }) left) totals)
+    (book : IsBook (counted left.basis left.accepted) left.basis.rules.least entries) (bounds : All IsEntry entries) where
+  pub goes_on : GoesOn rules e held left.accepted entries (book_bytes entries)
+  goes_on =
+      let took = takes.0 in
+      let collects = took.done.collects in
+      let leads = collects.leads in
+      let table = found_table fills e.table.old e.table.new randoms read in
+      let T : Basis = record { randoms = randoms; rules = rules } in
+      record {
+        at = record {
+          file = table.came;
+          bytes = took.came;
+          put = replies (lines took.came) collects.answers;
+          table = handed_out _ _ _ _ _ table.reads;
+          lines = handed_out _ _ _ _ _ took.reads;
+          replies = collects.put;
+        };
+        randoms = randoms;
+        table = table.is;
+        answers = collects.answers;
+        run = leads.run;
+        replied = refl;
+        effect = λ K Q run.
+            effect (K ++ lines took.came) (Q ++ collects.answers) left.accepted (runs_join most_games [] held left.accepted K (lines took.came) Q collects.answers run leads.run) T entries bounds
+            (subst (λ (X : Basis). IsBook (counted X left.accepted) X.rules.least entries) leads.basis book);
+      }
+
+  has_headline : (source : Change SourceState) → across (AtEnd fills) source (λ ls. Loads most_games ls held)
+      → HasHeadlineOfBoth rules e source left entries (book_bytes entries)
+  unfolding goes_on
+  has_headline source loads =
+      let leads = takes.0.done.collects.leads in
+      record {
+        saved = loads.came;
+        handed = handed_out _ _ _ _ _ loads.reads;
+        held = held;
+        loads = loads.done;
+        goes_on = goes_on;
+        is = same_but_games (new_ledger rules randoms) left leads.basis leads.cap;
+      }
+
+module _ (rules : CountingRules) (fills : ℕ) (e : EndStates) (source : Change SourceState) where
+  by_end : (randoms : List ℕ) (held left : LedgerState) (end : Result Totals Fault) (entries : List Entry) → ReadsTable fills e.table.old e.table.new (Ok randoms)
+      → across (AtEnd fills) source (Makes Loads (from_to (new_ledger rules randoms) held)) → held ≡ record (new_ledger rules randoms) { accepted = held.accepted }
+      → Takes fills e.lines e.replies held (record { ledger = left; end = end }) → MakesBook (record { ledger = left; end = end }) (Ok entries)
+      → HasHeadlineOfBoth rules e source left entries (book_bytes entries)
+  by_end randoms held left (Ok totals) entries read loads like takes (book, bounds) =
+      has_headline rules fills e randoms held.accepted left totals entries read (subst (λ (l : LedgerState). CollectsStream fills e.lines e.replies (from_to l left) totals) like takes) book bounds source loads
+  by_end randoms held left (Err fault) entries read loads like takes is = absurd (cc is)
+
+  pub headline : (taken : Taken) → ContinueRun rules fills e source (Ok taken) → (entries : List Entry) → MakesBook taken (Ok entries)
+      → HasHeadlineOfBoth rules e source taken.ledger entries (book_bytes entries)
+  headline taken (held, (new, (randoms, read, counting, is), loads, like), takes) entries made =
+      by_end randoms held taken.ledger taken.end entries read (subst (λ (l : LedgerState). across (AtEnd fills) source (Makes Loads (from_to l held))) is loads)
+      (subst (λ (l : LedgerState). held ≡ record l { accepted = held.accepted }) is like) takes made
+
+  pub headline_of_book : (taken : Taken) → ContinueRun rules fills e source (Ok taken) → (book : Result (List Entry) Fault) → MakesBook taken book
+      → IfOk book (λ entries. HasHeadlineOfBoth rules e source taken.ledger entries (book_bytes entries))
+  headline_of_book taken run (Ok entries) made = headline taken run entries made
+  headline_of_book taken run (Err fault) made = tt
+
+  -- from the games of a saved ledger on the submissions were taken so
+  pub continued_so : (mid : SinkState) (held : LedgerState) (taken : Taken) → Holds rules fills e.table source held → mid ≡ e.replies.old
+      → Takes fills e.lines (record e.replies { old = mid }) held taken → ContinueRun rules fills e source (Ok taken)
+  continued_so mid held taken holds same takes = (held, holds, subst (λ (m : SinkState). Takes fills e.lines (record e.replies { old = m }) held taken) same takes)
+
+-- ---- what an earlier run saved
+
+pub goes_on_as_one_run : GoesOnAsOneRun
+goes_on_as_one_run rules e source left entries book h K Q A run is_saved =
+    let on = h.goes_on in
+    let one = continued most_games K (lines on.at.bytes) Q on.answers A h.held left.accepted h.saved run is_saved h.loads on.run in
+    (loaded_back most_games K Q A h.held h.saved run is_saved h.loads, one.1 ∙ ap (λ l. replies K Q ++ l) (sym on.replied))

@@ -1,0 +1,46 @@
+-- The theorem of a run of `collect` that goes on from games that are held first, for the bytes of a
+-- table file and of submissions, and of the saved ledger that has these games.
+use Rattle.std.specs.Prelude.{◌≡◌, ℕ, List, [], ◌++◌}
+use Rattle.pb_io.specs.Lines.{lines}
+use Rattle.pb_io.specs.Source.{HandsOut, SourceState}
+use Rattle.pb_poly.specs.Table.{IsTableFile}
+use Rattle.pb_poly.specs.declared.entry.Entry.{Entry}
+use Rattle.pb_games.specs.Submissions.{Submission}
+use Rattle.pb_accepted.specs.Accepting.{Answer, Run}
+use Rattle.pb_accepted.specs.Holding.{most_games}
+use Rattle.pb_accepted.specs.Ledger.{LedgerState}
+use Rattle.pb_accepted.specs.Replies.{replies, reply_texts}
+use Rattle.pb_accepted.specs.Rules.{CountingRules}
+use Rattle.pb_ledger.specs.Change.{across}
+use Rattle.pb_ledger.specs.Loading.{Loads}
+use Rattle.pb_commands.specs.Ends.{Change, EndStates}
+use Rattle.pb_commands.specs.Headline.{Effect, EndBytes}
+use Rattle.pb_commands.specs.Runs.{new_ledger}
+
+-- From games that were held first the lines of the submissions were answered, which left games, and
+-- the replies were put in order.
+pub record GoesOn (rules : CountingRules) (e : EndStates) (held games : List Submission)
+    (entries : List Entry) (book : List ℕ) : Type 0 where
+  pub at : EndBytes e
+  pub randoms : List ℕ
+  pub table : IsTableFile randoms at.file
+  pub answers : List Answer
+  pub run : Run most_games held (lines at.bytes) answers games
+  pub replied : at.put ≡ replies (lines at.bytes) answers
+  -- Whatever earlier run left the games that were held first, of lines K with answers Q: the effect
+  -- is that of one run of the lines of both. So the book is that of the games that were answered
+  -- `ok` in both, each of them once.
+  pub effect : (K : List (List ℕ)) (Q : List Answer) → Run most_games [] K Q held
+      → Effect (record { randoms = randoms; rules = rules }) (K ++ lines at.bytes)
+      (reply_texts (K ++ lines at.bytes) (Q ++ answers)) games entries book
+
+-- The games of the saved ledger, of which its source handed out all bytes, were held first, and this
+-- ledger is left.
+pub record HasHeadlineOfBoth (rules : CountingRules) (e : EndStates) (source : Change SourceState)
+    (left : LedgerState) (entries : List Entry) (book : List ℕ) : Type 0 where
+  pub saved : List ℕ
+  pub handed : across HandsOut source saved
+  pub held : List Submission
+  pub loads : Loads most_games (lines saved) held
+  pub goes_on : GoesOn rules e held left.accepted entries book
+  pub is : left ≡ record (new_ledger rules goes_on.randoms) { accepted = left.accepted }

@@ -1,0 +1,59 @@
+-- The theorem of `pbook collect`, for the bytes of a table file and of submissions, which two
+-- sources handed out, those of the replies, which a sink took, and those of the book. Read this
+-- file first: nothing is assumed of the submissions.
+use Rattle.std.specs.Prelude.{◌≡◌, ℕ, ◌↔◌, List, [], ◌∷◌, ◌++◌}
+use Rattle.std.specs.List.{flat_map}
+use Rattle.std.specs.Io.KnownBytes.{Appends}
+use Rattle.pb_io.specs.Lines.{lines}
+use Rattle.pb_io.specs.Source.{HandsOut}
+use Rattle.pb_poly.specs.Book.{BookBytes}
+use Rattle.pb_poly.specs.Table.{IsTableFile}
+use Rattle.pb_poly.specs.declared.entry.Entry.{Entry}
+use Rattle.pb_games.specs.Submissions.{Submission}
+use Rattle.pb_accepted.specs.Basis.{Basis}
+use Rattle.pb_accepted.specs.Counting.{IsBook, counted}
+use Rattle.pb_accepted.specs.Replying.{AreNumbered, Replies, ok}
+use Rattle.pb_accepted.specs.Rules.{AreRules, CountingRules}
+use Rattle.pb_commands.specs.Ends.{EndStates}
+
+-- What is made of lines with their replies, wherever the lines came from: the games that are held
+-- in the end, the entries of their book, and its bytes.
+pub record Effect (T : Basis) (L R : List (List ℕ)) (games : List Submission)
+    (entries : List Entry) (book : List ℕ) : Type 0 where
+  -- each line is replied to, and games are added, by the table of six steps
+  pub run : Replies 1000000 [] L R games
+  -- the games are those that were replied to by `ok`, each once, however often it came
+  pub numbered : AreNumbered ok L R games
+  -- the entries and no others are the book of these games, and the bytes decode to no others
+  pub is_book : (others : List Entry)
+      → IsBook (counted T games) T.rules.least others ↔ (others ≡ entries)
+  pub bytes : (others : List Entry) → BookBytes others book ↔ (others ≡ entries)
+
+-- What is made of a table file and of submissions, by rules that say which plies count: replies,
+-- and the entries and the bytes of a book.
+pub record Headline (rules : CountingRules) (file bytes put : List ℕ) (entries : List Entry)
+    (book : List ℕ) : Type 0 where
+  -- the rules are within their bounds, and the file is a table
+  pub counting : AreRules rules
+  pub randoms : List ℕ
+  pub table : IsTableFile randoms file
+  -- the lines of the submissions are replied to, and just the replies were put, each as a line
+  pub replies : List (List ℕ)
+  pub games : List Submission
+  pub effect : Effect (record { randoms = randoms; rules = rules })
+      (lines bytes) replies games entries book
+  pub replied : put ≡ flat_map (λ r. r ++ 10 ∷ []) replies
+
+-- all bytes that the two sources handed out, and those that the sink took
+pub record EndBytes (e : EndStates) : Type 0 where
+  pub file : List ℕ
+  pub bytes : List ℕ
+  pub put : List ℕ
+  pub table : HandsOut e.table.old e.table.new file
+  pub lines : HandsOut e.lines.old e.lines.new bytes
+  pub replies : Appends e.replies.old.bytes e.replies.new.bytes put
+
+-- the theorem, of all that the ends of a run handed out and took
+abbrev pub HasHeadline : CountingRules → EndStates → List Entry → List ℕ → Type 0
+HasHeadline rules e entries book =
+    (at : EndBytes e) × Headline rules at.file at.bytes at.put entries book

@@ -1,0 +1,55 @@
+-- What runs keep at the stores of a ledger and of a book.
+use Rattle.std.specs.Prelude.{◌≡◌, ◌⊎◌, ◌-◌, ◌^◌, ℕ, List, Result, Ok, Err, IfOk, length, min}
+use Rattle.pb_poly.specs.Book.{book_bytes}
+use Rattle.pb_poly.specs.declared.entry.Entry.{Entry}
+use Rattle.pb_ledger.specs.Change.{across}
+use Rattle.pb_ledger.specs.Saving.{Saved}
+use Rattle.pb_ledger.specs.declared.totals.Totals.{Totals}
+use Rattle.pb_io.specs.declared.fault.Fault.{Fault}
+use Rattle.pb_commands.specs.declared.refusal.Stopped.{Stopped}
+use Rattle.pb_commands.specs.declared.refusal.Stopped.TheVariants as stopped
+use Rattle.pb_commands.specs.Ends.{Change, IsSame}
+use Rattle.pb_commands.specs.Run.{MakesBook}
+use Rattle.pb_commands.specs.Store.{KeepsBytes, StoreState}
+use Rattle.pb_commands.specs.declared.keeping.NoBook.{NoBook}
+use Rattle.pb_commands.specs.declared.keeping.NoBook.TheVariants as no
+use Rattle.pb_commands.specs.declared.run.Report.{Report}
+use Rattle.pb_commands.specs.declared.run.Taken.{Taken}
+use Rattle.pb_commands.specs.declared.store.StoreError.{StoreError}
+
+-- the bytes of the book's entries were kept with this answer, which counts them
+abbrev pub KeepsEntries : Change StoreState → Taken → Result ℕ StoreError → Type 0
+KeepsEntries store taken answer = (entries : List Entry) × MakesBook taken (Ok entries)
+    × across KeepsBytes store answer (book_bytes entries)
+    × IfOk answer (λ n. n ≡ min (length entries) (2 ^ 64 - 1))
+
+-- the book of what was taken was kept, or not; or there is none by the fault that ended that, and
+-- the store is as it was
+abbrev pub KeepsBook : Change StoreState → Taken → Result Report NoBook → Type 0
+KeepsBook store taken (Ok report) =
+    (taken.end ≡ Ok report.totals) × KeepsEntries store taken (Ok report.entries)
+KeepsBook store taken (Err (no.Keep why)) = KeepsEntries store taken (Err why)
+KeepsBook store taken (Err (no.Run (stopped.Fault fault))) =
+    (taken.end ≡ Err fault) × IsSame store
+KeepsBook store taken (Err why) = ⊥
+
+-- the book is kept once the ledger was kept with this answer: there is none without its ledger
+abbrev pub KeepsAfter : Result ℕ StoreError → Result Totals Fault → Change StoreState → Taken
+    → Result Report NoBook → Type 0
+KeepsAfter (Err why) (Ok totals) store taken result =
+    IsSame store × (result ≡ Err (no.Ledger why))
+KeepsAfter kept end store taken result = KeepsBook store taken result
+
+-- the ledger was kept, also where a fault ended the submissions, and then the book
+abbrev pub KeepsBoth : Change StoreState → Change StoreState → Taken → Result Report NoBook
+    → Type 0
+KeepsBoth ledger book taken result = (bytes : List ℕ) × Saved taken.ledger.accepted bytes
+    × (kept : Result ℕ StoreError) × across KeepsBytes ledger kept bytes
+    × KeepsAfter kept taken.end book taken result
+
+-- how a run ends that keeps what is made of what it took; or it stopped before that, and the stores
+-- were left alone
+abbrev pub Into : (Result Taken Stopped → Type 0) → (Taken → Result Report NoBook → Type 0)
+    → Type 0 → Result Report NoBook → Type 0
+Into run keeps alone result = ((taken : Taken) × run (Ok taken) × keeps taken result)
+    ⊎ ((why : Stopped) × run (Err why) × alone × (result ≡ Err (no.Run why)))

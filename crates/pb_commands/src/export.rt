@@ -1,0 +1,72 @@
+//! The command `export`: the book of submissions as EPD lines.
+
+ghost use Rattle.std.specs.Prelude.{◌≡◌, IfErr, Result, is_some};
+ghost use Rattle.std.specs.Result.{result_map_both};
+ghost use Rattle.pb_commands.specs.Refused.{unless_refused};
+ghost use Rattle.pb_commands.specs.declared.refusal.Stopped.{Stopped};
+ghost use Rattle.pb_commands.specs.declared.refusal.Stopped.TheVariants as stopped;
+ghost use Rattle.pb_commands.specs.Ends.{between};
+ghost use Rattle.pb_commands.specs.ExportRun.{BlamesSink, ExportRun};
+ghost use Rattle.pb_commands.specs.declared.run.Report.{Report};
+
+use crate::run::{Report, open, take};
+use crate::refusal::{Stopped, unless_refused};
+use pb_io::{Fault, NullSink, Sink, Source};
+use pb_ledger::{Rules, Watcher, export};
+use std::alloc::Global;
+
+/// Takes submission lines, drops the replies, and puts the book of the games that are held at the
+/// end as EPD lines, by the rules: one for each setup before a move of a game for which the book
+/// has moves. Where the table is refused, the line that says so is put, and the answer is false.
+///
+/// # Errors
+///
+/// Nothing is put before all submissions were taken, so a fault of theirs leaves the sink alone.
+pub fn run_export<Table: Source, In: Source, Out: Sink>(
+    alloc: Global,
+    rules: Rules,
+    table_source: &mut Table,
+    source: &mut In,
+    sink: &mut Out,
+    fills: u32,
+) -> Result<bool, Fault>
+    ensures ends { (made : Result Report Stopped) × ExportRun rules fills
+        (between Table.state table_source.old table_source.new)
+        (between In.state source.old source.new) (between Out.state sink.old sink.new) made
+        × (result ≡ result_map_both is_some (λ fault. fault) (unless_refused made)) }
+    ensures blame { IfErr result (λ fault.
+        BlamesSink (between Out.state sink.old sink.new) (stopped.Fault fault)) }
+{
+    let made = export_submissions(alloc, rules, table_source, source, sink, &mut (), fills);
+    Ok(unless_refused(made)?.is_some())
+}
+
+/// Exports as `run_export` does, and tells the watcher each answer. The report counts the answers,
+/// and the lines of the export.
+///
+/// # Errors
+///
+/// As for `run_export`, and the reason where the table is refused.
+pub fn export_submissions<Table: Source, In: Source, Out: Sink, Watch: Watcher>(
+    alloc: Global,
+    rules: Rules,
+    table: &mut Table,
+    lines: &mut In,
+    sink: &mut Out,
+    watcher: &mut Watch,
+    fills: u32,
+) -> Result<Report, Stopped>
+    ensures ends { ExportRun rules fills (between Table.state table.old table.new)
+        (between In.state lines.old lines.new) (between Out.state sink.old sink.new) result }
+    ensures blame { IfErr result (BlamesSink (between Out.state sink.old sink.new)) }
+{
+    let ledger = open(alloc, rules, table, sink, fills)?;
+    let mut nobody = NullSink::default();
+    let taken = take(alloc, ledger, lines, &mut nobody, watcher, fills);
+    let totals = taken.end?;
+    let count = export(alloc, &taken.ledger, sink).map_err(Fault::from)?;
+    Ok(Report {
+        totals,
+        entries: u64::from(count),
+    })
+}

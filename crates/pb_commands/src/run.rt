@@ -1,0 +1,79 @@
+//! What runs share that take submissions.
+
+ghost use Rattle.std.specs.Prelude.{MatchResult};
+ghost use Rattle.pb_commands.specs.Ends.{IsSame, between};
+ghost use Rattle.pb_commands.specs.Run.{MakesBook};
+ghost use Rattle.pb_commands.specs.Runs.{Opens, OpensNone, Takes};
+
+use crate::refusal::{Refused, Stopped, accept};
+use pb_io::{Fault, NullSink, Sink, Source};
+use pb_ledger::{Ledger, MAX_CAP, MapTally, Rules, Totals, Watcher, collect_journaled};
+use pb_poly::{Book, take_table};
+use std::alloc::Global;
+
+/// What became of the submissions, and how much was made of the games.
+#[derive(Clone, Copy, Debug, PartialEq, Eq)]
+pub struct Report {
+    /// Counts the lines by their answers.
+    pub totals: Totals,
+    /// The entries of the book, or the lines of the export.
+    pub entries: u64,
+}
+
+/// What a run has taken.
+#[derive(Drop)]
+pub(crate) struct Taken {
+    /// The games that are held.
+    pub(crate) ledger: Ledger<MapTally>,
+    /// What became of the lines, or the fault that ended them.
+    pub(crate) end: Result<Totals, Fault>,
+}
+
+/// Reads the table, and makes a ledger without games; or puts the line that refuses the table.
+pub(crate) fn open<Table: Source, Out: Sink>(
+    alloc: Global,
+    rules: Rules,
+    table: &mut Table,
+    sink: &mut Out,
+    fills: u32,
+) -> Result<Ledger<MapTally>, Stopped>
+    ensures { let file = between Table.state table.old table.new in
+        let out = between Out.state sink.old sink.new in
+        MatchResult result (λ new. Opens rules fills file new × IsSame out)
+        (OpensNone fills file out) }
+{
+    let table = accept(sink, take_table(alloc, table, fills).map_err(Refused::Table))?;
+    Ok(Ledger::with_rules(alloc, &table, MAX_CAP, rules)?)
+}
+
+/// Takes the submissions from the games of this ledger on, without a journal.
+pub(crate) fn take<In: Source, Out: Sink, Watch: Watcher>(
+    alloc: Global,
+    mut ledger: Ledger<MapTally>,
+    lines: &mut In,
+    replies: &mut Out,
+    watcher: &mut Watch,
+    fills: u32,
+) -> Taken
+    ensures { Takes fills (between In.state lines.old lines.new)
+        (between Out.state replies.old replies.new) ledger result }
+{
+    let mut nowhere = NullSink::default();
+    let end = collect_journaled(
+        alloc,
+        lines,
+        replies,
+        &mut nowhere,
+        &mut ledger,
+        watcher,
+        fills,
+    );
+    Taken { ledger, end }
+}
+
+pub(crate) fn book_of(alloc: Global, taken: &Taken) -> Result<Book, Fault>
+    ensures { MakesBook taken.now result }
+{
+    taken.end?;
+    Ok(taken.ledger.make_book(alloc)?)
+}
