@@ -7,11 +7,11 @@ pub use Rattle.pb_commands.specs.ContinueHeadline.{HasHeadlineOfBoth}
 pub use Rattle.pb_commands.specs.Ends.{Change, EndStates, JournalStates, between}
 pub use Rattle.pb_commands.specs.Ends.{journal_states, states}
 pub use Rattle.pb_commands.specs.EpdRun.{RewritesOrEnds}
-pub use Rattle.pb_commands.specs.ExportRun.{BlamesSink}
+pub use Rattle.pb_commands.specs.ExportRun.{BlamesSink, ExportRun}
 pub use Rattle.pb_commands.specs.Into.{ContinuesInto, Into}
 pub use Rattle.pb_commands.specs.JournalHeadline.{HasHeadlineOfJournal, LosesNoneLater}
 pub use Rattle.pb_commands.specs.LookupRun.{LooksUp}
 pub use Rattle.pb_commands.specs.ProbeShown.{ProbesSources}
 pub use Rattle.pb_commands.specs.Refused.{StopsOrEnds}
-pub use Rattle.pb_commands.specs.Runs.{CollectRun, ContinueRun, ExportRun, JournalRun}
+pub use Rattle.pb_commands.specs.Runs.{CollectRun, ContinueRun, JournalRun}
 pub use Rattle.pb_commands.specs.Games.{PicksAll, PicksUntil}
