@@ -9,8 +9,8 @@ use Rattle.pb_commands.specs.CheckShown.{CheckShown}
 use Rattle.pb_commands.proofs.Checking.{legal_put, long_refused, named_short, told_is, untold_is}
 use Rattle.pb_commands.proofs.check.CheckerLineAnswer.answer.Goals as goal
 
-pub refuse-requires : goal.refuse-requires
-refuse-requires g c = named_short _ _ c.in-Err.ensures.refused
+pub refuse-requires-in-Err : goal.refuse-requires-in-Err
+refuse-requires-in-Err g c = named_short _ _ c.in-Err.ensures.refused
 
 pub returns-in_err-put_pieces-in-Ok-clause-puts : goal.returns-in_err-put_pieces-in-Ok-clause-puts
 returns-in_err-put_pieces-in-Ok-clause-puts g c line told =
@@ -28,7 +28,7 @@ returns-in_ok-put_pieces-in-Ok-clause-puts g c line told =
 pub returns-in-Err-clause-puts : goal.returns-in-Err-clause-puts
 returns-in-Err-clause-puts g c line told =
     line_shows (CheckShown line) _ (subst (λ (l : List ℕ). CheckShown l (Ok (false, reply_line c.in-Some.line.now (Err c.in-Err.refusal)))) (told_is _ c.in-Some.line line c.in-Some.is told)
-    (check.refused c.in-Err.refusal c.in-Err.ensures.refused refl)) _ _ c.refuse.result c.refuse.ensures
+    (check.refused c.in-Err.refusal c.in-Err.ensures.refused refl)) _ _ c.refuse-in-Err.result c.refuse-in-Err.ensures
 
-pub returns-in-None-clause-puts : goal.returns-in-None-clause-puts
-returns-in-None-clause-puts g c line told = line_shows (CheckShown line) _ (long_refused line (untold_is _ line c.in-None.is told)) _ _ c.refuse.result c.refuse.ensures
+pub returns-in_default-clause-puts : goal.returns-in_default-clause-puts
+returns-in_default-clause-puts g c line told = line_shows (CheckShown line) _ (long_refused line (untold_is _ line c.in_default.is told)) _ _ c.refuse.result c.refuse.ensures
