@@ -24,7 +24,6 @@ lower: thiserror
 upper: lower
 aside: pb_commands
 pb_commands:
-pb_accepted: pb_commands
 program: upper
 library_uses: lower
 END
@@ -131,15 +130,15 @@ HasHeadline = headline
 END
 
 # The law that the script names first. 5 tokens on 2 lines, and 7 on 2.
-put crates/pb_accepted/specs/Laws.antt << 'END'
+put crates/pb_commands/specs/Sentence.antt << 'END'
 use Rattle.std.specs.Prelude.{ℕ}
 use Rattle.pb_commands.specs.Headline.{headline}
 
 abbrev pub least : ℕ
 least = 0
 
-abbrev pub CountsOnce : ℕ
-CountsOnce = headline + least
+abbrev pub HoldsOfRuns : ℕ
+HoldsOfRuns = headline + least
 END
 
 put crates/upper/src/shade.rt << 'END'
@@ -270,7 +269,7 @@ laws() {
 abbrev pub headline : List ℕ
 abbrev pub HasHeadline : ℕ
 ==== Laws, and what they rest on besides
-==== crates/pb_accepted/specs/Laws.antt
+==== crates/pb_commands/specs/Sentence.antt
 abbrev pub least : ℕ
 END
     holds diff "$work/due" "$work/printed"
