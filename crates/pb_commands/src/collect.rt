@@ -7,8 +7,8 @@ ghost use Rattle.pb_commands.specs.Ends.{between};
 ghost use Rattle.pb_commands.specs.Run.{Answers, MakesBook};
 ghost use Rattle.pb_commands.specs.Runs.{CollectRun};
 
-use crate::run::{book_of, open, take};
 use crate::refusal::unless_refused;
+use crate::run::{book_of, open, take};
 use pb_io::{Fault, Sink, Source};
 use pb_ledger::Rules;
 use pb_poly::Book;

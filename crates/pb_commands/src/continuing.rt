@@ -10,9 +10,9 @@ ghost use Rattle.pb_commands.specs.Runs.{ContinueRun, Holds, HoldsNone};
 
 use crate::ends::{Ends, LedgerEnds};
 use crate::keeping::{NoBook, keep_book};
+use crate::refusal::{Refused, Stopped, accept, unless_refused};
 use crate::run::{Report, Taken, book_of, open, take};
 use crate::store::Store;
-use crate::refusal::{Refused, Stopped, accept, unless_refused};
 use pb_io::{Fault, Sink, Source};
 use pb_ledger::{Ledger, MapTally, Rules, Watcher, load};
 use pb_poly::Book;

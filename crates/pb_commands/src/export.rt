@@ -9,8 +9,8 @@ ghost use Rattle.pb_commands.specs.Ends.{between};
 ghost use Rattle.pb_commands.specs.ExportRun.{BlamesSink, ExportRun};
 ghost use Rattle.pb_commands.specs.declared.run.Report.{Report};
 
-use crate::run::{Report, open, take};
 use crate::refusal::{Stopped, unless_refused};
+use crate::run::{Report, open, take};
 use pb_io::{Fault, NullSink, Sink, Source};
 use pb_ledger::{Rules, Watcher, export};
 use std::alloc::Global;

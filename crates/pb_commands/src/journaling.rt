@@ -10,9 +10,9 @@ ghost use Rattle.pb_commands.specs.Runs.{JournalRun};
 
 use crate::ends::{Ends, JournalEnds};
 use crate::keeping::{NoBook, keep_book};
+use crate::refusal::Stopped;
 use crate::run::{Report, Taken, open};
 use crate::store::Store;
-use crate::refusal::Stopped;
 use pb_io::{Sink, Source};
 use pb_ledger::{Rules, Watcher, collect_journaled, replay};
 use std::alloc::Global;

@@ -10,10 +10,10 @@ ghost use Rattle.pb_commands.specs.Runs.{CollectRun};
 ghost use Rattle.pb_commands.specs.declared.keeping.NoBook.TheVariants as no;
 
 use crate::ends::Ends;
+use crate::refusal::Stopped;
 use crate::run::{Report, Taken, open, take};
 use crate::store::{Store, StoreError};
 use crate::text::LedgerBook;
-use crate::refusal::Stopped;
 use pb_io::{Sink, Source};
 use pb_ledger::{Rules, Watcher};
 use std::alloc::Global;

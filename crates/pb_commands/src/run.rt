@@ -42,7 +42,10 @@ pub(crate) fn open<Table: Source, Out: Sink>(
         MatchResult result (λ new. Opens rules fills file new × IsSame out)
         (OpensNone fills file out) }
 {
-    let table = accept(sink, take_table(alloc, table, fills).map_err(Refused::Table))?;
+    let table = accept(
+        sink,
+        take_table(alloc, table, fills).map_err(Refused::Table),
+    )?;
     Ok(Ledger::with_rules(alloc, &table, MAX_CAP, rules)?)
 }
 

@@ -7,7 +7,7 @@ use Rattle.pb_commands.proofs.continuing.continue_into.Goals as goal
 pub returns : goal.returns
 returns g c =
     let e : EndStates =
-        states g.Table.Source.state g.In.Source.state g.Out.Sink.state c.args.ends.now (record { table = c.load_first.new.table; lines = c.take-taken.new.lines; replies = c.take-taken.new.replies; watcher = c.take-taken.new.watcher }) in
+    states g.Table.Source.state g.In.Source.state g.Out.Sink.state c.args.ends.now (record { table = c.load_first.new.table; lines = c.take-taken.new.lines; replies = c.take-taken.new.replies; watcher = c.take-taken.new.watcher }) in
     let saved : Change SourceState = between g.Saved.Source.state c.args.ledger.now.saved c.load_first.new.saved in
     let taken = c.take-taken.result in
     let began = c.in_ok-began.ensures in

@@ -18,8 +18,7 @@ returns-clause-ends g c =
       replies = between g.Out.Sink.state c.args.sink.now c.take-taken.new.replies;
     } in
     let is : unless_refused c.load_first-began.result ≡ Ok (Some c.in-Some.ledger) = cc (c.in_ok-ledger.ensures, c.in-Some.is) in
-    let began = rw (was_made c.load_first-began.result c.in-Some.ledger is) at c.load_first-began.ensures in
-    (
+    let began = rw (was_made c.load_first-began.result c.in-Some.ledger is) at c.load_first-began.ensures in (
       c.take-taken.result,
       continued_so c.args.rules c.args.fills e _ _ c.in-Some.ledger c.take-taken.result began.0 began.1 c.take-taken.ensures,
       (refl, c.book_of-book.ensures),

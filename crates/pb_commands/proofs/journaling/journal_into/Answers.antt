@@ -27,7 +27,7 @@ returns-clause-ends g c =
     let replay = c.replay.ensures in
     let found = found_so stopped.Fault c.replay.result c.map_err.result c.in_ok-map_err.field-0 c.map_err.ensures.cases c.in_ok-map_err.was in
     let run = journaled c.args.rules c.args.fills e j _ (g.Journal.Sink.state c.replay.new.journal) c.in_ok-ledger.ledger c.replay.new.ledger end.new.ledger end.result opened.0 opened.1 (rw found at replay.ok)
-        replay.basis replay.cap end.ensures.ok end.ensures.fault in
+    replay.basis replay.cap end.ensures.ok end.ensures.fault in
     inl (_, (run, headline c.args.rules c.args.fills e j _ run), c.keep_book.ensures)
 
 pub returns-clause-survives : goal.returns-clause-survives
@@ -40,7 +40,7 @@ returns-clause-survives g c =
     let found = found_so stopped.Fault c.replay.result c.map_err.result c.in_ok-map_err.field-0 c.map_err.ensures.cases c.in_ok-map_err.was in
     survives c.args.rules c.args.fills e j (record { ledger = end.new.ledger; end = end.result })
     (journaled c.args.rules c.args.fills e j _ (g.Journal.Sink.state c.replay.new.journal) c.in_ok-ledger.ledger c.replay.new.ledger end.new.ledger end.result opened.0 opened.1 (rw found at replay.ok) replay.basis
-        replay.cap end.ensures.ok end.ensures.fault)
+    replay.cap end.ensures.ok end.ensures.fault)
 
 pub returns-clause-outlives : goal.returns-clause-outlives
 returns-clause-outlives g c =
@@ -52,4 +52,4 @@ returns-clause-outlives g c =
     let found = found_so stopped.Fault c.replay.result c.map_err.result c.in_ok-map_err.field-0 c.map_err.ensures.cases c.in_ok-map_err.was in
     outlives c.args.rules c.args.fills e j (record { ledger = end.new.ledger; end = end.result })
     (journaled c.args.rules c.args.fills e j _ (g.Journal.Sink.state c.replay.new.journal) c.in_ok-ledger.ledger c.replay.new.ledger end.new.ledger end.result opened.0 opened.1 (rw found at replay.ok) replay.basis
-        replay.cap end.ensures.ok end.ensures.fault)
+    replay.cap end.ensures.ok end.ensures.fault)

@@ -6,7 +6,7 @@ use Rattle.pb_commands.proofs.keeping.collect_into.Goals as goal
 pub returns : goal.returns
 returns g c =
     let e : EndStates =
-        states g.Table.Source.state g.In.Source.state g.Out.Sink.state c.args.ends.now (record { table = c.open.new.table; lines = c.take-taken.new.lines; replies = c.take-taken.new.replies; watcher = c.take-taken.new.watcher }) in
+    states g.Table.Source.state g.In.Source.state g.Out.Sink.state c.args.ends.now (record { table = c.open.new.table; lines = c.take-taken.new.lines; replies = c.take-taken.new.replies; watcher = c.take-taken.new.watcher }) in
     let taken = c.take-taken.result in
     let opened = c.in_ok-ledger.ensures in
     let run = collected c.args.rules c.args.fills e _ c.in_ok-ledger.ledger taken opened.0 opened.1 c.take-taken.ensures in
