@@ -57,16 +57,17 @@ elif grep -qE 'memalign|aligned_alloc' "$work/called"; then
 fi
 
 # as_counted INPUT WORD..: the calls that ask for memory, of which there were $growths, have to be
-# those that libmemusage.so counts in a run in which none is refused
+# those that libmemusage.so counts in a run in which none is refused. Its folder has a name as long as
+# that of the other run: the longer the path of a file, the more often its text grows.
 as_counted() {
     [ -n "$counter" ] || return 0
     : "${growths:?the run is made first}"
     counted_input=$1
     shift
-    rm -rf "$work/counted"
-    cp -Rd "$work/old" "$work/counted"
+    rm -rf "$work/own"
+    cp -Rd "$work/old" "$work/own"
     (
-        cd "$work/counted"
+        cd "$work/own"
         export LD_PRELOAD="$counter"
         exec "$PROGRAM" "$@"
     ) < "$counted_input" > "$work/counted.put" 2> "$work/counts" || true
