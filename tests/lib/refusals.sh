@@ -57,8 +57,8 @@ elif grep -qE 'memalign|aligned_alloc' "$work/called"; then
 fi
 
 # as_counted INPUT WORD..: the calls that ask for memory, of which there were $growths, have to be
-# those that libmemusage.so counts in a run in which none is refused. Its folder has a name as long as
-# that of the other run: the longer the path of a file, the more often its text grows.
+# those that libmemusage.so counts in a run in which none is refused. Its folder has a name as long
+# as that of the other run: the longer the path of a file, the more often its text grows.
 as_counted() {
     [ -n "$counter" ] || return 0
     : "${growths:?the run is made first}"
