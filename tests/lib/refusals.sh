@@ -57,8 +57,8 @@ elif grep -qE 'memalign|aligned_alloc' "$work/called"; then
 fi
 
 # as_counted INPUT WORD..: the calls that ask for memory, of which there were $growths, have to be
-# those that libmemusage.so counts in a run in which none is refused. Its folder has a name as long
-# as that of the other run: the longer the path of a file, the more often its text grows.
+# those that libmemusage.so counts in a run in which none is refused. Its folder and its output have
+# names as long as those of the other run: the longer a file's path, the more often its text grows.
 as_counted() {
     [ -n "$counter" ] || return 0
     : "${growths:?the run is made first}"
@@ -70,7 +70,7 @@ as_counted() {
         cd "$work/own"
         export LD_PRELOAD="$counter"
         exec "$PROGRAM" "$@"
-    ) < "$counted_input" > "$work/counted.put" 2> "$work/counts" || true
+    ) < "$counted_input" > "$work/out" 2> "$work/counts" || true
     counted=$(sed 's/\x1b\[[0-9;]*m//g' "$work/counts" |
         awk -F '|' '/^ *(malloc|realloc|calloc)\|/ { sum += $2 } END { print sum + 0 }')
     [ "$counted" -eq "$growths" ] || fails "libmemusage.so counts $counted calls, not $growths"
