@@ -3,14 +3,17 @@
 
 Usage: python3 -B scripts/theorem.py [--count] [--of CRATE.FILE.NAME]
        python3 -B scripts/theorem.py --contracts
+       python3 -B scripts/theorem.py --index [CRATE..]
        python3 -B scripts/theorem.py --check
 It runs at the top of the repository. `make theorem` and `make test` call it.
 
-Each definition is printed as it stands in crates/*/specs, with its comments. Then come the types of
-the code that definitions name, and the words of the toolchain's library, where `rt` is to be had.
---of begins with another definition, without the laws. --count prints the last lines alone, which
-tell how much it is (scripts/lib/specs.py says what counts). --contracts tells that of what all
-public contracts rest on, file by file. --check compares docs/THEOREM.md with the counts.
+First comes the contract of the call that the program makes. Each definition is printed as it stands
+in crates/*/specs, with its comments. Then come the types of the code that definitions name, and the
+words of the toolchain's library, where `rt` is to be had. --of begins with another definition,
+without the call and the laws. --count prints the last lines alone, which tell how much it is
+(scripts/lib/specs.py says what counts). --contracts tells that of what all public contracts rest
+on, file by file. --index prints each public call with the first sentence of its comment, its
+clauses, and the definitions that they cite. --check compares docs/THEOREM.md with the counts.
 """
 import argparse
 import json
@@ -21,12 +24,14 @@ import signal
 import subprocess
 import sys
 
-from lib.specs import BEFORE, Specs, count_of, imports
+from lib.specs import BEFORE, TOKEN, Specs, calls, count_of, imports
 
 DOCUMENT = pathlib.Path("docs/THEOREM.md")
 HEADLINE = "pb_commands.Headline.HasHeadline"
 # The theorem's sentence as one law, and the answers that the replies say.
 LAWS = ("pb_commands.Sentence.HoldsOfRuns", "pb_commands.Answered.SayAnswers")
+# The call that the program makes. Its contract is the theorem, and how else it may end.
+PROGRAM = pathlib.Path("crates/pb_program/src/ordered.rt"), "collect"
 # The files of specs in reading order. All others come after them, by their crates.
 ORDER = """
     pb_commands.Headline
@@ -42,9 +47,14 @@ ORDER = """
 """.split()
 
 
+def crate_names():
+    """The crates, the lower ones first."""
+    return re.findall(r"^(\w+):", pathlib.Path("crates.txt").read_text(encoding="utf-8"), re.M)
+
+
 def by_files(found, first):
     """Definitions by the paths of their files, in reading order: of this file first."""
-    crates = re.findall(r"^(\w+):", pathlib.Path("crates.txt").read_text(encoding="utf-8"), re.M)
+    crates = crate_names()
 
     def place(own):
         crate, name = own.file.split(".")
@@ -158,11 +168,43 @@ def print_words(specs, imported):
         print("", place, *(f"    {it}" for it in lines), sep="\n")
 
 
-def check(found, more):
-    """Says whether the document tells how much these definitions are, alone and with those that
-    laws rest on besides, and whether the order names no other file."""
+def program_call():
+    """The call that the program makes, and the imports of its file; none where there is no file."""
+    path, name = PROGRAM
+    if not path.is_file():
+        return None, {}
+    source = path.read_text(encoding="utf-8")
+    return next(it for it in calls(source) if it.name == name), imports(source)
+
+
+def cited_in(specs, call, imported):
+    """The definitions that the clauses of a call cite, each once."""
+    words = TOKEN.findall(" ".join(call.clauses))
+    return list(dict.fromkeys(filter(None, (specs.find_import(imported.get(it)) for it in words))))
+
+
+def print_index(specs, names):
+    """Prints the public calls of these crates, with what their contracts say and cite."""
+    for crate in names:
+        print(f"==== {crate}\n")
+        for path in sorted(specs.crates.glob(f"{crate}/src/*.rt")):
+            source = path.read_text(encoding="utf-8")
+            for call in calls(source):
+                if call.is_public:
+                    cited = cited_in(specs, call, imports(source))
+                    names = ", ".join(f"{it.name} ({it.file})" for it in cited)
+                    print(f"{path.stem}::{call.name}: {call.sentence or '(no comment)'}")
+                    print(*(f"    {it}" for it in call.clauses), sep="\n")
+                    print(f"    by {names}\n" if names else "")
+
+
+def check(found, more, whole):
+    """Says whether the document tells how much these definitions are, alone, with those that laws
+    rest on besides, and of the whole contract of the program's call; and whether the order names no
+    other file."""
     told = " ".join(DOCUMENT.read_text(encoding="utf-8").split())
-    due_of = {"the definitions": found, **({"with its laws": found + more} if more else {})}
+    due_of = {"the definitions": found, **({"with its laws": found + more} if more else {}),
+              **({"however it ends": whole} if whole else {})}
     for words, own in due_of.items():
         due = f"{words}: {len(own)}, on {sum(len(it.tokens) for it in own)} lines"
         if due not in told:
@@ -180,8 +222,12 @@ def main():
     for option in ("--count", "--contracts", "--check"):
         parser.add_argument(option, action="store_true")
     parser.add_argument("--of", default=HEADLINE)
+    parser.add_argument("--index", nargs="*")
     given = parser.parse_args()
     specs = Specs(pathlib.Path("crates"))
+    if given.index is not None:
+        print_index(specs, given.index or [it for it in crate_names() if it.startswith("pb_")])
+        return
     file, _, name = given.of.rpartition(".")
     seeds = list(specs.of_contracts()) if given.contracts else [specs.find(file, name)]
     found = specs.closure(seeds)
@@ -190,14 +236,18 @@ def main():
     has_laws = given.of == HEADLINE and not given.contracts
     laws = [specs.find(*law.rsplit(".", 1)) for law in LAWS] if has_laws else []
     more = [it for it in specs.closure(laws) if it not in found]
+    call, imported = program_call() if has_laws else (None, {})
+    whole = specs.closure(cited_in(specs, call, imported)) if call else []
     if given.check:
-        check(found, more)
+        check(found, more, whole)
         return
     files = by_files(found, file)
     if given.contracts:
         for path, own in files.items():
             print(f"{path}: {count_of(own).rpartition(',')[0]}")
     elif not given.count:
+        if call:
+            print(f"==== The program's call: {PROGRAM[0]}\n", call.text, "", sep="\n")
         print_definitions(specs, files)
         if more:
             print("==== Laws, and what they rest on besides\n")
@@ -209,6 +259,8 @@ def main():
     print(count_of(found))
     if more:
         print("with its laws:", count_of(found + more))
+    if whole:
+        print("the program's call, however it ends:", count_of(whole))
 
 
 if __name__ == "__main__":

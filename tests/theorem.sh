@@ -210,6 +210,9 @@ impl Doubles for Tone {
     }
 }
 
+/// Says how deep it
+/// is. It takes its time.
+#[inline]
 pub fn public(tone: &Tone) -> u32
     ensures { result ≡ plain }
     ensures again { result ≡ record {
@@ -229,6 +232,23 @@ pub(crate) fn inner() -> u32
     ensures { result ≡ unused }
 {
     0
+}
+END
+
+# The call that the program makes
+put crates/pb_program/src/ordered.rt << 'END'
+ghost use Rattle.upper.specs.Top.{Promise};
+
+fn other()
+    ensures { 1 ≡ 1 }
+{}
+
+/// Collects.
+pub(crate) fn collect() -> Colour
+    requires { 0 < 1 }
+    ensures { Promise result }
+{
+    Colour::Red
 }
 END
 
@@ -257,14 +277,21 @@ counts() {
         '1 definitions, 2 lines, 7 tokens, 1 files'
 }
 
-# laws: the theorem comes with its laws, and what these rest on besides stands behind them
+# laws: the theorem comes with the program's call and its laws, and what these rest on besides stands
+# behind them
 laws() {
     theorem --count > "$work/printed"
-    printf '%s\n' '2 definitions, 4 lines, 12 tokens, 1 files' \
-        'with its laws: 4 definitions, 8 lines, 24 tokens, 2 files' > "$work/due"
-    holds diff "$work/due" "$work/printed"
-    theorem | grep '^====\|^abbrev' | head -n 6 > "$work/printed"
     cat > "$work/due" << 'END'
+2 definitions, 4 lines, 12 tokens, 1 files
+with its laws: 4 definitions, 8 lines, 24 tokens, 2 files
+the program's call, however it ends: 7 definitions, 20 lines, 126 tokens, 4 files
+END
+    holds diff "$work/due" "$work/printed"
+    theorem | grep '^====\|^abbrev\|^///\|^    ensures' | head -n 9 > "$work/printed"
+    cat > "$work/due" << 'END'
+==== The program's call: crates/pb_program/src/ordered.rt
+/// Collects.
+    ensures { Promise result }
 ==== crates/pb_commands/specs/Headline.antt
 abbrev pub headline : List ℕ
 abbrev pub HasHeadline : ℕ
@@ -281,6 +308,32 @@ contracts() {
     printf '%s\n' 'crates/lower/specs/Parts.antt: 4 definitions, 9 lines, 29 tokens' \
         '4 definitions, 9 lines, 29 tokens, 1 files' > "$work/due"
     holds diff "$work/due" "$work/printed"
+}
+
+# listed: each public call comes with the first sentence of its comment, its clauses and what they
+# cite
+listed() {
+    theorem --index upper > "$work/printed"
+    cat > "$work/due" << 'END'
+==== upper
+
+tone::double: (no comment)
+    ensures { result ≡ twice self.now }
+    by twice (lower.Parts)
+
+tone::public: Says how deep it is.
+    ensures { result ≡ plain }
+    ensures again { result ≡ record { three = unused; } }
+    by plain (lower.Parts), unused (lower.Parts)
+
+tone::empty: (no comment)
+    ensures { plain ≡ plain }
+    by plain (lower.Parts)
+
+END
+    holds diff "$work/due" "$work/printed"
+    theorem --index > "$work/printed"
+    holds test "$(cat "$work/printed")" = '==== pb_commands'
 }
 
 # printed: the definitions come as they stand, by their files, then types and words
@@ -403,6 +456,8 @@ told() {
     holds grep -q '^scripts/theorem.py: the order names .* for nothing$' "$work/errors"
     echo 'It has the definitions: 2, on 4 lines; with its laws: 4, on 7 lines.' | put docs/THEOREM.md
     holds refuses "docs/THEOREM.md: it has to say 'with its laws: 4, on 8 lines'" --check
+    echo 'It has the definitions: 2, on 4 lines; with its laws: 4, on 8 lines.' | put docs/THEOREM.md
+    holds refuses "docs/THEOREM.md: it has to say 'however it ends: 7, on 20 lines'" --check
 }
 
 # unknown: a name that nothing has is refused
@@ -415,6 +470,7 @@ unknown() {
 check 'what a definition rests on is counted' counts
 check 'the theorem comes with its laws' laws
 check 'what public contracts rest on is counted' contracts
+check 'public calls are listed with their contracts' listed
 if no_rt_there; then
     check 'it is printed as it stands' printed
 else

@@ -44,6 +44,35 @@ def contract_words(source):
     return words
 
 
+@dataclasses.dataclass(frozen=True)
+class Call:
+    """A function: its name, whether it is public, as a member of a trait is, the first sentence of
+    its comment, its clauses, and its text up to the body, with the comment."""
+
+    name: str
+    is_public: bool
+    sentence: str
+    clauses: list
+    text: str
+
+
+# Comments and attributes, the indent, what stands before `fn`, the name, and all up to a body that
+# begins on a line of its own, as that of a function with clauses does, or to the last clause.
+CALL = re.compile(r"((?:^ *(?:///|#\[)[^\n]*\n)*)^( *)((?:pub(?:\(crate\))? )?)(?:const )?fn (\w+)"
+                  r"((?:(?!\n\n).)*?)(^\2(?=\{)|\};$)", re.M | re.S)
+
+
+def calls(source):
+    """The functions of a file that have clauses, in their order."""
+    for found in re.finditer(CALL, source):
+        above, _, before, name, rest, end = found.groups()
+        notes = " ".join(re.findall(r"^ *///\s*(.*)", above, re.M))
+        clauses = re.split(r"\n\s*(?=(?:ensures|requires)\b)", rest + end.strip(";"))[1:]
+        if clauses:
+            yield Call(name, before == "pub " or end == "};", re.split(r"(?<=\.)\s", notes)[0],
+                       [" ".join(it.split()) for it in clauses], found[0].rstrip())
+
+
 def count_of(found):
     """How much these definitions are."""
     lines, files = [line for it in found for line in it.tokens], {it.file for it in found}
