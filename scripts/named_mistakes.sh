@@ -1,6 +1,6 @@
 #!/bin/sh
-# Compares the table of docs/WRONG_BODIES.md under `What nobody may do` with the wrong bodies of
-# crates/*/must-fail and crates/*/bodies: each line of the table names one of its own that is there,
+# Compares the list of docs/WRONG_BODIES.md under `What nobody may do` with the wrong bodies of
+# crates/*/must-fail and crates/*/bodies: each line of the list names one of its own that is there,
 # and each of must-fail/ has a line.
 # Usage: scripts/named_mistakes.sh (at the top of the repository).
 set -eu
@@ -19,11 +19,10 @@ edits() {
         grep -xE 'crates/[^/]*/(must-fail|bodies)/[^/]*\.edit' || true
 }
 
-# The lines of the table, without its head and the rule below that.
-table=$(sed -n '/^## What nobody may do$/,/^## /p' "$document" | grep '^|' | sed '1,2d')
-named=$(edits "$table")
+list=$(sed -n '/^## What nobody may do$/,/^## /p' "$document" | grep '^- ' || :)
+named=$(edits "$list")
 
-[ -n "$table" ] || refuse "$document" 'the table of what nobody may do is empty'
+[ -n "$list" ] || refuse "$document" 'the list of what nobody may do is empty'
 while IFS= read -r line; do
     paths=$(edits "$line")
     [ -n "$paths" ] || refuse 'no edit is named' "$line"
@@ -31,7 +30,7 @@ while IFS= read -r line; do
         [ -f "$path" ] || refuse "there is no $path" "$line"
     done
 done << END
-$table
+$list
 END
 for path in $(printf '%s\n' "$named" | sort | uniq -d); do
     refuse 'it is named twice' "$path"
@@ -40,4 +39,4 @@ for path in crates/*/must-fail/*; do
     [ ! -e "$path" ] || printf '%s\n' "$named" | grep -qxF "$path" || refuse 'no line names it' "$path"
 done
 [ "$refused" = 0 ] || exit 1
-printf '%s named mistakes have their edits\n' "$(printf '%s\n' "$table" | wc -l)"
+printf '%s named mistakes have their edits\n' "$(printf '%s\n' "$list" | wc -l)"

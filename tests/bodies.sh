@@ -2,10 +2,10 @@
 # Tries scripts/bodies.py, the judge of wrong bodies, on made-up crates and by a prover that only
 # repeats what the real one said of one of them, and says of the other what its edits tell: no body
 # passes that is proved, that can't be read, or whose function isn't proved for another reason than
-# the body's own. It tries scripts/named_mistakes.sh on a made-up table too, and scripts/check.sh
+# the body's own. It tries scripts/named_mistakes.sh on a made-up list too, and scripts/check.sh
 # over a program that answers nothing. The first check that doesn't hold ends it.
 # Usage: tests/bodies.sh (at the top of the repository; it needs no toolchain).
-# shellcheck disable=SC2016 # backquotes are what the prover and the table have
+# shellcheck disable=SC2016 # backquotes are what the prover and the list have
 set -eu
 . tests/lib/harness.sh
 top=$PWD
@@ -481,34 +481,34 @@ judged() {
     holds says 'first-one: FAILED: only a definition names what judges it'
 }
 
-# named STATUS LINE..: whether scripts/named_mistakes.sh ends so over a table of these lines
+# named STATUS LINE..: whether scripts/named_mistakes.sh ends so over a list of these lines
 named() {
     due=$1 status=0
     shift
     {
-        printf '## What nobody may do\n\n| mistake | edit |\n|---|---|\n'
-        [ $# -eq 0 ] || printf '%s\n' "$@"
-        printf '\n## Something else\n\n| none | `crates/tiny/must-fail/nowhere.edit` |\n'
+        printf '## What nobody may do\n\nThe gate tries each.\n\n'
+        [ $# -eq 0 ] || printf -- '- %s\n' "$@"
+        printf '\n## Something else\n\n- none: `crates/tiny/must-fail/nowhere.edit`\n'
     } > "$work/docs/WRONG_BODIES.md"
     (cd "$work" && sh "$top/scripts/named_mistakes.sh") > "$work/said" 2>&1 || status=$?
     is_status "$due"
 }
 
-# Each mistake of the table has an edit of its own, in must-fail/ or among the bodies, and each of
+# Each mistake of the list has an edit of its own, in must-fail/ or among the bodies, and each of
 # must-fail/ a line.
-table() {
+list() {
     anew
     mkdir -p "$work/docs" "$work/crates/tiny/must-fail"
     for name in one two; do : > "$work/crates/tiny/must-fail/$name.edit"; done
-    one='| first | `crates/tiny/must-fail/one.edit` |'
-    two='| second | `crates/tiny/must-fail/two.edit` |'
+    one='first: `crates/tiny/must-fail/one.edit`'
+    two='second: `crates/tiny/must-fail/two.edit`'
     holds named 0 "$one" "$two"
     holds named 1 "$one"
     holds named 1 "$one" "$two" "$two"
-    holds named 1 "$one" "$two" '| third | none |'
-    holds named 1 "$one" "$two" '| third | `crates/tiny/must-fail/three.edit` |'
+    holds named 1 "$one" "$two" 'third: none'
+    holds named 1 "$one" "$two" 'third: `crates/tiny/must-fail/three.edit`'
     holds named 1
-    three='| third | `crates/tiny/bodies/three.edit` |'
+    three='third: `crates/tiny/bodies/three.edit`'
     holds named 1 "$one" "$two" "$three"
     for name in three four; do : > "$work/crates/tiny/bodies/$name.edit"; done
     holds named 0 "$one" "$two" "$three"
@@ -545,6 +545,6 @@ check 'what has passed stays so when a body below changes' kept_above
 check 'an import that renames is tried alone' imported
 check 'a goal that only the wrong body has refuses none' own_goals
 check 'definitions are judged by laws of their own' judged
-check 'each mistake that nobody may make has its edit' table
+check 'each mistake that nobody may make has its edit' list
 check 'a program that does nothing passes no part of make check' failing
 finish

@@ -277,7 +277,7 @@ counts() {
         '1 definitions, 2 lines, 7 tokens, 1 files'
 }
 
-# laws: the theorem comes with the program's call and its laws, and what these rest on besides stands
+# laws: the theorem comes with its call and its laws, and what these rest on besides stands
 # behind them
 laws() {
     theorem --count > "$work/printed"
