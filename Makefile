@@ -68,8 +68,8 @@ dist: $(PROGRAM)
 demo:
 	@sh scripts/demo.sh
 
-# Prints the definitions that the theorem of `pbook collect` rests on, in reading order, then those
-# that its laws rest on besides, and how much that is.
+# Prints the contract of the call that `pbook collect` makes, the definitions that its theorem rests
+# on, in reading order, then those that its laws rest on besides, and how much that is.
 theorem:
 	@python3 -B scripts/theorem.py
 
