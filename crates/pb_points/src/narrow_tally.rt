@@ -25,7 +25,7 @@ use pb_poly::Entry;
 use std::alloc::{AllocError, Global};
 
 /// From how many blocks on a full list of them is added up before it grows.
-const MANY: usize = 64;
+const MANY: usize = 128;
 
 /// A tally whose `ensure` puts a narrow row at the end and looks for none, and whose `add` looks
 /// from the end. A full list of blocks is added up before it grows, so that memory goes by keys and
