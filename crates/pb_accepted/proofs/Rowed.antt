@@ -7,7 +7,7 @@ use Rattle.std.proofs.lemmas.List.Sums.{sum_by-cons, sum_by-le}
 use Rattle.pb_poly.specs.declared.entry.Entry.{Entry}
 use Rattle.pb_points.specs.Tally.{is_pair}
 use Rattle.pb_points.specs.Weight.{scaled}
-use Rattle.pb_points.proofs.Pointed.{scaled_some}
+use Rattle.pb_points.proofs.Scaled.{scaled_some}
 use Rattle.pb_accepted.specs.Counting.{IsBook, IsGreatest, count, times}
 use Rattle.pb_accepted.specs.Holding.{is_lost, lost, rowed}
 use Rattle.pb_accepted.specs.declared.ply_points.PlyPoints.{PlyPoints}

@@ -3,7 +3,6 @@ pub mod BagRows
 pub mod BlockRows
 pub mod DistinctRows
 pub mod Elements
-pub mod FromRows
 pub mod Groups
 pub mod ListRows
 pub mod NarrowSums
@@ -12,11 +11,9 @@ pub mod Pairs
 pub mod PartRows
 pub mod PartStretches
 pub mod NarrowedRows
-pub mod Pointed
 pub mod SomeBooks
-pub mod SomeSums
+pub mod Scaled
 pub mod Spreads
 pub mod Stretches
-pub mod SumsBook
 pub mod Tops
 pub mod Weighing

@@ -17,7 +17,6 @@ use Rattle.pb_points.proofs.BagRows.{adds_set, count_set, counted, fit_pushed, f
 use Rattle.pb_points.proofs.BlockRows.{set_last}
 use Rattle.pb_points.proofs.ListRows.{IsDistinct-more, same_keys}
 use Rattle.pb_points.proofs.Pairs.{is_pair_same, same_equiv}
-use Rattle.pb_points.proofs.Pointed.{plied_added, plied_pushed, plied_same}
 use Rattle.pb_points.proofs.DistinctRows.{wide_few}
 
 -- ---- a ply more
@@ -165,7 +164,7 @@ room_for rows wide k c none some s =
 -- ---- a narrow row more
 
 pub sound_none : AreSound [] []
-sound_none = record { fit = record { points = λ k c. omega arith; times = λ k c. omega arith }; plied = record { paid = λ k c none. refl }; spills = spills_none }
+sound_none = record { fit = record { points = λ k c. omega arith; times = λ k c. omega arith }; spills = spills_none }
 
 moved : (rows wide : List Row) (r : Row) → HoldsSame ((rows ++ wide) ++ r ∷ []) ((rows ++ r ∷ []) ++ wide)
 moved rows wide r k c =
@@ -183,7 +182,6 @@ makes_beside rows wide key code k c = moved rows wide (new_row key code) k c ∙
 pub sound_beside : (rows wide : List Row) (key code : ℕ) → AreSound rows wide → AreSound (rows ++ new_row key code ∷ []) wide
 sound_beside rows wide key code k = record {
   fit = fit_same ((rows ++ wide) ++ new_row key code ∷ []) _ (moved rows wide (new_row key code)) (fit_pushed (rows ++ wide) key code k.fit);
-  plied = plied_same ((rows ++ wide) ++ new_row key code ∷ []) _ (moved rows wide (new_row key code)) (plied_pushed (rows ++ wide) key code k.plied);
   spills = spills_more rows (rows ++ new_row key code ∷ []) wide (λ a b. omega (arith, sum_by_push (one a b) rows (new_row key code))) k.spills;
 }
 
@@ -191,7 +189,6 @@ pub sound_added : (rows wide new_rows new_wide : List Row) (key code n : ℕ) �
     → HasRoomFor (held (bag_content (rows ++ wide)) key code) n → Spills new_rows new_wide → AreSound rows wide → AreSound new_rows new_wide
 sound_added rows wide new_rows new_wide key code n adds fits spills k = record {
   fit = fit_added (rows ++ wide) (new_rows ++ new_wide) key code n adds k.fit fits;
-  plied = plied_added (rows ++ wide) (new_rows ++ new_wide) key code n adds k.plied;
   spills = spills;
 }
 
@@ -224,6 +221,5 @@ sound_narrowed rows wide sums new_rows new_wide k added narrowed =
     let same = same_narrowed rows wide sums new_rows new_wide added narrowed in
     record {
       fit = fit_same (rows ++ wide) (new_rows ++ new_wide) same k.fit;
-      plied = plied_same (rows ++ wide) (new_rows ++ new_wide) same k.plied;
       spills = narrowed.spills;
     }

@@ -33,10 +33,6 @@ pub record SumsFit (rows : List Row) : Type 0 where
   pub points : (k c : ℕ) → points_of rows k c ≤ 2 ^ 63
   pub times : (k c : ℕ) → times_of rows k c ≤ 2 ^ 63
 
--- what has no plies has no points
-pub record ArePlied (rows : List Row) : Type 0 where
-  pub paid : (k c : ℕ) → times_of rows k c ≡ 0 → points_of rows k c ≡ 0
-
 -- the same is held of each key and code
 abbrev pub HoldsSame : List Row → List Row → Type 0
 HoldsSame old new = (k c : ℕ) → bag_content new k c ≡ bag_content old k c

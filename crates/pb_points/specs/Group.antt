@@ -2,7 +2,6 @@
 use Rattle.std.specs.Prelude.{◌≡◌, ℕ, ◌<◌, List, ◌++◌, length, AllPairs, IsPermutation}
 use Rattle.pb_poly.specs.declared.entry.Entry.{Entry}
 use Rattle.pb_points.specs.declared.row.Row.{Row}
-use Rattle.pb_points.specs.Bag.{IsAddedUp}
 use Rattle.pb_points.specs.Rows.{IsBookOfRows}
 use Rattle.pb_points.specs.Weight.{Before}
 
@@ -28,7 +27,3 @@ pub record Orders (old new : List Entry) : Type 0 where
 -- the book of the rows was added to the entries
 abbrev pub AddsBook : List Row → List Entry → List Entry → Type 0
 AddsBook rows old new = (book : List Entry) × (new ≡ old ++ book) × IsBookOfRows rows book
-
--- the book of what the rows of each key and code hold together was added to the entries
-abbrev pub AddsBookOfSums : List Row → List Entry → List Entry → Type 0
-AddsBookOfSums rows old new = (sums : List Row) × IsAddedUp rows sums × AddsBook sums old new

@@ -4,7 +4,7 @@ use Rattle.std.specs.declared.alloc.Global.{Global}
 use Rattle.std.specs.List.{IsDistinct}
 use Rattle.pb_points.specs.declared.blocks.Blocks.{Blocks}
 use Rattle.pb_points.specs.declared.row.Row.{Row}
-use Rattle.pb_points.specs.Bag.{ArePlied, HoldsSame, SumsFit, count_of}
+use Rattle.pb_points.specs.Bag.{HoldsSame, SumsFit, count_of}
 use Rattle.pb_points.specs.Blocks.{AddsThere, rows_of}
 use Rattle.pb_points.specs.Rows.{row_at, same_pair}
 
@@ -28,7 +28,6 @@ pub record Spills (narrow wide : List Row) : Type 0 where
 -- what is always true of the narrow rows and the wide ones
 pub record AreSound (narrow wide : List Row) : Type 0 where
   pub fit : SumsFit (narrow ++ wide)
-  pub plied : ArePlied (narrow ++ wide)
   pub spills : Spills narrow wide
 
 -- the narrow rows and the wide ones hold what these rows hold, and are a narrow one for each

@@ -1,6 +1,6 @@
 -- Rows of points, at most one for each key and code, and the book that is made of them.
 use Rattle.std.specs.Prelude.{◌≡◌, ℕ, ◌<◌, ◌≤◌, ◌⊎◌, ◌↔◌, Bool, List, AllPairs}
-use Rattle.std.specs.Prelude.{Contains, nat_le, nat_lt, slice_index_or}
+use Rattle.std.specs.Prelude.{Contains, nat_le, slice_index_or}
 use Rattle.std.specs.List.{filter}
 use Rattle.pb_poly.specs.declared.entry.Entry.{Entry}
 use Rattle.pb_points.specs.declared.row.Row.{Row}
@@ -55,7 +55,3 @@ frequent least rows = filter (λ r. nat_le least r.times) rows
 -- the rows whose keys are this one or above it
 abbrev pub from : ℕ → List Row → List Row
 from first rows = filter (λ r. nat_le first r.key) rows
-
--- the rows that have points
-abbrev pub pointed : List Row → List Row
-pointed rows = filter (λ r. nat_lt 0 r.points) rows

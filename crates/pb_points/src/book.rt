@@ -31,7 +31,7 @@ pub(crate) fn push_book(
     Ok(())
 }
 
-pub(crate) fn push_group(entries: &mut Vec<Entry>, group: &[Row]) -> Result<(), AllocError>
+fn push_group(entries: &mut Vec<Entry>, group: &[Row]) -> Result<(), AllocError>
     requires { IsGroup IsBelow group.now }
     ensures ok { OnOk result (AddsBook group.now entries.old.items entries.new.items) }
     ensures err { OnErr result (AddsSome entries.old.items entries.new.items) }
@@ -56,7 +56,7 @@ fn greatest_of(rows: &[Row]) -> u64
 }
 
 /// Makes the entry of a row, or none where its weight is 0.
-pub(crate) fn entry_of(row: &Row, greatest: u64) -> Option<Entry>
+fn entry_of(row: &Row, greatest: u64) -> Option<Entry>
     requires { row.now.points ≤ greatest }
     ensures { MatchOption result
         (scaled row.now.points greatest ≡ 0)

@@ -1,5 +1,12 @@
 //! Points and plies by key and code, added as games arrive, and the weights and entries that are
 //! made of them. Keys and codes are numbers here, without a setup or a game.
+//!
+//! ```rust
+//! let mut tally = MapTally::new(alloc);
+//! tally.ensure(key, code)?;
+//! tally.add(key, code, 2);
+//! let rows = tally.rows(alloc)?;
+//! ```
 #![tactic(auto)]
 
 mod blocks;
@@ -12,7 +19,6 @@ mod part_tally;
 mod row;
 mod spread;
 mod sums;
-mod sums_book;
 mod tally;
 mod wide;
 

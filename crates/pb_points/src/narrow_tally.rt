@@ -12,20 +12,17 @@ ghost use Rattle.pb_points.specs.Tally.{MakesRow, held};
 use crate::blocks::{
     Blocks, add_ply, held_in_blocks, listed, new_block, no_blocks, push_row, put_block,
 };
-use crate::book::push_book;
 use crate::list_tally::find_held;
 use crate::narrow::{NarrowRow, add_rows};
 use crate::row::{Row, sort_rows};
 use crate::spread::order_rows;
 use crate::sums::add_up;
-use crate::sums_book::push_sums;
 use crate::tally::Tally;
 use crate::wide::{add_wide, reserve_wide};
-use pb_poly::Entry;
 use std::alloc::{AllocError, Global};
 
 /// From how many blocks on a full list of them is added up before it grows.
-const MANY: usize = 64;
+const MANY: usize = 128;
 
 /// A tally whose `ensure` puts a narrow row at the end and looks for none, and whose `add` looks
 /// from the end. A full list of blocks is added up before it grows, so that memory goes by keys and
@@ -192,27 +189,5 @@ impl Tally for NarrowTally {
 
     fn rows(&self, alloc: Global) -> Result<Vec<Row>, AllocError> {
         self.sums(alloc)
-    }
-
-    fn add_stretch(
-        &self,
-        alloc: Global,
-        least: u64,
-        first: u64,
-        entries: &mut Vec<Entry>,
-    ) -> Result<Option<u64>, AllocError> {
-        if least > 1 || !self.wide.is_empty() {
-            push_book(entries, self.rows(alloc)?, least, first)?;
-            return Ok(None);
-        }
-        // A move without points has no entry, and one with points was played.
-        let mut rows = listed(alloc, &self.rows)?;
-        rows.retain(|narrow| {
-            let row = narrow.row();
-            row.key >= first && row.points > 0
-        });
-        order_rows(alloc, &mut rows)?;
-        push_sums(alloc, entries, &rows)?;
-        Ok(None)
     }
 }

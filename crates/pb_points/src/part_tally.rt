@@ -10,16 +10,16 @@ use crate::tally::Tally;
 use pb_poly::Entry;
 use std::alloc::{AllocError, Global};
 
-/// One part for each value of the upper ten bits of a key.
-const PARTS: usize = 1024;
+/// One part for each value of the upper nine bits of a key.
+const PARTS: usize = 512;
 
-/// A tally for each value of the upper ten bits of a key, so that what is worked on is small and
+/// A tally for each value of the upper nine bits of a key, so that what is worked on is small and
 /// near. The parts are made when the first row is.
 #[derive(Drop)]
 pub struct PartTally<T: Tally> {
     alloc: Global,
     parts: Vec<T>,
-    ghost whole: { 0 < length parts.items → length parts.items ≡ 1024 },
+    ghost whole: { 0 < length parts.items → length parts.items ≡ 512 },
     ghost own: { HoldsOwn T.content parts.items },
 }
 
@@ -30,7 +30,7 @@ pub type MapTally = PartTally<NarrowTally>;
 fn part_of(key: u64) -> usize
     ensures { result ≡ part key }
 {
-    (key >> 54) as usize
+    (key >> 55) as usize
 }
 
 /// Says where the next stretch of keys begins, where none goes beyond the part of its first key.
@@ -43,12 +43,12 @@ fn within_part(first: u64, next: Option<u64>) -> Option<u64>
     let part = part_of(first);
     match next {
         Some(next) if part_of(next) == part => Some(next),
-        _ => (part as u64 + 1).checked_mul(1 << 54),
+        _ => (part as u64 + 1).checked_mul(1 << 55),
     }
 }
 
 fn no_rows<T: Tally>(alloc: Global) -> Result<Vec<T>, AllocError>
-    ensures whole { IfOk result (λ v. length v.items ≡ 1024) }
+    ensures whole { IfOk result (λ v. length v.items ≡ 512) }
     ensures nothing { IfOk result (λ v. HoldNothing T.content v.items) }
 {
     let mut parts = Vec::with_capacity(alloc, PARTS)?;
