@@ -51,15 +51,9 @@ EnPassantHolds board turn ep = IfSome ep (λ q. OnEnPassantRank turn q
 -- rooks stand.
 pub record IsSetup (p : Position) : Type 0 where
   pub places : length p.board ≡ 64
-  -- one king of each side, and no pawn on rank 1 or 8
-  pub kings : (side : Colour) → (king : ℕ)
-      × ((q : ℕ) → Holds p.board q (piece_of side King) ↔ (q ≡ king))
-  pub pawns : (q : ℕ) (side : Colour) → Holds p.board q (piece_of side Pawn)
-      → (0 < rank q) × (rank q < 7)
-  -- an en passant square is empty, on the sixth rank of the side to move, and beyond it stands the
-  -- pawn that made the double step
-  pub en_passant : IfSome p.ep (λ q. (rank_for p.turn q ≡ 5)
-      × (IsEmpty p.board q × Holds p.board (beyond p.turn q) (piece_of (opponent p.turn) Pawn)))
+  pub kings : HasKings p.board
+  pub pawns : HasNoEdgePawn p.board
+  pub en_passant : EnPassantHolds p.board p.turn p.ep
 
 -- a setup and the two clocks: plies since the last capture or pawn's move, and the number of the
 -- move, from 1

@@ -9,7 +9,7 @@ IsPrintable c = (33 ≤ c) × (c ≤ 126)
 pub record IsId (bytes : List ℕ) : Type 0 where
   pub some : 1 ≤ length bytes
   pub few : length bytes ≤ 64
-  pub printable : All (λ c. (33 ≤ c) × (c ≤ 126)) bytes
+  pub printable : All IsPrintable bytes
 
 -- what an id hands to a hasher: its bytes, at once
 abbrev pub hashed : List ℕ → List (List ℕ)

@@ -20,7 +20,7 @@ pub record IsMove (m : Moved) : Type 0 where
   pub from_on_board : m.from < 64
   pub to_on_board : m.to < 64
   pub moves : m.from ≢ m.to
-  pub promotes : (kind : Kind) → m.promo ≡ Some kind → (kind ≢ Pawn) × (kind ≢ King)
+  pub promotes : (kind : Kind) → m.promo ≡ Some kind → IsPromotion kind
 
 -- promotions in their order: none is 0, and a pawn becomes nothing else than these four
 abbrev pub promotion_number : Option Kind → ℕ

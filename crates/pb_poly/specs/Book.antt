@@ -23,7 +23,7 @@ book_bytes entries = flat_map entry_bytes entries
 -- these are the bytes of the entries, each field of which is in its range
 pub record BookBytes (entries : List Entry) (bytes : List ℕ) : Type 0 where
   pub bounds : All IsEntry entries
-  pub are : bytes ≡ flat_map entry_bytes entries
+  pub are : bytes ≡ book_bytes entries
 
 -- and whose keys never fall
 pub record IsBookFile (entries : List Entry) (bytes : List ℕ) : Type 0 where

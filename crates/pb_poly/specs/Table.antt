@@ -35,8 +35,7 @@ table_limit = 16384
 
 -- the bytes are a table file of these random numbers
 abbrev pub IsTableFile : List ℕ → List ℕ → Type 0
-IsTableFile randoms bytes = (length bytes ≤ 16384)
-    × ((length randoms ≡ 781) × AllZip SpellsRandom (lines bytes) randoms)
+IsTableFile randoms bytes = (length bytes ≤ table_limit) × TableText randoms bytes
 
 -- when each refusal is due
 abbrev pub IsDueTable : TableError → List ℕ → Type 0
