@@ -1,5 +1,6 @@
 -- Bitboards of a board, told by their bits, and after a change of one square.
 use Rattle.std.proofs.Common.{◌≡◌, ◌≢◌, ℕ, zero, suc, ◌+◌, ◌*◌, ◌/◌, ◌%◌, ◌^◌, ◌<◌, ◌≤◌, ◌↔◌, refl, sym, ap, ap₂, subst, ◌∙◌, arith, Bool, true, false, ◌&&◌, ◌==◌, List, [], ◌∷◌, length, ◌⊎◌, Some, None, bit_and, bit_or, w64, inl, inr, min, max, map, cond, replicate, slice_set, slice_index_or}
+use denote.Enum.Declared.{tag_of}
 use mir.Val.{bits}
 use Rattle.std.proofs.Math.Nat.{pow-suc}
 use Rattle.std.specs.Int.{bit_at, bit_not}
@@ -7,6 +8,8 @@ use Rattle.std.proofs.lemmas.Bool.{cases_order, eq-eqb, eqb-true}
 use Rattle.std.proofs.lemmas.Nat.{and_le_l, or_lt}
 use Rattle.std.proofs.lemmas.Nat.Bits.{bit_at-zero, bit_at_lowest, bit_at-suc, bit_at_and, bit_at_or, bit_at_clear_same, bit_at_clear_other, bit_at_set_same, bit_at_set_other, same_from_bits_below}
 use Rattle.std.proofs.lemmas.List.{get_or-set_same, get_or-set_other, length-set}
+use Rattle.pb_board.specs.contracts.piece.Colour as colour
+use Rattle.pb_board.specs.contracts.piece.Kind as kind
 use Rattle.pb_board.specs.declared.piece.Colour.{Colour}
 use Rattle.pb_board.specs.declared.piece.Colour.TheVariants.{White, Black}
 use Rattle.pb_board.specs.declared.piece.Kind.{Kind}
@@ -272,3 +275,13 @@ unfolding started bitboards_of
 bitboards_none xs = ap₂ made
     (map_same (λ _. 0) _ (λ c. sym (bitboard_none (is_side c) refl xs)) colours)
     (map_same (λ _. 0) _ (λ k. sym (bitboard_none (is_kind k) refl xs)) kinds)
+
+-- the number of a side, as a cast gives it
+pub colour_cast : (c : Colour) → tag_of colour.the_type c ≡ colour_number c
+colour_cast White = refl
+colour_cast Black = refl
+
+-- the number of a kind, as a cast gives it
+pub kind_cast : (k : Kind) → tag_of kind.the_type k ≡ kind_number k
+kind_cast Pawn = refl
+kind_cast k = refl

@@ -1,7 +1,7 @@
 -- What was read of the six fields of a record, and what follows for the whole.
 use Rattle.std.proofs.Common.{◌≡◌, ℕ, ◌^◌, ◌<◌, ◌↔◌, List, [], ◌∷◌, ◌++◌, length, take, drop, get_or, refl, sym, ap, subst, ◌∙◌, arith}
 use Rattle.std.proofs.lemmas.List.Elements.{All-nil, All-cons, All-append}
-use Rattle.std.specs.Prelude.{All, IfSome, IfOk, IfErr, MatchResult, Result, Ok, Err, decimal, map}
+use Rattle.std.specs.Prelude.{All, IfSome, IfOk, IfErr, Result, Ok, Err, decimal, map}
 use Rattle.std.specs.Borrow.{Bor}
 use Rattle.std.specs.List.{join_with_byte}
 use Rattle.std.proofs.lemmas.List.Splits.{join_with_byte-slice_split}
@@ -12,7 +12,7 @@ use Rattle.pb_board.specs.declared.refusal.FenError.TheVariants as refusal
 use Rattle.pb_board.specs.Board.{Place}
 use Rattle.pb_board.specs.Position.{Position, Record, IsSetup, HasKings, HasNoEdgePawn, EnPassantHolds, OnEnPassantRank}
 use Rattle.pb_board.specs.Fields.{field, fields}
-use Rattle.pb_board.specs.FourFields.{SpellFour, IsRefusedAs, refusal_of}
+use Rattle.pb_board.specs.FourFields.{SpellFour, refusal_of}
 use Rattle.pb_board.specs.Text.{castling_text, en_passant_text, fen_text, placement_text, setup_fields, turn_text}
 use Rattle.pb_board.specs.Position.{IsRecord, record_of}
 use Rattle.pb_board.specs.Refusal.{IsDueFen, IsFault, IsFirstFault, SpellsBoard, SpellsSquare, fen_errors, of_setup}
@@ -102,14 +102,13 @@ module _ (pieces four : List (List ℕ)) (p : Position) (cut : Begins pieces fou
 
 -- ---- four texts
 
-pub setup_fault : (e : FenError) (p : Position) (four : List (List ℕ)) → SpellFour p four → IsRefusedAs e p → IsFirstDue of_setup e four
-setup_fault e p four h r =
+pub setup_fault : (e : SetupError) (p : Position) (four : List (List ℕ)) → SpellFour p four → IsFirstFault e p → IsFirstDue of_setup (refusal_of e) four
+setup_fault e p four h first =
     let cut : Begins four four = record { first = refl; second = refl; third = refl; fourth = refl } in
-    subst (λ x. IsFirstDue of_setup x four) (sym r.is)
-    (first_behind (IsDueFen four) of_texts of_parts (refusal_of r.cause) (no_text_due four four p cut h) (fault_due four four p cut h r.cause r.first))
+    first_behind (IsDueFen four) of_texts of_parts (refusal_of e) (no_text_due four four p cut h) (fault_due four four p cut h e first)
 
-pub texts_refused : (e : FenError) (four : List (List ℕ)) (a b c d : List ℕ) → four ≡ a ∷ b ∷ c ∷ d ∷ [] → IsFirstDue (take 4 of_setup) e (a ∷ b ∷ c ∷ d ∷ []) → IsFirstDue of_setup e four
-texts_refused e four a b c d is h = subst (IsFirstDue of_setup e) (sym is) (first_front (IsDueFen (a ∷ b ∷ c ∷ d ∷ [])) of_texts of_parts e h)
+pub texts_refused : (e : FenError) (four : List (List ℕ)) → IsFirstDue (take 4 of_setup) e four → IsFirstDue of_setup e four
+texts_refused e four h = first_front (IsDueFen four) of_texts of_parts e h
 
 -- a list of four
 pub four_cells : {A : Type 0} (xs : List A) (d : A) → length xs ≡ 4 → xs ≡ get_or xs 0 d ∷ get_or xs 1 d ∷ get_or xs 2 d ∷ get_or xs 3 d ∷ []
@@ -168,10 +167,9 @@ module _ (text a b c d e f : List ℕ) (cut : fields 32 text ≡ a ∷ b ∷ c �
         (first_later (IsDueFen (fields 32 text)) refusal.Half refusal.Full (refusal.Full ∷ of_parts) (no_half_due half number)
         (first_here (IsDueFen (fields 32 text)) refusal.Full of_parts (λ n low lt is. bad n low lt (sym (ap (λ w. field w 5) cut) ∙ is))))
 
-    pub setup_refused : (x : FenError) (half full : ℕ) → (half < 2 ^ 16) × (e ≡ decimal half) → (0 < full) × (full < 2 ^ 16) × (f ≡ decimal full) → IsRefusedAs x p → IsFirstDue fen_errors x (fields 32 text)
-    setup_refused x half full is count r =
-        subst (λ w. IsFirstDue fen_errors w (fields 32 text)) (sym r.is)
-        (first_behind (IsDueFen (fields 32 text)) (refusal.Fields ∷ (of_texts ++ refusal.Half ∷ refusal.Full ∷ [])) of_parts (refusal_of r.cause) (no_clock_due half full is count) (fault_due (fields 32 text) (a ∷ b ∷ c ∷ d ∷ []) p six_begin h r.cause r.first))
+    pub setup_refused : (x : SetupError) (half full : ℕ) → (half < 2 ^ 16) × (e ≡ decimal half) → (0 < full) × (full < 2 ^ 16) × (f ≡ decimal full) → IsFirstFault x p → IsFirstDue fen_errors (refusal_of x) (fields 32 text)
+    setup_refused x half full is count first =
+        first_behind (IsDueFen (fields 32 text)) (refusal.Fields ∷ (of_texts ++ refusal.Half ∷ refusal.Full ∷ [])) of_parts (refusal_of x) (no_clock_due half full is count) (fault_due (fields 32 text) (a ∷ b ∷ c ∷ d ∷ []) p six_begin h x first)
 
     pub text_found : (half full : ℕ) → (half < 2 ^ 16) × (e ≡ decimal half) → (0 < full) × (full < 2 ^ 16) × (f ≡ decimal full) → IsSetup p → IsRecord (record_of p half full) × (text ≡ fen_text (record_of p half full))
     text_found half full number count lawful = (
@@ -243,10 +241,10 @@ owes_setup r four found refused = record { found = found; only = λ p. only_setu
 pub four_texts : (four : List (Bor (List ℕ))) (d : Bor (List ℕ)) → length four ≡ 4 → map (λ t. t.now) four ≡ (get_or four 0 d).now ∷ (get_or four 1 d).now ∷ (get_or four 2 d).now ∷ (get_or four 3 d).now ∷ []
 four_texts four d e = ap (λ (w : List (Bor (List ℕ))). map (λ t. t.now) w) (four_cells four d e)
 
-pub built_found : (r : Result Position FenError) (p : Position) (four : List (List ℕ)) (a b c d : List ℕ) → four ≡ a ∷ b ∷ c ∷ d ∷ [] → SpellFour p (a ∷ b ∷ c ∷ d ∷ []) → MatchResult r (λ s. (s ≡ p) × IsSetup p) (λ e. IsRefusedAs e p) → IfOk r (λ s. IsSetup s × (four ≡ setup_fields s))
-built_found (Ok s) p four a b c d is h built = (subst IsSetup (sym built.0) built.1, is ∙ h.fields_are ∙ ap setup_fields (sym built.0))
-built_found (Err e) p four a b c d is h built = tt
+-- what the four texts spell
+pub of_four : (P : List (List ℕ) → Type 0) (four : List (Bor (List ℕ))) (d : Bor (List ℕ)) → length four ≡ 4 → P ((get_or four 0 d).now ∷ (get_or four 1 d).now ∷ (get_or four 2 d).now ∷ (get_or four 3 d).now ∷ []) → P (map (λ t. t.now) four)
+of_four P four d e h = subst P (sym (four_texts four d e)) h
 
-pub built_refused : (r : Result Position FenError) (p : Position) (four : List (List ℕ)) (a b c d : List ℕ) → four ≡ a ∷ b ∷ c ∷ d ∷ [] → SpellFour p (a ∷ b ∷ c ∷ d ∷ []) → MatchResult r (λ s. (s ≡ p) × IsSetup p) (λ e. IsRefusedAs e p) → IfErr r (λ e. IsFirstDue of_setup e four)
-built_refused (Ok s) p four a b c d is h built = tt
-built_refused (Err e) p four a b c d is h built = subst (IsFirstDue of_setup e) (sym is) (setup_fault e p (a ∷ b ∷ c ∷ d ∷ []) h built)
+pub spell_four : (a b c d : List ℕ) (p : Position) → (length p.board ≡ 64) × (a ≡ placement_text p.board) → b ≡ turn_text p.turn → c ≡ castling_text p.rights → (d ≡ en_passant_text p.ep) × IfSome p.ep (OnEnPassantRank p.turn)
+    → SpellFour p (a ∷ b ∷ c ∷ d ∷ [])
+spell_four a b c d p placement turn castling ep = record { places = placement.0; fields_are = rw (placement.1, turn, castling, ep.0) refl; rank_is = ep.1 }

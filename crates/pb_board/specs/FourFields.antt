@@ -6,7 +6,6 @@ use Rattle.pb_board.specs.declared.refusal.SetupError.TheVariants as fault
 use Rattle.pb_board.specs.declared.refusal.FenError.{FenError}
 use Rattle.pb_board.specs.declared.refusal.FenError.TheVariants as fen
 use Rattle.pb_board.specs.Position.{Position, OnEnPassantRank}
-use Rattle.pb_board.specs.Refusal.{IsFirstFault}
 use Rattle.pb_board.specs.Text.{setup_fields}
 
 -- the refusal of a text whose fields spell no setup: the rank of the square was judged before
@@ -20,9 +19,3 @@ pub record SpellFour (p : Position) (four : List (List ℕ)) : Type 0 where
   pub places : length p.board ≡ 64
   pub fields_are : four ≡ setup_fields p
   pub rank_is : IfSome p.ep (OnEnPassantRank p.turn)
-
--- the refusal of this position, which is no setup
-pub record IsRefusedAs (e : FenError) (p : Position) : Type 0 where
-  pub cause : SetupError
-  pub is : e ≡ refusal_of cause
-  pub first : IsFirstFault cause p

@@ -9,7 +9,6 @@ pub mod Fields
 pub mod Text
 pub mod Ranks
 pub mod First
-pub mod Numeral
 pub mod Bitboards
 pub mod SetupRules
 pub mod Initial

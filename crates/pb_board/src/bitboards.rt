@@ -35,32 +35,6 @@ pub(crate) struct Bitboards {
 }
 
 #[inline(always)]
-fn colour_number(colour: Colour) -> usize
-    ensures value { result ≡ colour_number colour }
-    ensures few { result < 2 }
-{
-    match colour {
-        Colour::White => 0,
-        Colour::Black => 1,
-    }
-}
-
-#[inline(always)]
-fn kind_number(kind: Kind) -> usize
-    ensures value { result ≡ kind_number kind }
-    ensures few { result < 6 }
-{
-    match kind {
-        Kind::Pawn => 0,
-        Kind::Knight => 1,
-        Kind::Bishop => 2,
-        Kind::Rook => 3,
-        Kind::Queen => 4,
-        Kind::King => 5,
-    }
-}
-
-#[inline(always)]
 fn set_down(bitboards: &mut Bitboards, index: u8, place: Option<Piece>)
     requires { index < 64 }
     ensures { (b : Board) → length b ≡ 64 → bitboards.old ≡ bitboards_of b → IsEmpty b index
@@ -68,8 +42,8 @@ fn set_down(bitboards: &mut Bitboards, index: u8, place: Option<Piece>)
 {
     if let Some(piece) = place {
         let bit = 1u64 << index;
-        bitboards.sides[colour_number(piece.colour)] |= bit;
-        bitboards.kinds[kind_number(piece.kind)] |= bit;
+        bitboards.sides[piece.colour as usize] |= bit;
+        bitboards.kinds[piece.kind as usize] |= bit;
     }
 }
 
@@ -126,7 +100,7 @@ pub(crate) fn by_colour(bitboards: Bitboards, colour: Colour) -> u64
     ensures { (b : Board) (q : ℕ) → bitboards ≡ bitboards_of b
         → ((bit_at result q ≡ 1) ↔ ((k : Kind) × Holds b q (piece_of colour k))) }
 {
-    bitboards.sides[colour_number(colour)]
+    bitboards.sides[colour as usize]
 }
 
 #[inline(always)]
@@ -134,7 +108,7 @@ pub(crate) fn by_piece(bitboards: Bitboards, piece: Piece) -> u64
     ensures { (b : Board) (q : ℕ) → bitboards ≡ bitboards_of b
         → ((bit_at result q ≡ 1) ↔ Holds b q piece) }
 {
-    bitboards.sides[colour_number(piece.colour)] & bitboards.kinds[kind_number(piece.kind)]
+    bitboards.sides[piece.colour as usize] & bitboards.kinds[piece.kind as usize]
 }
 
 #[inline(always)]
@@ -142,7 +116,7 @@ pub(crate) fn by_kind(bitboards: Bitboards, kind: Kind) -> u64
     ensures { (b : Board) (q : ℕ) → bitboards ≡ bitboards_of b
         → ((bit_at result q ≡ 1) ↔ ((c : Colour) × Holds b q (piece_of c kind))) }
 {
-    bitboards.kinds[kind_number(kind)]
+    bitboards.kinds[kind as usize]
 }
 
 // A number, of which no branch is made.

@@ -118,31 +118,17 @@ impl Castling {
         ensures rook_from { result.rook_from ≡ (castling_row self).rook_from }
         ensures rook_to { result.rook_to ≡ (castling_row self).rook_to }
     {
-        match self {
-            Castling::WhiteShort => CastlingSquares {
-                king_from: Square::E1,
-                king_to: Square::G1,
-                rook_from: Square::H1,
-                rook_to: Square::F1,
-            },
-            Castling::WhiteLong => CastlingSquares {
-                king_from: Square::E1,
-                king_to: Square::C1,
-                rook_from: Square::A1,
-                rook_to: Square::D1,
-            },
-            Castling::BlackShort => CastlingSquares {
-                king_from: Square::E8,
-                king_to: Square::G8,
-                rook_from: Square::H8,
-                rook_to: Square::F8,
-            },
-            Castling::BlackLong => CastlingSquares {
-                king_from: Square::E8,
-                king_to: Square::C8,
-                rook_from: Square::A8,
-                rook_to: Square::D8,
-            },
+        let (king_from, king_to, rook_from, rook_to) = match self {
+            Castling::WhiteShort => (Square::E1, Square::G1, Square::H1, Square::F1),
+            Castling::WhiteLong => (Square::E1, Square::C1, Square::A1, Square::D1),
+            Castling::BlackShort => (Square::E8, Square::G8, Square::H8, Square::F8),
+            Castling::BlackLong => (Square::E8, Square::C8, Square::A8, Square::D8),
+        };
+        CastlingSquares {
+            king_from,
+            king_to,
+            rook_from,
+            rook_to,
         }
     }
 }

@@ -39,8 +39,6 @@ impl Fen {
         requires { 0 < full }
         ensures { result ≡ record_of setup half full }
     {
-        // The reader tells that a setup meets its rules.
-        let _turn = setup.turn();
         Fen { setup, half, full }
     }
 

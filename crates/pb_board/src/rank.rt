@@ -13,20 +13,11 @@ fn piece_of(letter: u8) -> Option<Piece>
     ensures { MatchOption result ((p : Piece) → piece_letter p ≢ letter) (λ p.
         letter ≡ piece_letter p) }
 {
-    let (colour, kind) = match letter {
-        b'P' => (Colour::White, Kind::Pawn),
-        b'N' => (Colour::White, Kind::Knight),
-        b'B' => (Colour::White, Kind::Bishop),
-        b'R' => (Colour::White, Kind::Rook),
-        b'Q' => (Colour::White, Kind::Queen),
-        b'K' => (Colour::White, Kind::King),
-        b'p' => (Colour::Black, Kind::Pawn),
-        b'n' => (Colour::Black, Kind::Knight),
-        b'b' => (Colour::Black, Kind::Bishop),
-        b'r' => (Colour::Black, Kind::Rook),
-        b'q' => (Colour::Black, Kind::Queen),
-        b'k' => (Colour::Black, Kind::King),
-        _ => return None,
+    let kind = Kind::of_letter(letter.to_ascii_lowercase())?;
+    let colour = if letter.is_ascii_uppercase() {
+        Colour::White
+    } else {
+        Colour::Black
     };
     Some(Piece { colour, kind })
 }

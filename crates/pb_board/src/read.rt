@@ -1,19 +1,19 @@
 //! Reads FEN records.
 
-ghost use Rattle.std.specs.Prelude.{◌≡◌, ◌∷◌, [], map, take, Ok, IfOk, IfErr, MatchResult};
+ghost use Rattle.std.specs.Prelude.{◌≡◌, map, take, Ok, IfOk, IfErr, MatchResult};
 ghost use Rattle.pb_board.specs.Position.{Position, Record, IsSetup, position_of};
 ghost use Rattle.pb_board.specs.Fields.{fields, space};
-ghost use Rattle.pb_board.specs.FourFields.{SpellFour, IsRefusedAs, refusal_of};
+ghost use Rattle.pb_board.specs.FourFields.{SpellFour};
 ghost use Rattle.pb_board.specs.Position.{IsRecord};
 ghost use Rattle.pb_board.specs.Refusal.{IsDueFen, IsFirstOf, fen_errors, of_setup};
 ghost use Rattle.pb_board.specs.Text.{fen_text, setup_fields};
 
 use crate::fen::Fen;
 use crate::fields::cut_fields;
-use crate::number::{read_number, read_positive};
+use crate::number::read_number;
 use crate::piece::{Colour, Piece};
 use crate::placement::read_placement;
-use crate::refusal::{FenError, SetupError};
+use crate::refusal::FenError;
 use crate::setup::{Rights, Setup};
 use crate::square::Square;
 use crate::state_fields::{read_en_passant, read_rights, read_turn};
@@ -26,17 +26,12 @@ struct FourFields {
     ep: Option<Square>,
 }
 
-fn read_four(
-    placement: &[u8],
-    turn: &[u8],
-    castling: &[u8],
-    en_passant: &[u8],
-) -> Result<FourFields, FenError>
-    ensures { MatchResult result (λ p. SpellFour (position_of p.board p.turn p.rights p.ep)
-        (placement.now ∷ turn.now ∷ castling.now ∷ en_passant.now ∷ []))
-        (IsFirstOf (take 4 of_setup) (IsDueFen (placement.now ∷ turn.now ∷ castling.now
-        ∷ en_passant.now ∷ []))) }
+fn read_four(four: [&[u8]; 4]) -> Result<FourFields, FenError>
+    ensures { let texts = map (λ t. t.now) four.entry in
+        MatchResult result (λ p. SpellFour (position_of p.board p.turn p.rights p.ep) texts)
+        (IsFirstOf (take 4 of_setup) (IsDueFen texts)) }
 {
+    let [placement, turn, castling, en_passant] = four;
     let Some(board) = read_placement(placement) else {
         return Err(FenError::Placement);
     };
@@ -57,32 +52,6 @@ fn read_four(
     })
 }
 
-fn build(
-    board: [Option<Piece>; 64],
-    turn: Colour,
-    rights: Rights,
-    ep: Option<Square>,
-) -> Result<Setup, FenError>
-    ensures { let p = position_of board turn rights ep in
-        MatchResult result (λ s. (s ≡ p) × IsSetup p) (λ e. IsRefusedAs e p) }
-{
-    match Setup::build(board, turn, rights, ep) {
-        Ok(setup) => Ok(setup),
-        Err(error) => Err(refusal_of(error)),
-    }
-}
-
-// The rank of the en passant square was judged before.
-fn refusal_of(error: SetupError) -> FenError
-    ensures { result ≡ refusal_of error }
-{
-    match error {
-        SetupError::Kings => FenError::Kings,
-        SetupError::Pawns => FenError::Pawns,
-        SetupError::EnPassant => FenError::EnPassantPawn,
-    }
-}
-
 /// Reads the setup that the first four fields of a record spell (PGN Standard 16.1.3.1 to 16.1.3.4).
 ///
 /// # Errors
@@ -95,8 +64,8 @@ pub fn read_setup(four: [&[u8]; 4]) -> Result<Setup, FenError>
         → result ≡ Ok p }
     ensures refused { IfErr result (IsFirstOf of_setup (IsDueFen (map (λ t. t.now) four.entry))) }
 {
-    let spelt = read_four(four[0], four[1], four[2], four[3])?;
-    build(spelt.board, spelt.turn, spelt.rights, spelt.ep)
+    let spelt = read_four(four)?;
+    Ok(Setup::build(spelt.board, spelt.turn, spelt.rights, spelt.ep)?)
 }
 
 /// Reads the record that the text spells: six fields with single spaces between (PGN Standard 16.1).
@@ -109,21 +78,17 @@ pub fn read_fen(text: &[u8]) -> Result<Fen, FenError>
     ensures only { (f : Record) → IsRecord f → text.now ≡ fen_text f → result ≡ Ok f }
     ensures refused { IfErr result (IsFirstOf fen_errors (IsDueFen (fields space text.now))) }
 {
-    let Some(fields) = cut_fields(text) else {
+    let Some((placement, turn, castling, en_passant, half, full)) = cut_fields(text) else {
         return Err(FenError::Fields);
     };
-    let spelt = read_four(
-        fields.placement,
-        fields.turn,
-        fields.castling,
-        fields.en_passant,
-    )?;
-    let Some(half) = read_number(fields.half) else {
+    let spelt = read_four([placement, turn, castling, en_passant])?;
+    let Some(half) = read_number(half) else {
         return Err(FenError::Half);
     };
-    let Some(full) = read_positive(fields.full) else {
+    let full = read_number(full).unwrap_or(0);
+    if full == 0 {
         return Err(FenError::Full);
-    };
-    let setup = build(spelt.board, spelt.turn, spelt.rights, spelt.ep)?;
+    }
+    let setup = Setup::build(spelt.board, spelt.turn, spelt.rights, spelt.ep)?;
     Ok(Fen::with_clocks(setup, half, full))
 }

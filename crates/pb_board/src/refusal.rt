@@ -46,6 +46,21 @@ pub enum FenError {
     EnPassantPawn,
 }
 
+// The rank of the en passant square is judged before.
+impl From<SetupError> for FenError {
+    ghost use Rattle.pb_board.specs.FourFields.{refusal_of};
+
+    ghost from_gives = { λ e x. x ≡ refusal_of e };
+
+    fn from(error: SetupError) -> FenError {
+        match error {
+            SetupError::Kings => FenError::Kings,
+            SetupError::Pawns => FenError::Pawns,
+            SetupError::EnPassant => FenError::EnPassantPawn,
+        }
+    }
+}
+
 impl FenError {
     ghost use Rattle.pb_board.specs.Words.{word_of};
 

@@ -5,7 +5,7 @@ ghost use Rattle.std.specs.Prelude.{◌≡◌, ◌↔◌, ℕ, IsTrue, MatchResu
 use crate::bitboards::{self, Bitboards, initial_bitboards};
 use crate::piece::{Colour, Piece};
 use crate::refusal::SetupError;
-use crate::setup_rules::{has_no_edge_pawn, is_en_passant_square, one_king, only_king};
+use crate::setup_rules::{has_no_edge_pawn, has_one_king, is_en_passant_square, only_king};
 use crate::square::Square;
 use crate::state_fields::en_passant_rank;
 use std::marker::Model;
@@ -96,12 +96,9 @@ impl Setup {
             MatchResult result (λ s. (s ≡ p) × IsSetup p) (λ e. IsFirstFault e p) }
     {
         let bitboards = bitboards::bitboards_of(&board);
-        let Some(_white) = one_king(bitboards, Colour::White) else {
+        if !has_one_king(bitboards, Colour::White) || !has_one_king(bitboards, Colour::Black) {
             return Err(SetupError::Kings);
-        };
-        let Some(_black) = one_king(bitboards, Colour::Black) else {
-            return Err(SetupError::Kings);
-        };
+        }
         if !has_no_edge_pawn(bitboards) {
             return Err(SetupError::Pawns);
         }
@@ -179,16 +176,7 @@ impl Setup {
     pub fn is_start(&self) -> bool
         ensures { IsTrue result ↔ (self.now ≡ initial) }
     {
-        let Setup {
-            bitboards,
-            turn,
-            rights,
-            ep,
-        } = *self;
-        turn == Colour::White
-            && rights == Rights::ALL
-            && ep.is_none()
-            && bitboards == initial_bitboards()
+        self.turn == Colour::White && *self == Setup::start()
     }
 
     /// Gives what stands on each square, by square index.

@@ -1,6 +1,6 @@
 //! The rules that every setup meets.
 
-ghost use Rattle.std.specs.Prelude.{◌≡◌, ◌↔◌, ℕ, IsTrue, MatchOption, Some, length};
+ghost use Rattle.std.specs.Prelude.{◌≡◌, ◌↔◌, ℕ, IsTrue, Some, length};
 ghost use Rattle.pb_board.specs.declared.piece.Colour.{Colour};
 ghost use Rattle.pb_board.specs.Board.{Board};
 ghost use Rattle.pb_board.specs.Bitboards.{bitboards_of};
@@ -11,18 +11,13 @@ use crate::bitboards::{self, Bitboards};
 use crate::piece::{Colour, Kind, Piece};
 use crate::square::Square;
 
-pub(crate) fn one_king(bitboards: Bitboards, colour: Colour) -> Option<Square>
+pub(crate) fn has_one_king(bitboards: Bitboards, colour: Colour) -> bool
     ensures { (b : Board) → bitboards ≡ bitboards_of b
-        → MatchOption result ((king : ℕ) → ¬ IsOnlyKing b colour king) (IsOnlyKing b colour) }
+        → (IsTrue result ↔ ((king : ℕ) × IsOnlyKing b colour king)) }
 {
     let kind = Kind::King;
     let kings = bitboards::by_piece(bitboards, Piece { colour, kind });
-    let square = Square::from_index(kings.trailing_zeros() as u8)?;
-    if kings == 1 << square.index() {
-        Some(square)
-    } else {
-        None
-    }
+    kings == 1 << (kings.trailing_zeros() % 64)
 }
 
 #[inline(always)]

@@ -2,12 +2,12 @@ use Rattle.std.proofs.Common.{◌≡◌, Option, None, slice_set, ap, sym, subst
 use Rattle.std.proofs.lemmas.List.{set-get_or}
 use Rattle.pb_board.specs.Board.{Board, Place}
 use Rattle.pb_board.specs.Bitboards.{bitboards_of}
-use Rattle.pb_board.proofs.BitboardBits.{bitboards_put}
+use Rattle.pb_board.proofs.BitboardBits.{bitboards_put, colour_cast, kind_cast}
 use Rattle.pb_board.proofs.bitboards.set_down.Goals as goal
 
 pub returns-in-Some : goal.returns-in-Some
 returns-in-Some c = λ b full e empty.
-    rw (c.in-Some.is, c.colour_number.ensures.value, c.kind_number.ensures.value, e) (bitboards_put b c.args.index full c.requires c.in-Some.piece empty)
+    rw (c.in-Some.is, colour_cast c.in-Some.piece.colour, kind_cast c.in-Some.piece.kind, e) (bitboards_put b c.args.index full c.requires c.in-Some.piece empty)
 
 pub returns-in_default : goal.returns-in_default
 returns-in_default c = λ b full e empty.
