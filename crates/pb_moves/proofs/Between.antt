@@ -1,5 +1,5 @@
 -- What lies between two squares of one line, told from the two ends.
-use Rattle.std.proofs.Common.{◌≡◌, ◌≢◌, ℕ, ◌<◌, ◌≤◌, ◌⊎◌, ◌↔◌, ◌+◌, ◌*◌, arith, inl, inr, bit_and, bit_or}
+use Rattle.std.proofs.Common.{◌≢◌, ℕ, ◌<◌, ◌⊎◌, ◌↔◌, arith, inl, inr, bit_and, bit_or}
 use Rattle.std.specs.Int.Bits.{bit_xor}
 use Rattle.std.proofs.lemmas.Bool.{cases_lt, cases_order}
 use Rattle.pb_board.specs.declared.piece.Kind.{Kind}
@@ -7,7 +7,7 @@ use Rattle.pb_board.specs.declared.piece.Kind.TheVariants.{Bishop, Rook, Queen}
 use Rattle.pb_moves.specs.Attackers.{In}
 use Rattle.pb_moves.specs.Attacks.{IsBetween, Pattern, files_apart, ranks_apart}
 use Rattle.pb_moves.specs.Reach.{LiesBetween, IsDiagonal, IsOrthogonal}
-use Rattle.pb_moves.proofs.SameAttacks.{between_from, between_to, queen_from, queen_to, straight_from, straight_to}
+use Rattle.pb_moves.proofs.SameAttacks.{between_from, between_to, queen_from, straight_from, straight_to}
 use Rattle.pb_moves.proofs.Sets.{in_and, in_both, in_first, in_one, in_or, in_second, of_one}
 use Rattle.pb_moves.proofs.Targets.{up_from, up_tells}
 

@@ -1,6 +1,6 @@
 -- The moves of two pieces: a pawn that takes another en passant goes by way of that pawn's square,
 -- and a rook goes after its king.
-use Rattle.std.proofs.Common.{◌≡◌, ◌≢◌, ℕ, ◌+◌, ◌*◌, ◌<◌, arith, refl, sym, ap, subst, ◌∙◌, inl, inr, Some, None, [], ◌∷◌, length}
+use Rattle.std.proofs.Common.{◌≡◌, ◌≢◌, ℕ, ◌+◌, ◌*◌, ◌<◌, arith, sym, ap, subst, ◌∙◌, inl, inr, Some, None, [], ◌∷◌, length}
 use Rattle.std.proofs.lemmas.List.{set-set}
 use Rattle.std.proofs.lemmas.List.Elements.{All-nil, All-cons}
 use Rattle.pb_board.specs.declared.piece.Colour.{Colour}

@@ -1,19 +1,12 @@
 -- From the cases of a move to whether it is legal.
-use Rattle.std.proofs.Common.{◌≡◌, ◌≢◌, ℕ, List, [], ◌∷◌, subst, sym, Option, Some, None}
-use Rattle.pb_board.specs.declared.piece.Colour.{Colour}
-use Rattle.pb_board.specs.declared.piece.Kind.{Kind}
-use Rattle.pb_board.specs.declared.piece.Kind.TheVariants.{Pawn, King}
+use Rattle.std.proofs.Common.{◌≡◌, subst}
 use Rattle.pb_board.specs.declared.piece.Piece.{Piece}
-use Rattle.pb_board.specs.Board.{Board, Place, Holds}
-use Rattle.pb_board.specs.Position.{Position, IsSetup, beyond}
+use Rattle.pb_board.specs.Board.{Board, Holds}
+use Rattle.pb_board.specs.Position.{Position, IsSetup}
 use Rattle.pb_moves.specs.Reach.{KingInReach}
-use Rattle.pb_board.specs.declared.castling.Castling.{Castling}
-use Rattle.pb_moves.specs.declared.move_kind.MoveKind.{MoveKind}
 use Rattle.pb_moves.specs.Moved.{Moved}
 use Rattle.pb_moves.specs.Candidate.{HoldsOwn}
-use Rattle.pb_board.specs.Castling.{castling_row}
-use Rattle.pb_moves.specs.Cases.{Becomes, Goes, PieceMove, PawnStep, PawnDouble, PawnCapture, EnPassant, Castles, CaseOf, piece_move, pawn_step, pawn_double, pawn_capture, en_passant, castles, Case, SafeCase}
-use Rattle.pb_moves.specs.MoveKind.{Finds}
+use Rattle.pb_moves.specs.Cases.{CaseOf, Case, SafeCase}
 use Rattle.pb_moves.proofs.Unique.{case_one}
 
 -- the case of the piece that stands on `from`

@@ -1,8 +1,7 @@
 -- Sets of squares as numbers: what their meets and joins have, and when they are empty.
-use Rattle.std.proofs.Common.{◌≡◌, ℕ, zero, ◌+◌, ◌-◌, ◌*◌, ◌%◌, ◌<◌, ◌≤◌, ◌^◌, ◌⊎◌, arith, sym, subst, ◌∙◌, inl, inr, bit_and, bit_or, w64}
+use Rattle.std.proofs.Common.{◌≡◌, ℕ, ◌<◌, ◌^◌, ◌⊎◌, arith, subst, ◌∙◌, inl, inr, bit_and, bit_or, w64}
 use Rattle.std.specs.Int.{bit_at, bit_not, trailing_zeros}
 use Rattle.std.specs.Int.Bits.{bit_xor}
-use Rattle.std.proofs.lemmas.Bool.{cases_lt}
 use Rattle.std.proofs.lemmas.Nat.Bits.{bit_at-zero, bit_at-lt, bit_at_and, bit_at_not, bit_at_or, bit_at_xor}
 use Rattle.pb_moves.specs.Attackers.{In}
 use Rattle.pb_moves.proofs.Rising.{zeros_some, low_bit}

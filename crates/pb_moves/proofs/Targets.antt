@@ -9,7 +9,7 @@ use Rattle.pb_board.specs.Board.{file, rank, rank_for, IsForward}
 use Rattle.pb_moves.specs.declared.target_tables.TheConstants.{TARGETS}
 use Rattle.pb_board.specs.declared.piece.Kind.{Kind}
 use Rattle.pb_board.specs.declared.piece.Kind.TheVariants.{Pawn, Knight, Bishop, Rook, Queen, King}
-use Rattle.pb_moves.specs.Candidate.{MayTarget, Points, Steps, row_of}
+use Rattle.pb_moves.specs.Candidate.{MayTarget, Steps, row_of}
 use Rattle.pb_moves.specs.Attacks.{Pattern, files_apart, ranks_apart}
 use Rattle.pb_moves.proofs.Below.{all_below, all_below_at}
 

@@ -11,7 +11,7 @@ use Rattle.pb_board.specs.declared.castling.Castling.{Castling}
 use Rattle.pb_board.specs.Castling.{castling_row}
 use Rattle.pb_moves.specs.declared.move_kind.MoveKind.{MoveKind}
 use Rattle.pb_moves.specs.declared.move_kind.MoveKind.TheVariants.{One}
-use Rattle.pb_moves.specs.Attacks.{files_apart, ranks_apart}
+use Rattle.pb_moves.specs.Attacks.{ranks_apart}
 use Rattle.pb_moves.specs.Candidate.{GoesTo, Steps}
 use Rattle.pb_moves.specs.Cases.{Becomes, Castles, CaseOf, EnPassant, Goes, IsCapturable, UnusualMove, UsualMove}
 use Rattle.pb_moves.specs.Cases.{piece_move, pawn_step, pawn_double, pawn_capture, en_passant, castles}

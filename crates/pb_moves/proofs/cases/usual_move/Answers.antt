@@ -1,4 +1,3 @@
-use Rattle.std.proofs.Common.{rules}
 use Rattle.std.proofs.lemmas.Bool.{and_parts}
 use Rattle.pb_moves.proofs.Targets.{both}
 use Rattle.pb_moves.proofs.Usual.{usual_found, usual_none, usual_unnamed}
