@@ -3,7 +3,7 @@
 ghost use Rattle.std.specs.Prelude.{◌≡◌, ◌↔◌, ℕ, IsTrue, MatchResult};
 
 use crate::bitboards::{self, Bitboards, initial_bitboards};
-use crate::piece::{Colour, Piece};
+use crate::piece::{Colour, Kind, Piece};
 use crate::refusal::SetupError;
 use crate::setup_rules::{has_no_edge_pawn, has_one_king, is_en_passant_square, only_king};
 use crate::square::Square;
@@ -76,6 +76,7 @@ impl Setup {
     ghost use Rattle.std.specs.Int.{bit_at};
     ghost use Rattle.pb_board.specs.Initial.{initial};
     ghost use Rattle.pb_board.specs.Piece.{opponent, piece_of};
+    ghost use Rattle.pb_board.specs.declared.piece.Colour.{Colour};
     ghost use Rattle.pb_board.specs.declared.piece.Kind.{Kind};
     ghost use Rattle.pb_board.specs.Position.{IsSetup, IsOnlyKing, position_of, with_piece_moved};
     ghost use Rattle.pb_board.specs.MovedPiece.{with_two_moved};
@@ -235,6 +236,15 @@ impl Setup {
         ensures rules { IsSetup self.now }
     {
         bitboards::by_colour(self.bitboards, colour)
+    }
+
+    /// Gives the squares of the pieces of this kind, as `occupied` does.
+    #[inline(always)]
+    pub fn by_kind(&self, kind: Kind) -> u64
+        ensures { (q : ℕ) → (bit_at result q ≡ 1)
+            ↔ ((colour : Colour) × Holds self.now.board q (piece_of colour kind)) }
+    {
+        bitboards::by_kind(self.bitboards, kind)
     }
 
     /// Gives the squares of this piece, as `occupied` does.

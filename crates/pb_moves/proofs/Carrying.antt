@@ -1,9 +1,10 @@
 -- The moves of two pieces: a pawn that takes another en passant goes by way of that pawn's square,
 -- and a rook goes after its king.
-use Rattle.std.proofs.Common.{◌≡◌, ◌≢◌, ℕ, ◌+◌, ◌*◌, ◌<◌, arith, refl, sym, ap, subst, ◌∙◌, inr, Some, None, [], ◌∷◌, length}
+use Rattle.std.proofs.Common.{◌≡◌, ◌≢◌, ℕ, ◌+◌, ◌*◌, ◌<◌, arith, sym, ap, subst, ◌∙◌, inl, inr, Some, None, [], ◌∷◌, length}
 use Rattle.std.proofs.lemmas.List.{set-set}
 use Rattle.std.proofs.lemmas.List.Elements.{All-nil, All-cons}
 use Rattle.pb_board.specs.declared.piece.Colour.{Colour}
+use Rattle.pb_board.specs.declared.piece.Colour.TheVariants.{White, Black}
 use Rattle.pb_board.specs.declared.piece.Kind.{Kind}
 use Rattle.pb_board.specs.declared.piece.Kind.TheVariants.{Pawn, King}
 use Rattle.pb_board.specs.declared.piece.Piece.{Piece}
@@ -17,7 +18,7 @@ use Rattle.pb_board.specs.Castling.{castling_row}
 use Rattle.pb_moves.specs.Attacks.{files_apart, ranks_apart}
 use Rattle.pb_moves.specs.Candidate.{HoldsOwn}
 use Rattle.pb_moves.specs.Castling.{RowAllows, rook_goes}
-use Rattle.pb_moves.specs.Cases.{Becomes, Castles, EnPassant, Goes}
+use Rattle.pb_moves.specs.Cases.{Becomes, Castles, EnPassant, Goes, last_rank}
 use Rattle.pb_moves.specs.Successor.{Differs}
 use Rattle.pb_moves.specs.declared.move_kind.MoveKind.TheVariants.{Two}
 use Rattle.pb_moves.specs.MoveKind.{LeadsTo}
@@ -26,13 +27,13 @@ use Rattle.pb_moves.specs.Reach.{Reaches}
 use Rattle.pb_moves.proofs.MovedPiece.{put}
 use Rattle.pb_moves.proofs.Castlings.{rows}
 use Rattle.pb_moves.proofs.Differing.{All-two, at_put_other, at_put_same, carried_put, differs_put, length_put, lifted_put, off_one, off_two}
-use Rattle.pb_moves.proofs.Kept.{double_becomes, en_passant_rank_inside}
+use Rattle.pb_moves.proofs.Kept.{en_passant_rank_inside}
 use Rattle.pb_moves.proofs.Kings.{castling_unpinned, castling_king, gone_is_beyond, pawn_reach}
 use Rattle.pb_moves.proofs.Successors.{castled_writes}
 use Rattle.pb_moves.proofs.Unique.{en_passant_at, pawn_files, piece_is, step_ranks}
 
 -- a piece that goes where it may, in the place of what stood there
-goes_normal : (s : Position) (m : Moved) (p : Piece) (kind : Kind) → length s.board ≡ 64 → IsMove m → p.colour ≡ s.turn → Becomes p.colour m p.kind kind
+pub goes_normal : (s : Position) (m : Moved) (p : Piece) (kind : Kind) → length s.board ≡ 64 → IsMove m → p.colour ≡ s.turn → Becomes p.colour m p.kind kind
     → Goes s m p [] (with_piece_moved s.board m.from m.to (piece_of p.colour kind))
 goes_normal s m p kind full is own becomes =
     let B : Colour → Type 0 = λ c. Becomes c m p.kind kind in
@@ -42,16 +43,6 @@ goes_normal s m p kind full is own becomes =
       becomes = subst B own becomes;
       board = carried_put s.board m.from m.to (piece_of s.turn kind) full is.from_on_board is.to_on_board is.moves;
     })
-
-pub piece_goes : (s : Position) (m : Moved) (p : Piece) → length s.board ≡ 64 → IsMove m → p.colour ≡ s.turn → p.kind ≢ Pawn → m.promo ≡ None
-    → Goes s m p [] (with_piece_moved s.board m.from m.to p)
-piece_goes s m p full is own no_pawn none = goes_normal s m p p.kind full is own (inr ((λ pawn. absurd (no_pawn pawn)), none, refl))
-
-pub pawn_goes : (s : Position) (m : Moved) (p : Piece) (kind : Kind) → length s.board ≡ 64 → IsMove m → p.colour ≡ s.turn → p.kind ≡ Pawn → Becomes p.colour m Pawn kind
-    → Goes s m p [] (with_piece_moved s.board m.from m.to (piece_of p.colour kind))
-pawn_goes s m p kind full is own pawn becomes =
-    let B : Kind → Type 0 = λ k. Becomes p.colour m k kind in
-    goes_normal s m p kind full is own (subst B (sym pawn) becomes)
 
 -- what stands on the squares after a piece has gone
 arrives_at : (board : Board) (c : MovedPiece) → length board ≡ 64 → c.to < 64 → at (with_moved board c) c.to ≡ Some c.piece
@@ -89,16 +80,26 @@ goes_past p old from to gone full on_from on_to on_gone ne apart_from apart_to =
     let same = ap (λ (x : Board). put x to (Some p)) (set-set left gone (Some p) None) in
     subst P (sym same) (past_in_order old (put (put left gone None) to (Some p)) a b c three)
 
-pub takes_past : (s : Position) (m : Moved) (pawn : Piece) (kind : Kind) (from to gone : ℕ) → IsSetup s → IsMove m → HoldsOwn s m.from pawn → pawn.kind ≡ Pawn
-    → Becomes pawn.colour m Pawn kind → s.ep ≡ Some m.to → Reaches pawn s.board m.from m.to → from ≡ m.from → to ≡ m.to → gone ≡ 8 * rank m.from + file m.to
+not_last : (side : Colour) (q : ℕ) → (0 < rank q) × (rank q < 7) → rank q ≢ last_rank side
+not_last White q h e = absurd (omega (arith, e, h.1))
+not_last Black q h e = absurd (omega (arith, e, h.0))
+
+-- a pawn that takes another en passant isn't promoted
+pub passes_unpromoted : (s : Position) (m : Moved) (pawn : Piece) (new : Board) → IsSetup s → EnPassant s m pawn new → m.promo ≡ None
+passes_unpromoted s m pawn new ok x =
+    elim x.after.becomes [
+      | inl promotes ↦ absurd (not_last s.turn m.to (en_passant_rank_inside s.turn m.to (en_passant_at s m.to ok x.square).0) promotes.1)
+      | inr stays ↦ stays.1
+    ]
+
+pub takes_past : (s : Position) (m : Moved) (pawn : Piece) (from to gone : ℕ) → IsSetup s → IsMove m → HoldsOwn s m.from pawn → pawn.kind ≡ Pawn
+    → m.promo ≡ None → s.ep ≡ Some m.to → Reaches pawn s.board m.from m.to → from ≡ m.from → to ≡ m.to → gone ≡ 8 * rank m.from + file m.to
     → LeadsTo (EnPassant s m pawn) s m (Two (going from gone pawn) (going gone to pawn))
-takes_past s m pawn kind from to gone ok is own is_pawn becomes square reaches from_is to_is gone_is =
+takes_past s m pawn from to gone ok is own is_pawn none square reaches from_is to_is gone_is =
     let side = s.turn in
-    let B : Colour → Type 0 = λ c. Becomes c m Pawn kind in
     let rank_is = en_passant_at s m.to ok square in
-    let stays : kind ≡ Pawn = double_becomes side m Pawn kind refl (en_passant_rank_inside side m.to rank_is.0) (subst B own.own becomes) in
-    let K : Kind → Kind → Type 0 = λ before after. Becomes side m before after in
-    let pawn_stays : Becomes side m pawn.kind Pawn = subst (λ (k : Kind). K k Pawn) (sym is_pawn) (subst (K Pawn) stays (subst B own.own becomes)) in
+    let inside = en_passant_rank_inside side m.to rank_is.0 in
+    let pawn_stays : Becomes side m pawn.kind Pawn = inr ((λ pawn. not_last side m.to inside), none, sym is_pawn) in
     let F : Colour → Type 0 = λ c. IsForward c 1 m.from m.to in
     let forward = subst F own.own (pawn_reach pawn.colour pawn.kind s.board m.from m.to reaches is_pawn) in
     let files : files_apart m.from m.to ≡ 1 = pawn_files pawn.colour pawn.kind s.board m.from m.to reaches is_pawn in

@@ -10,50 +10,52 @@ use Rattle.pb_board.specs.MovedPiece.{with_moved, with_two_moved}
 use Rattle.pb_board.specs.Position.{Position, IsSetup, IsOnlyKing, with_piece_moved}
 use Rattle.pb_moves.specs.declared.move_kind.MoveKind.{MoveKind}
 use Rattle.pb_moves.specs.declared.move_kind.MoveKind.TheVariants.{Two}
-use Rattle.pb_moves.specs.declared.attackers.Attackers.{Attackers}
+use Rattle.pb_moves.specs.declared.attackers.Sight.{Sight}
 use Rattle.pb_moves.specs.Moved.{Moved, IsMove}
 use Rattle.pb_moves.specs.MoveKind.{CanGo, Fits, LeadsTo, board_by}
+use Rattle.pb_moves.specs.Attacks.{IsAttacked}
 use Rattle.pb_moves.specs.Reach.{IsReached, KingInReach}
 use Rattle.pb_moves.specs.Candidate.{HoldsOwn}
 use Rattle.pb_moves.specs.Cases.{CaseOf, SafeCase}
 use Rattle.pb_moves.specs.Successor.{Differs}
-use Rattle.pb_moves.specs.Attackers.{AreAttackers}
+use Rattle.pb_moves.specs.Attackers.{IsSight}
 use Rattle.pb_moves.proofs.Differing.{carried_put, holds_on_board, length_put}
 use Rattle.pb_moves.proofs.Legality.{not_legal_in_check, legal_out_of_check}
 use Rattle.pb_moves.proofs.Pins.{differ}
+use Rattle.pb_moves.proofs.SameAttacks.{attacked_from, attacked_to}
 
 pub own_differs : (side enemy colour : Colour) → enemy ≡ opponent side → colour ≡ side → colour ≢ enemy
 own_differs side enemy colour e c same =
     let both : opponent side ≡ side = sym e ∙ (sym same ∙ c) in differ side both
 
--- what is seen of the enemy's attackers before and after the side to move has moved a piece
-abbrev pub Follows : Position → Attackers → ℕ → ℕ → Attackers → Type 0
-Follows s seen from to after = (old new : Board) (piece own : Piece) → AreAttackers old (opponent s.turn) seen → Differs old new ((from, None) ∷ (to, Some piece) ∷ [])
-    → piece.colour ≡ s.turn → Holds old from own → own.colour ≡ s.turn → AreAttackers new (opponent s.turn) after
+-- what is seen of the enemy before and after the side to move has moved a piece
+abbrev pub Follows : Position → Sight → ℕ → ℕ → Sight → Type 0
+Follows s seen from to after = (old new : Board) (piece own : Piece) → IsSight s.board old (opponent s.turn) seen → Differs old new ((from, None) ∷ (to, Some piece) ∷ [])
+    → piece.colour ≡ s.turn → Holds old from own → own.colour ≡ s.turn → IsSight s.board new (opponent s.turn) after
 
-pub follows : (s : Position) (seen : Attackers) (from to : ℕ) (after : Attackers)
-    → ((old new : Board) (by : Colour) (piece own : Piece) → AreAttackers old by seen → Differs old new ((from, None) ∷ (to, Some piece) ∷ []) → piece.colour ≢ by → Holds old from own → own.colour ≢ by → AreAttackers new by after)
+pub follows : (s : Position) (seen : Sight) (from to : ℕ) (after : Sight)
+    → ((first old new : Board) (by : Colour) (piece own : Piece) → IsSight first old by seen → Differs old new ((from, None) ∷ (to, Some piece) ∷ []) → piece.colour ≢ by → Holds old from own → own.colour ≢ by → IsSight first new by after)
     → Follows s seen from to after
 follows s seen from to after carries old new piece own sees moved arrives stands leaves =
     let other = λ (p : Piece) (e : p.colour ≡ s.turn). own_differs s.turn (opponent s.turn) p.colour refl e in
-    carries old new (opponent s.turn) piece own sees moved (other piece arrives) stands (other own leaves)
+    carries s.board old new (opponent s.turn) piece own sees moved (other piece arrives) stands (other own leaves)
 
 -- what is seen after each kind of move
-pub sees_normal : (s : Position) (m : Moved) (piece arriving : Piece) (seen after : Attackers) → IsSetup s → IsMove m → HoldsOwn s m.from piece → arriving.colour ≡ s.turn
-    → AreAttackers s.board (opponent s.turn) seen → Follows s seen m.from m.to after → AreAttackers (with_piece_moved s.board m.from m.to arriving) (opponent s.turn) after
+pub sees_normal : (s : Position) (m : Moved) (piece arriving : Piece) (seen after : Sight) → IsSetup s → IsMove m → HoldsOwn s m.from piece → arriving.colour ≡ s.turn
+    → IsSight s.board s.board (opponent s.turn) seen → Follows s seen m.from m.to after → IsSight s.board (with_piece_moved s.board m.from m.to arriving) (opponent s.turn) after
 sees_normal s m piece arriving seen after ok is own arrives sees carries =
     carries s.board (with_piece_moved s.board m.from m.to arriving) arriving piece sees
     (carried_put s.board m.from m.to arriving ok.places is.from_on_board is.to_on_board is.moves) arrives own.stands own.own
 
-sees_going : (s : Position) (board : Board) (c : MovedPiece) (seen after : Attackers) → length board ≡ 64 → CanGo board s.turn c
-    → AreAttackers board (opponent s.turn) seen → Follows s seen c.from c.to after → AreAttackers (with_moved board c) (opponent s.turn) after
+sees_going : (s : Position) (board : Board) (c : MovedPiece) (seen after : Sight) → length board ≡ 64 → CanGo board s.turn c
+    → IsSight s.board board (opponent s.turn) seen → Follows s seen c.from c.to after → IsSight s.board (with_moved board c) (opponent s.turn) after
 sees_going s board c seen after full can sees carries =
     carries board (with_moved board c) c.piece c.piece sees
     (carried_put board c.from c.to c.piece full (holds_on_board board c.from c.piece full can.stands) can.on_board can.moves) can.own can.stands can.own
 
-pub sees_two : (s : Position) (first second : MovedPiece) (seen one two : Attackers) → IsSetup s → Fits (Two first second) s
-    → AreAttackers s.board (opponent s.turn) seen → Follows s seen first.from first.to one → Follows s one second.from second.to two
-    → AreAttackers (with_two_moved s.board first second) (opponent s.turn) two
+pub sees_two : (s : Position) (first second : MovedPiece) (seen one two : Sight) → IsSetup s → Fits (Two first second) s
+    → IsSight s.board s.board (opponent s.turn) seen → Follows s seen first.from first.to one → Follows s one second.from second.to two
+    → IsSight s.board (with_two_moved s.board first second) (opponent s.turn) two
 sees_two s first second seen one two ok fits sees there on =
     let between = with_moved s.board first in
     let full = length_put _ first.to (Some first.piece) (length_put s.board first.from None ok.places) in
@@ -83,12 +85,14 @@ test_tells s m piece new enemy king false ok own case e only tells = (
   λ legal. refl,
 )
 
-pub safe_test : (s : Position) (m : Moved) (piece : Piece) (kind : MoveKind) (side enemy : Colour) (king : ℕ) (attackers : Attackers) (hit : Bool) → IsSetup s
+pub safe_test : (s : Position) (m : Moved) (piece : Piece) (kind : MoveKind) (side enemy : Colour) (king : ℕ) (sight : Sight) (hit : Bool) → IsSetup s
     → HoldsOwn s m.from piece → LeadsTo (CaseOf s m piece) s m kind → side ≡ s.turn → enemy ≡ opponent side
-    → ((b : Board) → CaseOf s m piece b → IsOnlyKing b s.turn king) → AreAttackers (board_by kind m s.board) (opponent s.turn) attackers
-    → ((b : Board) → AreAttackers b enemy attackers → (IsTrue hit ↔ IsReached b enemy king)) → (IsTrue (not hit) ↔ SafeCase s m)
-safe_test s m piece kind side enemy king attackers hit ok own leads same e only sees tells =
+    → ((b : Board) → CaseOf s m piece b → IsOnlyKing b s.turn king) → IsSight s.board (board_by kind m s.board) (opponent s.turn) sight
+    → ((b : Board) → IsSight s.board b enemy sight → (IsTrue hit ↔ IsAttacked b enemy king)) → (IsTrue (not hit) ↔ SafeCase s m)
+safe_test s m piece kind side enemy king sight hit ok own leads same e only sees tells =
     let new = board_by kind m s.board in
     let other : enemy ≡ opponent s.turn = e ∙ ap opponent same in
-    let S : Colour → Type 0 = λ x. AreAttackers new x attackers in
-    test_tells s m piece new enemy king hit ok own leads.1 other (only new leads.1) (tells new (subst S (sym other) sees))
+    let S : Colour → Type 0 = λ x. IsSight s.board new x sight in
+    let told = tells new (subst S (sym other) sees) in
+    test_tells s m piece new enemy king hit ok own leads.1 other (only new leads.1)
+    ((λ h. attacked_from new enemy king (told.0 h)), λ reached. told.1 (attacked_to new enemy king reached))

@@ -3,9 +3,7 @@ pub mod Targets
 pub mod Rising
 pub mod Between
 pub mod Sets
-pub mod ClearWays
 pub mod Seen
-pub mod NearTargets
 pub mod MovedPiece
 pub mod Differing
 pub mod Unique
@@ -17,8 +15,10 @@ pub mod LegalMoves
 pub mod Successors
 pub mod SameAttacks
 pub mod SameCastling
-pub mod Patterns
 pub mod SameMoves
+pub mod Aiming
+pub mod Reached
+pub mod Usual
 pub mod Pins
 pub mod Changing
 pub mod Carrying

@@ -1,5 +1,5 @@
 -- A list of legal moves in order, one place at a time.
-use Rattle.std.proofs.Common.{◌≡◌, ℕ, ◌+◌, ◌*◌, ◌<◌, ◌≤◌, ◌⊎◌, refl, arith, inl, inr, sym, ap, subst, ◌∙◌, Option, Some, None, List, [], ◌∷◌, ◌++◌, Contains, w64, ◌^◌, ◌≢◌}
+use Rattle.std.proofs.Common.{◌≡◌, ℕ, ◌+◌, ◌*◌, ◌<◌, ◌≤◌, refl, arith, inl, inr, sym, ap, subst, ◌∙◌, Option, Some, None, List, [], ◌∷◌, ◌++◌, Contains, w64, ◌^◌, ◌≢◌}
 use Rattle.std.proofs.lemmas.Bool.{cases_lt}
 use Rattle.std.proofs.lemmas.List.Elements.{All-push, All-weaker, All-get_or, Contains-push, Contains-append_left}
 use Rattle.std.proofs.lemmas.List.Quantifiers.{all_pairs_push}
@@ -8,18 +8,17 @@ use Rattle.pb_board.specs.declared.piece.Kind.TheVariants.{Pawn, Knight, Bishop,
 use Rattle.pb_board.specs.declared.piece.Colour.{Colour}
 use Rattle.pb_board.specs.declared.piece.Colour.TheVariants.{White, Black}
 use Rattle.pb_board.specs.declared.piece.Piece.{Piece}
-use Rattle.pb_board.specs.Board.{Board, Holds, IsEmpty, IsForward}
+use Rattle.pb_board.specs.Board.{Board, Holds, IsEmpty}
 use Rattle.pb_board.specs.Piece.{opponent}
 use Rattle.pb_board.specs.Position.{EnPassantHolds, IsSetup, Position}
 use Rattle.pb_board.specs.declared.castling.Castling.{Castling}
 use Rattle.pb_board.specs.declared.castling.Castling.TheVariants.{WhiteShort}
-use Rattle.pb_moves.specs.Attacks.{files_apart}
-use Rattle.pb_moves.specs.Reach.{ReachesBy}
 use Rattle.std.specs.Int.{bit_at, trailing_zeros}
 use Rattle.pb_moves.proofs.Pins.{differ}
 use Rattle.pb_moves.proofs.Kings.{castling_unpinned, holds_one}
 use Rattle.pb_moves.proofs.Legality.{case_at}
-use Rattle.pb_moves.proofs.SameMoves.{legal_from, legal_to}
+use Rattle.pb_moves.proofs.SameAttacks.{attacks_to}
+use Rattle.pb_moves.proofs.SameMoves.{first_rank, legal_from, legal_to}
 use Rattle.pb_moves.specs.Legal.{Legal}
 use Rattle.pb_moves.proofs.Unique.{goes_of}
 use Rattle.pb_moves.proofs.Rising.{low_bits, zeros_bound, zeros_rise, without, without_other, without_small}
@@ -28,7 +27,7 @@ use Rattle.pb_moves.specs.Packed.{promotion_small}
 use Rattle.pb_board.specs.Castling.{castling_row}
 use Rattle.pb_moves.specs.Cases.{SafeCase, CaseOf, piece_move, pawn_step, pawn_double, pawn_capture, en_passant, castles, Becomes, IsCapturable}
 use Rattle.pb_moves.specs.Listing.{place, ListsLegal}
-use Rattle.pb_moves.specs.Candidate.{HoldsOwn, MayGo, MayPromote, ListsBelow}
+use Rattle.pb_moves.specs.Candidate.{HoldsOwn, MayGo, MayPromote, ListsBelow, Steps}
 
 -- a stretch of places with no legal move
 pub lists_skip : (s : Position) (ms : List Moved) (n k : ℕ) → n ≤ k → ListsBelow s ms n
@@ -118,34 +117,18 @@ lists_pass_from s ms from none lists =
     let P : ℕ → Type 0 = λ x. HoldsOwn s x legal.moves.piece in
     none legal.moves.piece (subst P same (record { stands = legal.moves.stands; own = legal.moves.own })))
 
-pub reach_goes : (colour : Colour) (kind : Kind) (board : Board) (a b : ℕ) → ReachesBy colour kind board a b → MayGo colour kind a b
-reach_goes colour Pawn board a b r = inl (r.1, omega arith)
-reach_goes colour Knight board a b r = r
-reach_goes colour Bishop board a b r = r.0
-reach_goes colour Rook board a b r = r.0
-reach_goes colour Queen board a b r = r.0
-reach_goes colour King board a b r = inl r
-
--- a pawn's step, by the side that moves
-pub step_goes : (p : Piece) (side : Colour) (a b : ℕ) → p.colour ≡ side → p.kind ≡ Pawn → (IsForward side 1 a b × (files_apart a b ≤ 1)) ⊎ (IsForward side 2 a b × (files_apart a b ≡ 0)) → MayGo p.colour p.kind a b
-step_goes p side a b own pawn goes =
-    let K : Kind → Type 0 = λ k. MayGo p.colour k a b in
-    let C : Colour → Type 0 = λ c. MayGo c Pawn a b in
-    subst K (sym pawn) (subst C (sym own) goes)
-
 pub castling_goes : (c : Castling) (colour : Colour) (a b : ℕ) (kind : Kind) → kind ≡ King → a ≡ (castling_row c).king_from → b ≡ (castling_row c).king_to → MayGo colour kind a b
-castling_goes WhiteShort colour a b King e f g = inr (omega arith, omega arith)
-castling_goes c colour a b King e f g = inr (omega arith, omega arith)
-castling_goes c colour a b k e f g = absurd (cc)
+castling_goes WhiteShort colour a b _ e f g = inr (e, omega arith, omega arith)
+castling_goes c colour a b _ e f g = inr (e, omega arith, omega arith)
 
 -- a piece goes only where its kind may
 pub case_goes : (s : Position) (m : Moved) (p : Piece) (b : Board) → p.colour ≡ s.turn → CaseOf s m p b → MayGo p.colour p.kind m.from m.to
-case_goes s m p b own (piece_move x) = reach_goes p.colour p.kind s.board m.from m.to x.reaches
-case_goes s m p b own (pawn_step x) = step_goes p s.turn m.from m.to own x.pawn (inl (x.forward, let f = x.same_file in omega arith))
-case_goes s m p b own (pawn_double x) = step_goes p s.turn m.from m.to own x.pawn (inr (x.forward, let f = x.same_file in omega arith))
-case_goes s m p b own (pawn_capture x) = reach_goes p.colour p.kind s.board m.from m.to x.reaches
-case_goes s m p b own (en_passant x) = reach_goes p.colour p.kind s.board m.from m.to x.reaches
 case_goes s m p b own (castles c x) = castling_goes c p.colour m.from m.to p.kind x.king x.from_home x.to_table
+case_goes s m p b own (en_passant x) = let h = attacks_to p.colour p.kind s.board m.from m.to x.reaches in inl (inl (h.0, h.1))
+case_goes s m p b own (piece_move x) = let h = attacks_to p.colour p.kind s.board m.from m.to x.reaches in inl (inl (h.0, h.1))
+case_goes s m p b own (pawn_capture x) = let h = attacks_to p.colour p.kind s.board m.from m.to x.reaches in inl (inl (h.0, h.1))
+case_goes s m p b own (pawn_step x) = inl (inr (x.pawn, subst (λ (side : Colour). Steps side m.from m.to) (sym own) (x.same_file, inl x.forward)))
+case_goes s m p b own (pawn_double x) = inl (inr (x.pawn, subst (λ (side : Colour). Steps side m.from m.to) (sym own) (x.same_file, inr (first_rank s.turn m.from x.begins, x.forward))))
 
 pub becomes_promotes : (side : Colour) (m : Moved) (before k l : Kind) → Becomes side m before k → m.promo ≡ Some l → MayPromote before m.to
 becomes_promotes White m before k l (inl x) e = (x.0, inr x.1)
@@ -225,18 +208,6 @@ lists_pass_promotions s ms p from to on_to own none lists =
     let some = promotion_some q.promo (omega arith) in
     let H : ℕ → Type 0 = λ x. MayPromote p.kind x in
     none (subst H same_to (case_promotes s q p legal.new some.0 at_piece some.1)))
-
--- no legal move goes to a square to which no case leads
-pub lists_pass_to : (s : Position) (ms : List Moved) (p : Piece) (from to : ℕ) → to < 64 → HoldsOwn s from p
-    → ((m : Moved) (b : Board) → m.from ≡ from → m.to ≡ to → ¬ CaseOf s m p b) → ListsBelow s ms (320 * from + 5 * to) → ListsBelow s ms (320 * from + 5 * to + 5)
-lists_pass_to s ms p from to on_to own none lists =
-    lists_skip s ms (320 * from + 5 * to) (320 * from + 5 * to + 5) (omega arith) lists (λ q ok legal lo hi.
-    let a = ok.to_on_board in
-    let b = promotion_small q.promo in
-    let same_from : q.from ≡ from = omega arith in
-    let same_to : q.to ≡ to = omega arith in
-    let P : ℕ → Type 0 = λ x. Holds s.board x p in
-    none q legal.new same_from same_to (case_at s q legal.new p (subst P (sym same_from) own.stands) legal.moves))
 
 -- after the moves to the square of the lowest bit, go on with the next
 pub lists_next : (s : Position) (ms : List Moved) (p : Piece) (from bits to : ℕ) → IsSetup s → HoldsOwn s from p → bits < 2 ^ 64 → trailing_zeros w64 bits < 64

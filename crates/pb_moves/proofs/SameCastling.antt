@@ -1,22 +1,25 @@
 -- Castling by the table is the king's move of two files.
-use Rattle.std.proofs.Common.{◌≡◌, ℕ, arith, inl, inr, sym, subst, None}
+use Rattle.std.proofs.Common.{◌≡◌, ◌<◌, ◌^◌, ◌↔◌, ℕ, arith, inl, inr, sym, subst, None, eqb, bit_and}
+use Rattle.std.proofs.lemmas.Bool.{eq-eqb, eqb-true}
 use Rattle.std.specs.Prelude.{IsTrue, nat_lt}
 use Rattle.pb_board.specs.declared.piece.Colour.{Colour}
 use Rattle.pb_board.specs.declared.castling.Castling.{Castling}
 use Rattle.pb_board.specs.declared.castling.Castling.TheVariants.{WhiteShort, WhiteLong, BlackShort, BlackLong}
 use Rattle.pb_board.specs.Piece.{opponent, rook_of}
-use Rattle.pb_board.specs.Board.{Holds}
+use Rattle.pb_board.specs.Board.{Board, Holds}
 use Rattle.pb_board.specs.Position.{Position}
 use Rattle.pb_board.specs.Castling.{CastlingRow, castling_row}
-use Rattle.pb_moves.specs.Attacks.{Clear, IsAttacked}
-use Rattle.pb_moves.specs.Reach.{IsOrthogonal}
+use Rattle.pb_moves.specs.Attackers.{IsTaken}
+use Rattle.pb_moves.specs.Attacks.{Clear, IsAttacked, files_apart, ranks_apart}
+use Rattle.pb_moves.specs.Reach.{IsOrthogonal, WayIsClear}
 use Rattle.pb_moves.specs.Moved.{Moved, moved_of}
 use Rattle.pb_moves.specs.Castling as table
 use Rattle.pb_moves.specs.Legal as chess
 use Rattle.pb_moves.specs.Legal.{has_right}
 use Rattle.pb_moves.specs.Successor.{is_castling, middle, rook_home}
 use Rattle.pb_moves.proofs.Castlings.{IsByRow, castling_goes, rows}
-use Rattle.pb_moves.proofs.SameAttacks.{attacked_from, attacked_to, clear_from, clear_to}
+use Rattle.pb_moves.proofs.SameAttacks.{attacked_from, attacked_to, clear_from, clear_to, straight_to}
+use Rattle.pb_moves.proofs.Seen.{HasBetween, clear_if_open, open_if_clear, open_told}
 
 -- what castling asks of the right, the rook and the squares, by the row
 abbrev RowAsks : CastlingRow → Position → Type 0
@@ -84,3 +87,16 @@ allows s m c is h =
       unchecked = λ x. asks.3 (attacked_to s.board (opponent row.colour) row.king_from x);
       crosses = λ x. asks.4 (attacked_to s.board (opponent row.colour) row.rook_to x);
     }
+
+-- the way between king and rook is clear just where nothing of what is taken lies there
+pub row_way : (c : Castling) (board : Board) (occ set king rook : ℕ) → IsTaken occ board → occ < 2 ^ 64 → king ≡ (castling_row c).king_from → rook ≡ (castling_row c).rook_from
+    → HasBetween set king rook → IsTrue (eqb (bit_and set occ) 0) ↔ WayIsClear board (castling_row c).king_from (castling_row c).rook_from
+row_way c board occ set king rook taken small king_is rook_is has =
+    let row = castling_row c in
+    let line = straight_back row.rook_from row.king_from (rows c).orthogonal in
+    let queen = straight_to (files_apart row.king_from row.rook_from) (ranks_apart row.king_from row.rook_from) line in
+    let between = subst (λ (q : ℕ). HasBetween set q row.rook_from) king_is (subst (λ (q : ℕ). HasBetween set king q) rook_is has) in
+    let told = open_told occ set row.king_from row.rook_from small between in (
+      λ h. clear_from board row.king_from row.rook_from (inr line) (clear_if_open board occ row.king_from row.rook_from taken (told.0 (eqb-true _ _ h)) (inr queen.0, queen.1)),
+      λ way. eq-eqb _ _ (told.1 (open_if_clear board occ row.king_from row.rook_from taken (clear_to board row.king_from row.rook_from way))),
+    )

@@ -99,11 +99,11 @@ lands_as s Queen q (inr h) = inr (inr ((λ pawn. cc), h))
 lands_as s King q (inl h) = inl h
 lands_as s King q (inr h) = inr (inr ((λ pawn. cc), h))
 
-first_rank : (side : Colour) (q : ℕ) → rank q ≡ lower.pawn_rank side → rank_for side q ≡ 1
+pub first_rank : (side : Colour) (q : ℕ) → rank q ≡ lower.pawn_rank side → rank_for side q ≡ 1
 first_rank White q e = e
 first_rank Black q e = omega (arith, e)
 
-first_rank_from : (side : Colour) (q : ℕ) → rank_for side q ≡ 1 → rank q ≡ lower.pawn_rank side
+pub first_rank_from : (side : Colour) (q : ℕ) → rank_for side q ≡ 1 → rank q ≡ lower.pawn_rank side
 first_rank_from White q e = e
 first_rank_from Black q e = omega (arith, e)
 
@@ -115,7 +115,7 @@ last_from : (side : Colour) (q : ℕ) → rank_for side q ≡ 7 → rank q ≡ l
 last_from White q e = e
 last_from Black q e = omega (arith, e)
 
-pawn_or_not : (k : Kind) → (k ≡ Pawn) ⊎ (k ≢ Pawn)
+pub pawn_or_not : (k : Kind) → (k ≡ Pawn) ⊎ (k ≢ Pawn)
 pawn_or_not Pawn = inl refl
 pawn_or_not k = inr (λ e. cc)
 

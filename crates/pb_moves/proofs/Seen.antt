@@ -1,178 +1,183 @@
 -- Attacks, told by sets of squares.
-use Rattle.std.proofs.Common.{◌≡◌, ◌≢◌, ℕ, ◌*◌, ◌%◌, ◌^◌, w64, ◌<◌, ◌⊎◌, ◌↔◌, max, arith, refl, sym, subst, ◌∙◌, inl, inr, bit_and, bit_or, Option, Some, None, [], ◌∷◌}
+use Rattle.std.proofs.Common.{◌≡◌, ◌≢◌, ℕ, ◌*◌, ◌%◌, ◌^◌, w64, ◌<◌, ◌⊎◌, ◌↔◌, arith, refl, sym, ap, subst, ◌∙◌, inl, inr, bit_and, bit_or, Option, Some, None, [], ◌∷◌}
+use Rattle.std.specs.Int.{trailing_zeros}
 use Rattle.std.proofs.lemmas.List.Elements.{All-nil, All-cons}
+use Rattle.std.proofs.lemmas.Option.{same_Some}
 use Rattle.pb_board.specs.declared.piece.Colour.{Colour}
+use Rattle.pb_board.specs.declared.piece.Colour.TheVariants.{White, Black}
 use Rattle.pb_board.specs.declared.piece.Kind.{Kind}
 use Rattle.pb_board.specs.declared.piece.Kind.TheVariants.{Pawn, Knight, Bishop, Rook, Queen, King}
 use Rattle.pb_board.specs.declared.piece.Piece.{Piece}
-use Rattle.pb_board.specs.Board.{Board, at, Holds}
-use Rattle.pb_moves.specs.declared.attackers.Attackers.{Attackers}
-use Rattle.pb_moves.specs.Attacks.{files_apart, ranks_apart}
-use Rattle.pb_moves.specs.Reach.{LiesBetween, WayIsClear, ReachesBy, IsReached, IsKnightsMove}
+use Rattle.pb_board.specs.Board.{Board, at, Holds, IsForward, rank_for}
+use Rattle.pb_board.specs.Piece.{piece_of}
 use mir.Val.{bits}
 use Rattle.std.proofs.lemmas.Bool.{cases_lt}
-use Rattle.std.proofs.lemmas.Nat.{and_le_l, and_le_r, or_lt}
+use Rattle.std.proofs.lemmas.Nat.{and_le_r}
 use Rattle.std.proofs.lemmas.Nat.Bits.{bit_at_set_same, bit_at_set_other}
+use Rattle.pb_moves.specs.declared.attackers.Sight.{Sight}
+use Rattle.pb_moves.specs.Attackers.{IsSight, IsTaken, In}
+use Rattle.pb_moves.specs.Attacks.{Attacks, Clear, IsAttacked, IsBetween, Pattern, files_apart, ranks_apart}
+use Rattle.pb_moves.specs.Candidate.{MayTarget, Points, Steps}
 use Rattle.pb_moves.specs.Successor.{Differs}
-use Rattle.pb_moves.proofs.Rising.{without, without_other, without_same}
-use Rattle.pb_moves.proofs.Differing.{All-two, each_place}
-use Rattle.pb_moves.proofs.Unique.{piece_is}
-use Rattle.pb_board.specs.Piece.{piece_of}
-use Rattle.pb_moves.specs.Attackers.{Along, AreOf, AreOfEither, IsTaken, In, Open, AreAttackers, Slides, StrikesFrom}
-use Rattle.pb_moves.specs.declared.rays.Slider.{Slider}
-use Rattle.pb_moves.specs.declared.rays.Slider.TheVariants.{Orthogonal, Diagonal}
-use Rattle.pb_moves.proofs.Between.{between_back}
-use Rattle.pb_moves.proofs.Differing.{holds_on_board}
-use Rattle.pb_moves.proofs.Sets.{in_and, in_both, in_none, in_or, in_first, in_second, in_some}
-use Rattle.pb_moves.proofs.SameAttacks.{IsLine}
+use Rattle.pb_moves.proofs.Differing.{All-two, each_place, holds_on_board, same_or_not}
+use Rattle.pb_moves.proofs.Kings.{holds_one}
+use Rattle.pb_moves.proofs.Rising.{low_bit, without, without_other, without_same}
+use Rattle.pb_moves.proofs.SameAttacks.{knight_from, no_near, straight_from, straight_to}
+use Rattle.pb_moves.proofs.Sets.{in_and, in_both, in_none, in_some}
 
-pub empty_or_not : (x : Option Piece) → (x ≡ None) ⊎ ¬ (x ≡ None)
+empty_or_not : (x : Option Piece) → (x ≡ None) ⊎ ¬ (x ≡ None)
 empty_or_not None = inl refl
 empty_or_not (Some p) = inr (λ e. cc)
 
-pub along_sym : (lines : Slider) (a b : ℕ) → Along lines a b → Along lines b a
-along_sym Orthogonal a b (inl s) = inl (omega arith, omega arith)
-along_sym Orthogonal a b (inr s) = inr (omega arith, omega arith)
-along_sym Diagonal a b s = (omega arith, omega arith)
+-- ---- ways
 
--- where nothing of the set stands between, the squares between are empty
-pub clear_if_open : (b : Board) (occ to from : ℕ) → IsTaken occ b → Open occ to from → WayIsClear b from to
-clear_if_open b occ to from taken way q on between =
-    elim (empty_or_not (at b q)) [
-      | inl e ↦ e
-      | inr stands ↦ absurd (way q on (between_back from q to between) ((taken q on).1 stands))
-    ]
+-- one line leads from a to b
+abbrev pub OnLine : ℕ → ℕ → Type 0
+OnLine a b = Pattern Queen (files_apart a b) (ranks_apart a b)
 
-pub open_if_clear : (b : Board) (occ to from : ℕ) → IsTaken occ b → WayIsClear b from to → Open occ to from
-open_if_clear b occ to from taken clear q on between inside = (taken q on).0 inside (clear q on (between_back to q from between))
+-- the set has the squares between a and b, if these lie on one line
+abbrev pub HasBetween : ℕ → ℕ → ℕ → Type 0
+HasBetween set a b = (q : ℕ) → q < 64 → (In set q ↔ OnLine a b × IsBetween a q b)
 
--- where nothing is taken of the squares between, on one line, the way along it is clear
-pub way_told : (b : Board) (occ x from to : ℕ) → IsTaken occ b → occ < 2 ^ 64 → ((q : ℕ) → q < 64 → (In x q ↔ (IsLine from to × LiesBetween from q to)))
-    → ((bit_and x occ ≡ 0) ↔ (IsLine from to → WayIsClear b from to))
-way_told b occ x from to taken small lies = (
-  λ none line q on between. elim (empty_or_not (at b q)) [
-    | inl e ↦ e
-    | inr stands ↦ absurd (in_none (bit_and x occ) q none (in_both x occ q ((lies q on).1 (line, between)) ((taken q on).1 stands)))
-  ],
-  λ clear. elim (cases_lt 0 (bit_and x occ)) [
+-- nothing of what is taken lies between a and b on one line
+abbrev pub Open : ℕ → ℕ → ℕ → Type 0
+Open occ a b = OnLine a b → (q : ℕ) → q < 64 → IsBetween a q b → ¬ In occ q
+
+pub open_told : (occ set a b : ℕ) → occ < 2 ^ 64 → HasBetween set a b → (bit_and set occ ≡ 0) ↔ Open occ a b
+open_told occ set a b small has = (
+  λ none line q on between stands. in_none (bit_and set occ) q none (in_both set occ q ((has q on).1 (line, between)) stands),
+  λ way. elim (cases_lt 0 (bit_and set occ)) [
     | inl some ↦
-        (let w = in_some (bit_and x occ) (omega (arith, and_le_r x occ)) some in
-        let inside = in_and x occ w.0 w.2 in
-        let between = (lies w.0 w.1).0 inside.0 in
-        absurd ((taken w.0 w.1).0 inside.1 (clear between.0 w.0 w.1 between.1)))
+        (let w = in_some (bit_and set occ) (omega (arith, and_le_r set occ)) some in
+        let inside = in_and set occ w.0 w.2 in
+        let between = (has w.0 w.1).0 inside.0 in
+        absurd (way between.0 w.0 w.1 between.1 inside.1))
     | inr none ↦ omega arith
   ],
 )
 
-clear_by_open : (b : Board) (side : Colour) (attackers : Attackers) (to from : ℕ) → AreAttackers b side attackers → Open attackers.occupied to from → WayIsClear b from to
-clear_by_open b side attackers to from sees way = clear_if_open b attackers.occupied to from sees.occupied way
-
-open_by_clear : (b : Board) (side : Colour) (attackers : Attackers) (to from : ℕ) → AreAttackers b side attackers → WayIsClear b from to → Open attackers.occupied to from
-open_by_clear b side attackers to from sees clear = open_if_clear b attackers.occupied to from sees.occupied clear
-
--- what the code looks at: the attackers next to the square, and those along its lines
-abbrev pub AnySees : ℕ → Attackers → ℕ → Type 0
-AnySees near attackers square =
-    ((a : ℕ) × (a < 64) × In near a) ⊎ (Slides Orthogonal attackers.occupied attackers.orthogonal square ⊎ Slides Diagonal attackers.occupied attackers.diagonal square)
-
-abbrev pub near_of : ℕ → ℕ → ℕ → Attackers → ℕ
-near_of p n k attackers = bit_or (bit_or (bit_and p attackers.pawns) (bit_and n attackers.knights)) (bit_and k attackers.kings)
-
-pub attack_by : (b : Board) (side : Colour) (kind : Kind) (a square : ℕ) → Holds b a (piece_of side kind) → ReachesBy side kind b a square → IsReached b side square
-attack_by b side kind a square stands reaches = (a, record { piece = piece_of side kind; stands = stands; of_side = refl; reaches = reaches })
-
-pub near_attacks : (b : Board) (side : Colour) (attackers : Attackers) (square p n k a : ℕ) → AreAttackers b side attackers
-    → ((q : ℕ) → q < 64 → (In p q ↔ StrikesFrom side q square)) → ((q : ℕ) → q < 64 → (In n q ↔ IsKnightsMove q square))
-    → ((q : ℕ) → q < 64 → (In k q ↔ (max (files_apart q square) (ranks_apart q square) ≡ 1)))
-    → a < 64 → In (near_of p n k attackers) a → IsReached b side square
-near_attacks b side attackers square p n k a sees fp fn fk on inside =
-    elim (in_or (bit_or (bit_and p attackers.pawns) (bit_and n attackers.knights)) (bit_and k attackers.kings) a inside) [
-      | inl h ↦ elim (in_or (bit_and p attackers.pawns) (bit_and n attackers.knights) a h) [
-        | inl x ↦ (let w = in_and p attackers.pawns a x in attack_by b side Pawn a square ((sees.pawns a on).0 w.1) ((fp a on).0 w.0))
-        | inr x ↦ (let w = in_and n attackers.knights a x in attack_by b side Knight a square ((sees.knights a on).0 w.1) ((fn a on).0 w.0))
-      ]
-      | inr x ↦ (let w = in_and k attackers.kings a x in attack_by b side King a square ((sees.kings a on).0 w.1) ((fk a on).0 w.0))
+pub clear_if_open : (board : Board) (occ a b : ℕ) → IsTaken occ board → Open occ a b → OnLine a b → Clear board a b
+clear_if_open board occ a b taken way line q on between =
+    elim (empty_or_not (at board q)) [
+      | inl e ↦ e
+      | inr stands ↦ absurd (way line q on between ((taken q on).1 stands))
     ]
 
-pub straight_attacks : (b : Board) (side : Colour) (attackers : Attackers) (square : ℕ) → AreAttackers b side attackers → Slides Orthogonal attackers.occupied attackers.orthogonal square → IsReached b side square
-straight_attacks b side attackers square sees s =
-    let clear = clear_by_open b side attackers square s.from sees s.way in
-    let line = along_sym Orthogonal square s.from s.line in
-    elim ((sees.orthogonal s.from s.on_board).0 s.stands) [
-      | inl rook ↦ attack_by b side Rook s.from square rook (line, clear)
-      | inr queen ↦ attack_by b side Queen s.from square queen (inr line, clear)
-    ]
+pub open_if_clear : (board : Board) (occ a b : ℕ) → IsTaken occ board → Clear board a b → Open occ a b
+open_if_clear board occ a b taken clear line q on between inside = (taken q on).0 inside (clear q on between)
 
-pub diagonal_attacks : (b : Board) (side : Colour) (attackers : Attackers) (square : ℕ) → AreAttackers b side attackers → Slides Diagonal attackers.occupied attackers.diagonal square → IsReached b side square
-diagonal_attacks b side attackers square sees s =
-    let clear = clear_by_open b side attackers square s.from sees s.way in
-    let line = along_sym Diagonal square s.from s.line in
-    elim ((sees.diagonal s.from s.on_board).0 s.stands) [
-      | inl bishop ↦ attack_by b side Bishop s.from square bishop (line, clear)
-      | inr queen ↦ attack_by b side Queen s.from square queen (inl line, clear)
-    ]
+-- nothing lies in the way of a piece that jumps
+pub clear_by : (kind : Kind) (board : Board) (a b : ℕ) → Pattern kind (files_apart a b) (ranks_apart a b) → (OnLine a b → Clear board a b) → Clear board a b
+clear_by Pawn board a b h way = no_near board a b (inl (omega (arith, h.0), omega (arith, h.1)))
+clear_by Knight board a b h way = no_near board a b (inr (knight_from (files_apart a b) (ranks_apart a b) h))
+clear_by Bishop board a b h way = way (inl h.0, omega (arith, h.1))
+clear_by Rook board a b h way = way (inr h.0, h.1)
+clear_by Queen board a b h way = way h
+clear_by King board a b h way = no_near board a b (inl (omega (arith, h), omega (arith, h)))
 
-slides_by : (lines : Slider) (b : Board) (side : Colour) (attackers : Attackers) (sliders square a : ℕ) → AreAttackers b side attackers → a < 64 → In sliders a → Along lines a square → WayIsClear b a square
-    → Slides lines attackers.occupied sliders square
-slides_by lines b side attackers sliders square a sees on inside line clear = record {
-  from = a;
-  on_board = on;
-  stands = inside;
-  line = along_sym lines a square line;
-  way = open_by_clear b side attackers square a sees clear;
-}
+-- a piece that points at a square attacks it where the way is clear, as it is for a pawn
+pub points_of : (side : Colour) (kind : Kind) (board : Board) (a b : ℕ) → Attacks side kind board a b → Points side kind a b
+points_of _ _ board a b h = (h.0, h.1)
 
--- each attacker is seen
-pub seen_kind : (b : Board) (side : Colour) (kind : Kind) (attackers : Attackers) (square p n k a : ℕ) → AreAttackers b side attackers
-    → ((q : ℕ) → q < 64 → (In p q ↔ StrikesFrom side q square)) → ((q : ℕ) → q < 64 → (In n q ↔ IsKnightsMove q square))
-    → ((q : ℕ) → q < 64 → (In k q ↔ (max (files_apart q square) (ranks_apart q square) ≡ 1)))
-    → a < 64 → Holds b a (piece_of side kind) → ReachesBy side kind b a square → AnySees (near_of p n k attackers) attackers square
-seen_kind b side Pawn attackers square p n k a sees fp fn fk on stands r =
-    inl (a, on, in_first _ _ a (in_first _ _ a (in_both p attackers.pawns a ((fp a on).1 r) ((sees.pawns a on).1 stands))))
-seen_kind b side Knight attackers square p n k a sees fp fn fk on stands r =
-    inl (a, on, in_first _ _ a (in_second _ _ a (in_both n attackers.knights a ((fn a on).1 r) ((sees.knights a on).1 stands))))
-seen_kind b side King attackers square p n k a sees fp fn fk on stands r =
-    inl (a, on, in_second _ _ a (in_both k attackers.kings a ((fk a on).1 r) ((sees.kings a on).1 stands)))
-seen_kind b side Rook attackers square p n k a sees fp fn fk on stands r =
-    inr (inl (slides_by Orthogonal b side attackers attackers.orthogonal square a sees on ((sees.orthogonal a on).1 (inl stands)) r.0 r.1))
-seen_kind b side Bishop attackers square p n k a sees fp fn fk on stands r =
-    inr (inr (slides_by Diagonal b side attackers attackers.diagonal square a sees on ((sees.diagonal a on).1 (inl stands)) r.0 r.1))
-seen_kind b side Queen attackers square p n k a sees fp fn fk on stands r =
-    elim r.0 [
-      | inl line ↦ inr (inr (slides_by Diagonal b side attackers attackers.diagonal square a sees on ((sees.diagonal a on).1 (inr stands)) line r.1))
-      | inr line ↦ inr (inl (slides_by Orthogonal b side attackers attackers.orthogonal square a sees on ((sees.orthogonal a on).1 (inr stands)) line r.1))
-    ]
+pub attack_of : (side : Colour) (kind : Kind) (board : Board) (a b : ℕ) → Points side kind a b → (OnLine a b → Clear board a b) → Attacks side kind board a b
+attack_of side kind board a b h way = (h.0, h.1, clear_by kind board a b h.0 way)
 
-pub seen_attack : (b : Board) (side : Colour) (attackers : Attackers) (square p n k : ℕ) → AreAttackers b side attackers
-    → ((q : ℕ) → q < 64 → (In p q ↔ StrikesFrom side q square)) → ((q : ℕ) → q < 64 → (In n q ↔ IsKnightsMove q square))
-    → ((q : ℕ) → q < 64 → (In k q ↔ (max (files_apart q square) (ranks_apart q square) ≡ 1)))
-    → IsReached b side square → AnySees (near_of p n k attackers) attackers square
-seen_attack b side attackers square p n k sees fp fn fk attack =
-    let a = attack.0 in
-    let q = attack.1.piece in
-    let on = holds_on_board b a q sees.full attack.1.stands in
-    let H : Piece → Type 0 = λ x. Holds b a x in
-    let stands = subst H (piece_is q side q.kind attack.1.of_side refl) attack.1.stands in
-    let R : Colour → Type 0 = λ x. ReachesBy x q.kind b a square in
-    let reaches = subst R attack.1.of_side attack.1.reaches in
-    seen_kind b side q.kind attackers square p n k a sees fp fn fk on stands reaches
+pub pawn_attack : (side : Colour) (board : Board) (a b : ℕ) → Points side Pawn a b → Attacks side Pawn board a b
+pawn_attack side board a b h = (h.0, h.1, no_near board a b (inl (omega (arith, h.0.0), omega (arith, h.0.1))))
 
-pub near_small : (p n k : ℕ) (attackers : Attackers) → p < 2 ^ 64 → n < 2 ^ 64 → k < 2 ^ 64 → near_of p n k attackers < 2 ^ 64
-near_small p n k attackers sp sn sk =
-    let a = and_le_l p attackers.pawns in
-    let b = and_le_l n attackers.knights in
-    let c = and_le_l k attackers.kings in
-    let x : bit_and p attackers.pawns < 2 ^ 64 = omega arith in
-    let y : bit_and n attackers.knights < 2 ^ 64 = omega arith in
-    let z : bit_and k attackers.kings < 2 ^ 64 = omega arith in
-    or_lt 64 (bit_or (bit_and p attackers.pawns) (bit_and n attackers.knights)) (bit_and k attackers.kings) (or_lt 64 (bit_and p attackers.pawns) (bit_and n attackers.knights) x y) z
+stepped : (side : Colour) (a b : ℕ) → IsForward side 1 a b ⊎ ((rank_for side a ≡ 1) × IsForward side 2 a b) → 0 < ranks_apart a b
+stepped White a b (inl h) = omega (arith, h)
+stepped White a b (inr h) = omega (arith, h.1)
+stepped Black a b (inl h) = omega (arith, h)
+stepped Black a b (inr h) = omega (arith, h.1)
+
+-- the rows of pawns, told by what they take and step to
+pub takes_told : (side : Colour) (a b : ℕ) → (MayTarget side Pawn a b × Pattern Bishop (files_apart a b) (ranks_apart a b)) ↔ Points side Pawn a b
+takes_told side a b = (
+  λ h. elim h.0 [ inl points ↦ points | inr steps ↦ (let same = steps.1.0 in let slant = h.1 in absurd (omega arith)) ],
+  λ points. (inl points, (omega (arith, points.0.0, points.0.1), omega (arith, points.0.0))),
+)
+
+pub steps_told : (side : Colour) (a b : ℕ) → (MayTarget side Pawn a b × Pattern Rook (files_apart a b) (ranks_apart a b)) ↔ Steps side a b
+steps_told side a b = (
+  λ h. elim h.0 [
+    | inl points ↦ absurd (let straight = straight_from (files_apart a b) (ranks_apart a b) h.1.0 h.1.1 in elim straight [ inl s ↦ omega (arith, s.0, points.0.0) | inr s ↦ omega (arith, s.1, points.0.1) ])
+    | inr steps ↦ steps.1
+  ],
+  λ steps. (inr (refl, steps), straight_to (files_apart a b) (ranks_apart a b) (inl (omega (arith, steps.0), stepped side a b steps.1))),
+)
+
+-- ---- attackers
+
+-- the set has the squares of pieces that point at the square
+abbrev pub HasPieces : ℕ → Board → Colour → ℕ → Type 0
+HasPieces set board by square = (a : ℕ) → a < 64 → (In set a ↔ ((colour : Colour) × (kind : Kind) × Holds board a (piece_of colour kind) × Points by kind a square))
+
+pub attacks_if_open : (first board : Board) (by : Colour) (sight : Sight) (set square a : ℕ) → IsSight first board by sight → HasPieces set first by square → a < 64
+    → In (bit_and set sight.attackers) a → Open sight.occupied a square → IsAttacked board by square
+attacks_if_open first board by sight set square a sees has on inside way =
+    let both = in_and set sight.attackers a inside in
+    let points = (has a on).0 both.0 in
+    let stands = (sees.attackers a on).0 both.1 in
+    let same = holds_one first a (piece_of points.0 points.1) (piece_of by stands.0) points.2 (sees.stood a stands.0 stands.1) in
+    let aims = subst (λ (kind : Kind). Points by kind a square) (ap (λ (p : Piece). p.kind) same) points.3 in
+    (a, stands.0, stands.1, attack_of by stands.0 board a square aims (clear_if_open board sight.occupied a square sees.occupied way))
+
+pub open_if_attacks : (first board : Board) (by : Colour) (sight : Sight) (set square : ℕ) → IsSight first board by sight → HasPieces set first by square → IsAttacked board by square
+    → (a : ℕ) × (a < 64) × In (bit_and set sight.attackers) a × Open sight.occupied a square
+open_if_attacks first board by sight set square sees has (a, kind, stands, attacks) =
+    let on = holds_on_board board a (piece_of by kind) sees.full stands in
+    let points = (has a on).1 (by, kind, sees.stood a kind stands, points_of by kind board a square attacks) in
+    (a, on, in_both set sight.attackers a points ((sees.attackers a on).1 (kind, stands)), open_if_clear board sight.occupied a square sees.occupied attacks.2)
+
+-- what is left of a set, where of the others each has something in its way
+pub record Left (occ square start rest : ℕ) : Type 0 where
+  pub from_start : (q : ℕ) → q < 64 → In rest q → In start q
+  pub shut : (q : ℕ) → q < 64 → In start q → ¬ In rest q → ¬ Open occ q square
+
+pub left_all : (occ square start : ℕ) → Left occ square start start
+left_all occ square start = record { from_start = λ q on h. h; shut = λ q on h none. absurd (none h) }
+
+pub left_next : (occ square start rest at : ℕ) → Left occ square start rest → trailing_zeros w64 rest < 64 → at ≡ trailing_zeros w64 rest → ¬ Open occ at square
+    → Left occ square start (without rest (trailing_zeros w64 rest))
+left_next occ square start rest at left some here shut =
+    let k = trailing_zeros w64 rest in
+    record {
+      from_start = λ q on h. elim (same_or_not q k) [
+        | inl e ↦ absurd (let P : ℕ → Type 0 = λ x. In (without rest (trailing_zeros w64 rest)) x in let one = subst P e h in let none = without_same rest (trailing_zeros w64 rest) some in omega arith)
+        | inr ne ↦ left.from_start q on (let same = without_other rest (trailing_zeros w64 rest) q some on ne in omega arith)
+      ];
+      shut = λ q on h none. elim (same_or_not q k) [
+        | inl e ↦ (let same : at ≡ q = omega arith in let P : ℕ → Type 0 = λ x. ¬ Open occ x square in subst P same shut)
+        | inr ne ↦ left.shut q on h (λ inside. none (let same = without_other rest (trailing_zeros w64 rest) q some on ne in omega arith))
+      ];
+    }
+
+-- the lowest of what is left was there at the start
+pub lowest_left : (occ square start rest at : ℕ) → Left occ square start rest → rest < 2 ^ 64 → trailing_zeros w64 rest < 64 → at ≡ trailing_zeros w64 rest → (at < 64) × In start at
+lowest_left occ square start rest at left small some here =
+    let on : at < 64 = omega arith in
+    let P : ℕ → Type 0 = λ q. In rest q in
+    (on, left.from_start at on (subst P (sym here) (low_bit rest small some)))
+
+-- ---- after a move of the other side
 
 -- a set tells the places of a board that have a property
-abbrev pub Tells : ℕ → Board → (Option Piece → Type 0) → Type 0
+abbrev Tells : ℕ → Board → (Option Piece → Type 0) → Type 0
 Tells bitboard board F = (q : ℕ) → q < 64 → (In bitboard q → F (at board q)) × (F (at board q) → In bitboard q)
 
+-- a piece of this side stands on the place
+abbrev IsOf : Colour → Option Piece → Type 0
+IsOf by place = (kind : Kind) × (place ≡ Some (piece_of by kind))
+
+of_none : (by : Colour) → IsOf by None → ⊥
+of_none by h = let e = h.1 in absurd cc
+
+of_side : (by : Colour) (p : Piece) → IsOf by (Some p) → p.colour ≡ by
+of_side by p h = ap (λ (x : Piece). x.colour) (same_Some _ _ h.1)
+
 -- after a piece of the other side was carried, the sets without the square that it reaches
-pub tells_carried : (bitboard : ℕ) (old new : Board) (F : Option Piece → Type 0) (by : Colour) (from to : ℕ) (piece own : Piece)
+tells_carried : (bitboard : ℕ) (old new : Board) (F : Option Piece → Type 0) (by : Colour) (from to : ℕ) (piece own : Piece)
     → (F None → ⊥) → ((p : Piece) → F (Some p) → p.colour ≡ by) → Tells bitboard old F → Differs old new ((from, None) ∷ (to, Some piece) ∷ [])
     → piece.colour ≢ by → Holds old from own → own.colour ≢ by → from ≢ to → to < 64 → Tells (without bitboard to) new F
 tells_carried bitboard old new F by from to piece own none side tells moved other stands enemy ne on =
@@ -197,7 +202,7 @@ tells_carried bitboard old new F by from to piece own none side tells moved othe
     ))
 
 -- the same of what is taken
-pub taken_carried : (bitboard : ℕ) (old new : Board) (from to : ℕ) (piece : Piece) → IsTaken bitboard old → Differs old new ((from, None) ∷ (to, Some piece) ∷ [])
+taken_carried : (bitboard : ℕ) (old new : Board) (from to : ℕ) (piece : Piece) → IsTaken bitboard old → Differs old new ((from, None) ∷ (to, Some piece) ∷ [])
     → from < 64 → to < 64 → from ≢ to → IsTaken (bit_or (without bitboard from) (1 * 2 ^ to % 2 ^ bits w64)) new
 taken_carried bitboard old new from to piece taken moved on_from on ne =
     let set = bit_or (without bitboard from) (1 * 2 ^ to % 2 ^ bits w64) in
@@ -220,36 +225,19 @@ taken_carried bitboard old new from to piece taken moved on_from on ne =
       λ h. same ∙ (kept ∙ (taken q in_q).1 h),
     ))
 
--- what is seen after the move, as the code computes it
-abbrev pub attackers_after : Attackers → ℕ → ℕ → Attackers
-attackers_after s from to = record {
-  occupied = bit_or (without s.occupied from) (1 * 2 ^ to % 2 ^ bits w64);
-  pawns = without s.pawns to;
-  knights = without s.knights to;
-  kings = without s.kings to;
-  orthogonal = without s.orthogonal to;
-  diagonal = without s.diagonal to;
-}
-
-some_side : (p : Piece) (side : Colour) (kind : Kind) → Some p ≡ Some (piece_of side kind) → p.colour ≡ side
-some_side p side k e = cc
-
-pub sees_carried : (old new : Board) (by : Colour) (attackers : Attackers) (from to : ℕ) (piece own : Piece) → AreAttackers old by attackers → Differs old new ((from, None) ∷ (to, Some piece) ∷ [])
-    → piece.colour ≢ by → Holds old from own → own.colour ≢ by → from < 64 → to < 64 → from ≢ to → AreAttackers new by (attackers_after attackers from to)
-sees_carried old new by attackers from to piece own sees moved other stands enemy on_from on ne =
-    let one = λ (bitboard : ℕ) (kind : Kind) (tells : AreOf bitboard old by kind).
-    tells_carried bitboard old new (λ x. x ≡ Some (piece_of by kind)) by from to piece own (λ e. absurd cc) (λ p e. some_side p by kind e) tells moved other stands enemy ne on in
-    let either = λ (bitboard : ℕ) (kind second : Kind) (tells : AreOfEither bitboard old by kind second).
-    tells_carried bitboard old new (λ x. (x ≡ Some (piece_of by kind)) ⊎ (x ≡ Some (piece_of by second))) by from to piece own (λ e. elim e [ inl a ↦ absurd cc | inr a ↦ absurd cc ])
-    (λ p e. elim e [ inl a ↦ some_side p by kind a | inr a ↦ some_side p by second a ]) tells moved other stands enemy ne on in
+pub sight_carried : (first old new : Board) (by : Colour) (sight : Sight) (from to : ℕ) (piece own : Piece) → IsSight first old by sight
+    → Differs old new ((from, None) ∷ (to, Some piece) ∷ []) → piece.colour ≢ by → Holds old from own → own.colour ≢ by → from < 64 → to < 64 → from ≢ to
+    → IsSight first new by (record { occupied = bit_or (without sight.occupied from) (1 * 2 ^ to % 2 ^ bits w64); attackers = without sight.attackers to })
+sight_carried first old new by sight from to piece own sees moved other stands enemy on_from on ne =
+    let S : ℕ → Option Piece → Type 0 = λ q place. (kind : Kind) → place ≡ Some (piece_of by kind) → Holds first q (piece_of by kind) in
+    let C : ℕ × Option Piece → Type 0 = λ c. S c.0 c.1 in
     record {
       full = moved.squares;
-      occupied = taken_carried attackers.occupied old new from to piece sees.occupied moved on_from on ne;
-      pawns = one attackers.pawns Pawn sees.pawns;
-      knights = one attackers.knights Knight sees.knights;
-      kings = one attackers.kings King sees.kings;
-      orthogonal = either attackers.orthogonal Rook Queen sees.orthogonal;
-      diagonal = either attackers.diagonal Bishop Queen sees.diagonal;
+      occupied = taken_carried sight.occupied old new from to piece sees.occupied moved on_from on ne;
+      attackers = tells_carried sight.attackers old new (IsOf by) by from to piece own (of_none by) (of_side by) sees.attackers moved other stands enemy ne on;
+      stood = each_place old new ((from, None) ∷ (to, Some piece) ∷ []) S moved
+          (All-two C (from, None) (to, Some piece) [] (λ kind e. absurd (of_none by (kind, e))) (λ kind e. absurd (other (of_side by piece (kind, e)))) (All-nil C))
+          (λ q off. sees.stood q);
     }
 
 -- after a piece of the other side has gone, the sets are the same
@@ -279,20 +267,14 @@ taken_lifted bitboard old new from taken gone on_from =
       λ h. kept ∙ (taken q on).1 h,
     ))
 
-pub sees_lifted : (old new : Board) (by : Colour) (attackers : Attackers) (from : ℕ) (own : Piece) → AreAttackers old by attackers → Differs old new ((from, None) ∷ [])
-    → Holds old from own → own.colour ≢ by → from < 64 → AreAttackers new by (record attackers { occupied = without attackers.occupied from })
-sees_lifted old new by attackers from own sees gone stands enemy on =
-    let one = λ (bitboard : ℕ) (kind : Kind) (tells : AreOf bitboard old by kind).
-    tells_lifted bitboard old new (λ x. x ≡ Some (piece_of by kind)) by from own (λ e. absurd cc) (λ p e. some_side p by kind e) tells gone stands enemy in
-    let either = λ (bitboard : ℕ) (kind second : Kind) (tells : AreOfEither bitboard old by kind second).
-    tells_lifted bitboard old new (λ x. (x ≡ Some (piece_of by kind)) ⊎ (x ≡ Some (piece_of by second))) by from own (λ e. elim e [ inl a ↦ absurd cc | inr a ↦ absurd cc ])
-    (λ p e. elim e [ inl a ↦ some_side p by kind a | inr a ↦ some_side p by second a ]) tells gone stands enemy in
+pub sight_lifted : (first old new : Board) (by : Colour) (sight : Sight) (from : ℕ) (own : Piece) → IsSight first old by sight → Differs old new ((from, None) ∷ [])
+    → Holds old from own → own.colour ≢ by → from < 64 → IsSight first new by (record sight { occupied = without sight.occupied from })
+sight_lifted first old new by sight from own sees gone stands enemy on =
+    let S : ℕ → Option Piece → Type 0 = λ q place. (kind : Kind) → place ≡ Some (piece_of by kind) → Holds first q (piece_of by kind) in
+    let C : ℕ × Option Piece → Type 0 = λ c. S c.0 c.1 in
     record {
       full = gone.squares;
-      occupied = taken_lifted attackers.occupied old new from sees.occupied gone on;
-      pawns = one attackers.pawns Pawn sees.pawns;
-      knights = one attackers.knights Knight sees.knights;
-      kings = one attackers.kings King sees.kings;
-      orthogonal = either attackers.orthogonal Rook Queen sees.orthogonal;
-      diagonal = either attackers.diagonal Bishop Queen sees.diagonal;
+      occupied = taken_lifted sight.occupied old new from sees.occupied gone on;
+      attackers = tells_lifted sight.attackers old new (IsOf by) by from own (of_none by) (of_side by) sees.attackers gone stands enemy;
+      stood = each_place old new ((from, None) ∷ []) S gone (All-cons C (from, None) [] (λ kind e. absurd (of_none by (kind, e))) (All-nil C)) (λ q off. sees.stood q);
     }

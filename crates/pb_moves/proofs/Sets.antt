@@ -1,10 +1,8 @@
 -- Sets of squares as numbers: what their meets and joins have, and when they are empty.
-use Rattle.std.proofs.Common.{◌≡◌, ℕ, zero, ◌+◌, ◌-◌, ◌*◌, ◌%◌, ◌<◌, ◌≤◌, ◌^◌, ◌⊎◌, arith, sym, subst, ◌∙◌, inl, inr, bit_and, bit_or, w64}
+use Rattle.std.proofs.Common.{◌≡◌, ℕ, ◌<◌, ◌^◌, ◌⊎◌, arith, subst, ◌∙◌, inl, inr, bit_and, bit_or, w64}
 use Rattle.std.specs.Int.{bit_at, bit_not, trailing_zeros}
-use Rattle.std.proofs.lemmas.Bool.{cases_lt}
-use Rattle.std.proofs.Math.Nat.{pow-le-pow_right}
-use Rattle.std.proofs.lemmas.Nat.{one_shl}
-use Rattle.std.proofs.lemmas.Nat.Bits.{bit_at-zero, bit_at-lt, bit_at_and, bit_at_not, bit_at_or, bit_at_mask_inside, bit_at_mask_below, bit_at_mask_above}
+use Rattle.std.specs.Int.Bits.{bit_xor}
+use Rattle.std.proofs.lemmas.Nat.Bits.{bit_at-zero, bit_at-lt, bit_at_and, bit_at_not, bit_at_or, bit_at_xor}
 use Rattle.pb_moves.specs.Attackers.{In}
 use Rattle.pb_moves.proofs.Rising.{zeros_some, low_bit}
 use Rattle.pb_moves.proofs.Differing.{same_or_not}
@@ -50,28 +48,17 @@ in_none x q e h =
 pub in_some : (x : ℕ) → x < 2 ^ 64 → 0 < x → (q : ℕ) × (q < 64) × In x q
 in_some x small some = let k = zeros_some x small some in (trailing_zeros w64 x, k, low_bit x small k)
 
--- the run of ones between two places, as the code computes it
-pub run_bit : (low high q : ℕ) → low < high → high < 64
-    → (In (1 * 2 ^ high % 2 ^ 64 - 1 * 2 ^ (low + 1) % 2 ^ 64) q → (low < q) × (q < high)) × ((low < q) × (q < high) → In (1 * 2 ^ high % 2 ^ 64 - 1 * 2 ^ (low + 1) % 2 ^ 64) q)
-run_bit low high q lt on =
-    let P : ℕ → Type 0 = λ x. (In (x - 1 * 2 ^ (low + 1) % 2 ^ 64) q → (low < q) × (q < high)) × ((low < q) × (q < high) → In (x - 1 * 2 ^ (low + 1) % 2 ^ 64) q) in
-    let Q : ℕ → Type 0 = λ x. (In (2 ^ high - x) q → (low < q) × (q < high)) × ((low < q) × (q < high) → In (2 ^ high - x) q) in
-    subst P (sym (one_shl high 64 on)) (subst Q (sym (one_shl (low + 1) 64 (omega arith))) (
-      λ h. elim (cases_lt q (low + 1)) [
-        | inl l ↦ absurd (let none = bit_at_mask_below (low + 1) high q l in omega arith)
-        | inr g ↦ elim (cases_lt q high) [
-          | inl m ↦ (omega arith, m)
-          | inr n ↦ absurd (let none = bit_at_mask_above (low + 1) high q n in omega arith)
-        ]
-      ],
-      λ h. bit_at_mask_inside (low + 1) high q (omega (arith, h.0)) h.1,
-    ))
+zero_bit : (bit : ℕ) → bit < 2 → ¬ (bit ≡ 1) → bit ≡ 0
+zero_bit bit small none = elim (same_or_not bit 1) [ inl e ↦ absurd (none e) | inr ne ↦ omega arith ]
 
-pub run_fits : (low high : ℕ) → low < high → high < 64 → 1 * 2 ^ (low + 1) % 2 ^ 64 ≤ 1 * 2 ^ high % 2 ^ 64
-run_fits low high lt on =
-    let a = one_shl high 64 on in
-    let b = one_shl (low + 1) 64 (omega arith) in
-    let some : zero < 2 = omega arith in
-    let le : low + 1 ≤ high = omega arith in
-    let grows = pow-le-pow_right {n = 2} some le in
-    omega arith
+-- what is in just one of two sets
+pub in_one : (x y q : ℕ) → In (bit_xor x y) q → (In x q × ¬ In y q) ⊎ (In y q × ¬ In x q)
+in_one x y q h =
+    let is = bit_at_xor x y q in
+    let a = bit_at-lt x q in
+    let b = bit_at-lt y q in
+    elim (same_or_not (bit_at x q) 1) [ inl e ↦ inl (e, λ other. omega arith) | inr ne ↦ inr (omega arith, ne) ]
+
+pub of_one : (x y q : ℕ) → (In x q × ¬ In y q) ⊎ (In y q × ¬ In x q) → In (bit_xor x y) q
+of_one x y q (inl h) = let is = bit_at_xor x y q in let b = bit_at-lt y q in let none : bit_at y q ≡ 0 = zero_bit (bit_at y q) b h.1 in is ∙ omega (arith, h.0)
+of_one x y q (inr h) = let is = bit_at_xor x y q in let a = bit_at-lt x q in let none : bit_at x q ≡ 0 = zero_bit (bit_at x q) a h.1 in is ∙ omega (arith, h.0)

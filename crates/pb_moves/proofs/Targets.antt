@@ -1,18 +1,16 @@
--- The squares to which a piece may go, by tables or made of them, hold each such square and no
--- other: tests over all pairs, computed once.
-use Rattle.std.proofs.Common.{◌≡◌, ℕ, ◌+◌, ◌<◌, ◌⊎◌, ◌↔◌, ◌&&◌, ◌||◌, refl, arith, ap, sym, subst, ◌∙◌, inl, inr, Bool, true, false, eqb, ltb, leb, max, get_or, bit_or, ◌^◌, ◌%◌, ◌*◌, ◌/◌, bit_and}
+-- The table of where a piece may go holds each such square and no other: tests over all pairs, computed
+-- once.
+use Rattle.std.proofs.Common.{◌≡◌, ℕ, ◌+◌, ◌<◌, ◌≤◌, ◌⊎◌, ◌↔◌, ◌&&◌, ◌||◌, refl, arith, ap, sym, ◌∙◌, inl, inr, Bool, true, false, eqb, ltb, leb, max, get_or, bit_or, ◌^◌, ◌%◌, ◌*◌, ◌/◌, bit_and, []}
 use Rattle.std.specs.Int.{bit_at}
 use Rattle.std.proofs.lemmas.Bool.{and_parts, eq-eqb, eqb-true, lt-ltb, ltb-true, le-leb, leb-true}
 use Rattle.pb_board.specs.declared.piece.Colour.{Colour}
 use Rattle.pb_board.specs.declared.piece.Colour.TheVariants.{White, Black}
-use Rattle.pb_board.specs.Board.{rank}
-use Rattle.pb_moves.specs.declared.target_tables.TheConstants.{WHITE_PAWN, BLACK_PAWN}
-use Rattle.pb_moves.specs.declared.target_tables.TheConstants.{KNIGHT, BISHOP, ROOK, QUEEN, KING}
+use Rattle.pb_board.specs.Board.{file, rank, rank_for, IsForward}
+use Rattle.pb_moves.specs.declared.target_tables.TheConstants.{TARGETS}
 use Rattle.pb_board.specs.declared.piece.Kind.{Kind}
 use Rattle.pb_board.specs.declared.piece.Kind.TheVariants.{Pawn, Knight, Bishop, Rook, Queen, King}
-use Rattle.pb_moves.specs.Candidate.{MayGo}
-use Rattle.pb_moves.specs.Attacks.{files_apart, ranks_apart}
-use Rattle.pb_moves.specs.Reach.{IsKnightsMove, IsDiagonal, IsOrthogonal}
+use Rattle.pb_moves.specs.Candidate.{MayTarget, Steps, row_of}
+use Rattle.pb_moves.specs.Attacks.{Pattern, files_apart, ranks_apart}
 use Rattle.pb_moves.proofs.Below.{all_below, all_below_at}
 
 pub both : (x y : Bool) → x ≡ true → y ≡ true → (x && y) ≡ true
@@ -23,28 +21,99 @@ either x y (inl p) = cc
 either true y (inr q) = refl
 either false y (inr q) = q
 
-abbrev pub tests_diagonal : ℕ → ℕ → Bool
-tests_diagonal a b = eqb (files_apart a b) (ranks_apart a b) && ltb 0 (files_apart a b)
+either_part : (x y : Bool) → (x || y) ≡ true → (x ≡ true) ⊎ (y ≡ true)
+either_part true y h = inl refl
+either_part false y h = inr h
 
-abbrev pub tests_straight : ℕ → ℕ → Bool
-tests_straight a b =
-    (eqb (files_apart a b) 0 && ltb 0 (ranks_apart a b)) || (ltb 0 (files_apart a b) && eqb (ranks_apart a b) 0)
+-- ---- tests
 
-abbrev pub tests_queen : ℕ → ℕ → Bool
-tests_queen a b = tests_diagonal a b || tests_straight a b
+abbrev pattern_test : Kind → ℕ → ℕ → Bool
+pattern_test Pawn files ranks = eqb files 1 && eqb ranks 1
+pattern_test Knight files ranks = eqb (files * ranks) 2
+pattern_test Bishop files ranks = eqb files ranks && ltb 0 files
+pattern_test Rook files ranks = eqb (files * ranks) 0 && ltb 0 (files + ranks)
+pattern_test Queen files ranks = (eqb files ranks || eqb (files * ranks) 0) && ltb 0 (files + ranks)
+pattern_test King files ranks = eqb (max files ranks) 1
 
-abbrev pub tests_knight : ℕ → ℕ → Bool
-tests_knight a b =
-    (eqb (files_apart a b) 1 && eqb (ranks_apart a b) 2) || (eqb (files_apart a b) 2 && eqb (ranks_apart a b) 1)
+abbrev forward_test : Colour → ℕ → ℕ → ℕ → Bool
+forward_test White n a b = eqb (rank b) (rank a + n)
+forward_test Black n a b = eqb (rank a) (rank b + n)
 
-abbrev pub tests_king : ℕ → ℕ → Bool
-tests_king a b = eqb (max (files_apart a b) (ranks_apart a b)) 1 || (eqb (files_apart a b) 2 && eqb (ranks_apart a b) 0)
+abbrev steps_test : Colour → ℕ → ℕ → Bool
+steps_test side a b = eqb (file b) (file a) && (forward_test side 1 a b || (eqb (rank_for side a) 1 && forward_test side 2 a b))
 
-abbrev pub tests_white_pawn : ℕ → ℕ → Bool
-tests_white_pawn a b = (eqb (rank b) (rank a + 1) && leb (files_apart a b) 1) || (eqb (rank b) (rank a + 2) && eqb (files_apart a b) 0)
+abbrev target_test : Colour → Kind → ℕ → ℕ → Bool
+target_test side Pawn a b = (pattern_test Pawn (files_apart a b) (ranks_apart a b) && forward_test side 1 a b) || steps_test side a b
+target_test side kind a b = pattern_test kind (files_apart a b) (ranks_apart a b)
 
-abbrev pub tests_black_pawn : ℕ → ℕ → Bool
-tests_black_pawn a b = (eqb (rank a) (rank b + 1) && leb (files_apart a b) 1) || (eqb (rank a) (rank b + 2) && eqb (files_apart a b) 0)
+pattern_passes : (kind : Kind) (f r : ℕ) → Pattern kind f r → pattern_test kind f r ≡ true
+pattern_passes Pawn f r h = both _ _ (eq-eqb f 1 h.0) (eq-eqb r 1 h.1)
+pattern_passes Knight f r h = eq-eqb (f * r) 2 h
+pattern_passes Bishop f r h = both _ _ (eq-eqb f r h.0) (lt-ltb 0 f h.1)
+pattern_passes Rook f r h = both _ _ (eq-eqb (f * r) 0 h.0) (lt-ltb 0 (f + r) h.1)
+pattern_passes Queen f r (inl e, some) = both _ _ (either _ _ (inl (eq-eqb f r e))) (lt-ltb 0 (f + r) some)
+pattern_passes Queen f r (inr e, some) = both _ _ (either _ _ (inr (eq-eqb (f * r) 0 e))) (lt-ltb 0 (f + r) some)
+pattern_passes King f r h = eq-eqb (max f r) 1 h
+
+pattern_passed : (kind : Kind) (f r : ℕ) → pattern_test kind f r ≡ true → Pattern kind f r
+pattern_passed Pawn f r h = let w = and_parts (eqb f 1) (eqb r 1) h in (eqb-true f 1 w.0, eqb-true r 1 w.1)
+pattern_passed Knight f r h = eqb-true (f * r) 2 h
+pattern_passed Bishop f r h = let w = and_parts (eqb f r) (ltb 0 f) h in (eqb-true f r w.0, ltb-true 0 f w.1)
+pattern_passed Rook f r h = let w = and_parts (eqb (f * r) 0) (ltb 0 (f + r)) h in (eqb-true (f * r) 0 w.0, ltb-true 0 (f + r) w.1)
+pattern_passed Queen f r h =
+    let w = and_parts (eqb f r || eqb (f * r) 0) (ltb 0 (f + r)) h in (
+      elim (either_part (eqb f r) (eqb (f * r) 0) w.0) [ inl e ↦ inl (eqb-true f r e) | inr e ↦ inr (eqb-true (f * r) 0 e) ],
+      ltb-true 0 (f + r) w.1,
+    )
+pattern_passed King f r h = eqb-true (max f r) 1 h
+
+forward_passes : (side : Colour) (n a b : ℕ) → IsForward side n a b → forward_test side n a b ≡ true
+forward_passes White n a b h = eq-eqb (rank b) (rank a + n) h
+forward_passes Black n a b h = eq-eqb (rank a) (rank b + n) h
+
+forward_passed : (side : Colour) (n a b : ℕ) → forward_test side n a b ≡ true → IsForward side n a b
+forward_passed White n a b h = eqb-true (rank b) (rank a + n) h
+forward_passed Black n a b h = eqb-true (rank a) (rank b + n) h
+
+steps_passes : (side : Colour) (a b : ℕ) → Steps side a b → steps_test side a b ≡ true
+steps_passes side a b (same, inl one) = both _ _ (eq-eqb (file b) (file a) same) (either _ _ (inl (forward_passes side 1 a b one)))
+steps_passes side a b (same, inr two) = both _ _ (eq-eqb (file b) (file a) same) (either _ _ (inr (both _ _ (eq-eqb (rank_for side a) 1 two.0) (forward_passes side 2 a b two.1))))
+
+steps_passed : (side : Colour) (a b : ℕ) → steps_test side a b ≡ true → Steps side a b
+steps_passed side a b h =
+    let w = and_parts (eqb (file b) (file a)) (forward_test side 1 a b || (eqb (rank_for side a) 1 && forward_test side 2 a b)) h in (
+      eqb-true (file b) (file a) w.0,
+      elim (either_part (forward_test side 1 a b) (eqb (rank_for side a) 1 && forward_test side 2 a b) w.1) [
+        | inl one ↦ inl (forward_passed side 1 a b one)
+        | inr two ↦ (let t = and_parts (eqb (rank_for side a) 1) (forward_test side 2 a b) two in inr (eqb-true (rank_for side a) 1 t.0, forward_passed side 2 a b t.1))
+      ],
+    )
+
+piece_passes : (side : Colour) (kind : Kind) (a b : ℕ) → MayTarget side kind a b → target_test side kind a b ≡ true
+piece_passes side Pawn a b (inl h) = either _ _ (inl (both _ _ (pattern_passes Pawn (files_apart a b) (ranks_apart a b) h.0) (forward_passes side 1 a b (h.1 refl))))
+piece_passes side Pawn a b (inr h) = either _ _ (inr (steps_passes side a b h.1))
+piece_passes side Knight a b (inl h) = pattern_passes Knight (files_apart a b) (ranks_apart a b) h.0
+piece_passes side Bishop a b (inl h) = pattern_passes Bishop (files_apart a b) (ranks_apart a b) h.0
+piece_passes side Rook a b (inl h) = pattern_passes Rook (files_apart a b) (ranks_apart a b) h.0
+piece_passes side Queen a b (inl h) = pattern_passes Queen (files_apart a b) (ranks_apart a b) h.0
+piece_passes side King a b (inl h) = pattern_passes King (files_apart a b) (ranks_apart a b) h.0
+piece_passes side k a b (inr h) = absurd (let pawn = h.0 in cc)
+
+piece_passed : (side : Colour) (kind : Kind) (a b : ℕ) → target_test side kind a b ≡ true → MayTarget side kind a b
+piece_passed side Pawn a b h =
+    elim (either_part (pattern_test Pawn (files_apart a b) (ranks_apart a b) && forward_test side 1 a b) (steps_test side a b) h) [
+      | inl takes ↦
+          (let w = and_parts (pattern_test Pawn (files_apart a b) (ranks_apart a b)) (forward_test side 1 a b) takes in
+          inl (pattern_passed Pawn (files_apart a b) (ranks_apart a b) w.0, λ e. forward_passed side 1 a b w.1))
+      | inr steps ↦ inr (refl, steps_passed side a b steps)
+    ]
+piece_passed side Knight a b h = inl (pattern_passed Knight (files_apart a b) (ranks_apart a b) h, λ e. absurd cc)
+piece_passed side Bishop a b h = inl (pattern_passed Bishop (files_apart a b) (ranks_apart a b) h, λ e. absurd cc)
+piece_passed side Rook a b h = inl (pattern_passed Rook (files_apart a b) (ranks_apart a b) h, λ e. absurd cc)
+piece_passed side Queen a b h = inl (pattern_passed Queen (files_apart a b) (ranks_apart a b) h, λ e. absurd cc)
+piece_passed side King a b h = inl (pattern_passed King (files_apart a b) (ranks_apart a b) h, λ e. absurd cc)
+
+-- ---- the table
 
 -- the bit of a square that passes, or of one that does not
 abbrev pub bit_for : Bool → ℕ
@@ -58,12 +127,12 @@ tells targets passes a b = eqb (bit_at (targets a) b) (bit_for (passes a b))
 abbrev pub is_right : (ℕ → ℕ) → (ℕ → ℕ → Bool) → Bool
 is_right targets passes = all_below (λ a. all_below (tells targets passes a) 64) 64
 
-pub bit_is : (targets : ℕ → ℕ) (passes : ℕ → ℕ → Bool) (a b : ℕ) → is_right targets passes ≡ true → a < 64 → b < 64 → bit_at (targets a) b ≡ bit_for (passes a b)
+bit_is : (targets : ℕ → ℕ) (passes : ℕ → ℕ → Bool) (a b : ℕ) → is_right targets passes ≡ true → a < 64 → b < 64 → bit_at (targets a) b ≡ bit_for (passes a b)
 bit_is targets passes a b right on_a on_b =
     let row = all_below_at (λ k. all_below (tells targets passes k) 64) 64 a right on_a in
     eqb-true (bit_at (targets a) b) (bit_for (passes a b)) (all_below_at (tells targets passes a) 64 b row on_b)
 
-pub one_passes : (pass : Bool) → bit_for pass ≡ 1 → pass ≡ true
+one_passes : (pass : Bool) → bit_for pass ≡ 1 → pass ≡ true
 one_passes true e = refl
 one_passes false e = absurd (omega arith)
 
@@ -75,106 +144,43 @@ bit_tells targets passes a b P right on_a on_b pass back = (
   λ p. bit_is targets passes a b right on_a on_b ∙ ap (λ (x : Bool). bit_for x) (pass p),
 )
 
-white_pawn_is_right : is_right (λ a. get_or WHITE_PAWN a 0) tests_white_pawn ≡ true
-white_pawn_is_right = refl
+abbrev pub entry : ℕ → ℕ → ℕ
+entry row a = get_or (get_or TARGETS row []) a 0
 
-black_pawn_is_right : is_right (λ a. get_or BLACK_PAWN a 0) tests_black_pawn ≡ true
-black_pawn_is_right = refl
+rows_right : (side : Colour) (kind : Kind) → is_right (entry (row_of kind side)) (target_test side kind) ≡ true
+rows_right White Pawn = refl
+rows_right Black Pawn = refl
+rows_right side Knight = refl
+rows_right side Bishop = refl
+rows_right side Rook = refl
+rows_right side Queen = refl
+rows_right side King = refl
 
--- the squares next to one, and on its rank two files aside
-abbrev pub king : ℕ → ℕ
-king a = bit_or (get_or KING a 0) (bit_and (bit_or (1 * 2 ^ a % 2 ^ 64 * 4 % 2 ^ 64) (1 * 2 ^ a % 2 ^ 64 / 4)) (255 * 2 ^ bit_and a 56 % 2 ^ 64))
+pub row_tells : (side : Colour) (kind : Kind) (a b : ℕ) → a < 64 → b < 64 → (bit_at (entry (row_of kind side) a) b ≡ 1) ↔ MayTarget side kind a b
+row_tells side kind a b x y =
+    bit_tells (entry (row_of kind side)) (target_test side kind) a b (MayTarget side kind a b) (rows_right side kind) x y (piece_passes side kind a b) (piece_passed side kind a b)
 
-knight_is_right : is_right (λ a. get_or KNIGHT a 0) tests_knight ≡ true
-knight_is_right = refl
+-- ---- squares by shifts
 
-bishop_is_right : is_right (λ a. get_or BISHOP a 0) tests_diagonal ≡ true
-bishop_is_right = refl
+-- those two files aside
+abbrev pub two_aside : ℕ → ℕ
+two_aside a = bit_and (bit_or (1 * 2 ^ a % 2 ^ 64 * 4 % 2 ^ 64) (1 * 2 ^ a % 2 ^ 64 / 4)) (255 * 2 ^ bit_and a 56 % 2 ^ 64)
 
-rook_is_right : is_right (λ a. get_or ROOK a 0) tests_straight ≡ true
-rook_is_right = refl
+aside_is_right : is_right two_aside (λ a b. eqb (files_apart a b) 2 && eqb (ranks_apart a b) 0) ≡ true
+aside_is_right = refl
 
-queen_is_right : is_right (λ a. get_or QUEEN a 0) tests_queen ≡ true
-queen_is_right = refl
+pub aside_tells : (a b : ℕ) → a < 64 → b < 64 → (bit_at (two_aside a) b ≡ 1) ↔ ((files_apart a b ≡ 2) × (ranks_apart a b ≡ 0))
+aside_tells a b x y =
+    bit_tells two_aside (λ a b. eqb (files_apart a b) 2 && eqb (ranks_apart a b) 0) a b ((files_apart a b ≡ 2) × (ranks_apart a b ≡ 0)) aside_is_right x y
+    (λ h. both _ _ (eq-eqb (files_apart a b) 2 h.0) (eq-eqb (ranks_apart a b) 0 h.1))
+    (λ h. let w = and_parts (eqb (files_apart a b) 2) (eqb (ranks_apart a b) 0) h in (eqb-true (files_apart a b) 2 w.0, eqb-true (ranks_apart a b) 0 w.1))
 
-king_is_right : is_right king tests_king ≡ true
-king_is_right = refl
+-- those from one on
+abbrev pub up_from : ℕ → ℕ
+up_from a = 18446744073709551615 * 2 ^ a % 2 ^ 64
 
--- what two tests joined by && or || decide
-pub both_parts : (x y : Bool) (P Q : Type 0) → (x ≡ true → P) → (y ≡ true → Q) → (x && y) ≡ true → P × Q
-both_parts x y P Q f g h = let parts = and_parts x y h in (f parts.0, g parts.1)
+up_is_right : is_right up_from leb ≡ true
+up_is_right = refl
 
-pub either_part : (x y : Bool) (P Q : Type 0) → (x ≡ true → P) → (y ≡ true → Q) → (x || y) ≡ true → P ⊎ Q
-either_part true y P Q f g h = inl (f refl)
-either_part false y P Q f g h = inr (g h)
-
-pub white_pawn_bit : (a b : ℕ) → a < 64 → b < 64 → (bit_at (get_or WHITE_PAWN a 0) b ≡ 1) ↔ MayGo White Pawn a b
-white_pawn_bit a b x y =
-    bit_tells (λ q. get_or WHITE_PAWN q 0) tests_white_pawn a b (MayGo White Pawn a b) white_pawn_is_right x y
-    (λ h. elim h [
-      | inl one ↦ either _ _ (inl (both _ _ (eq-eqb (rank b) (rank a + 1) one.0) (le-leb (files_apart a b) 1 one.1)))
-      | inr two ↦ either _ _ (inr (both _ _ (eq-eqb (rank b) (rank a + 2) two.0) (eq-eqb (files_apart a b) 0 two.1)))
-    ])
-    (either_part _ _ _ _ (both_parts _ _ _ _ (eqb-true (rank b) (rank a + 1)) (leb-true (files_apart a b) 1)) (both_parts _ _ _ _ (eqb-true (rank b) (rank a + 2)) (eqb-true (files_apart a b) 0)))
-
-pub black_pawn_bit : (a b : ℕ) → a < 64 → b < 64 → (bit_at (get_or BLACK_PAWN a 0) b ≡ 1) ↔ MayGo Black Pawn a b
-black_pawn_bit a b x y =
-    bit_tells (λ q. get_or BLACK_PAWN q 0) tests_black_pawn a b (MayGo Black Pawn a b) black_pawn_is_right x y
-    (λ h. elim h [
-      | inl one ↦ either _ _ (inl (both _ _ (eq-eqb (rank a) (rank b + 1) one.0) (le-leb (files_apart a b) 1 one.1)))
-      | inr two ↦ either _ _ (inr (both _ _ (eq-eqb (rank a) (rank b + 2) two.0) (eq-eqb (files_apart a b) 0 two.1)))
-    ])
-    (either_part _ _ _ _ (both_parts _ _ _ _ (eqb-true (rank a) (rank b + 1)) (leb-true (files_apart a b) 1)) (both_parts _ _ _ _ (eqb-true (rank a) (rank b + 2)) (eqb-true (files_apart a b) 0)))
-
-pub knight_bit : (colour : Colour) (a b : ℕ) → a < 64 → b < 64 → (bit_at (get_or KNIGHT a 0) b ≡ 1) ↔ MayGo colour Knight a b
-knight_bit colour a b x y =
-    bit_tells (λ q. get_or KNIGHT q 0) tests_knight a b (IsKnightsMove a b) knight_is_right x y
-    (λ h. elim h [
-      | inl tall ↦ either _ _ (inl (both _ _ (eq-eqb (files_apart a b) 1 tall.0) (eq-eqb (ranks_apart a b) 2 tall.1)))
-      | inr wide ↦ either _ _ (inr (both _ _ (eq-eqb (files_apart a b) 2 wide.0) (eq-eqb (ranks_apart a b) 1 wide.1)))
-    ])
-    (either_part _ _ _ _ (both_parts _ _ _ _ (eqb-true (files_apart a b) 1) (eqb-true (ranks_apart a b) 2)) (both_parts _ _ _ _ (eqb-true (files_apart a b) 2) (eqb-true (ranks_apart a b) 1)))
-
-pub bishop_bit : (colour : Colour) (a b : ℕ) → a < 64 → b < 64 → (bit_at (get_or BISHOP a 0) b ≡ 1) ↔ MayGo colour Bishop a b
-bishop_bit colour a b x y =
-    bit_tells (λ q. get_or BISHOP q 0) tests_diagonal a b (IsDiagonal a b) bishop_is_right x y
-    (λ h. both _ _ (eq-eqb (files_apart a b) (ranks_apart a b) h.0) (lt-ltb 0 (files_apart a b) h.1))
-    (both_parts _ _ _ _ (eqb-true (files_apart a b) (ranks_apart a b)) (ltb-true 0 (files_apart a b)))
-
-passes_straight : (a b : ℕ) → IsOrthogonal a b → tests_straight a b ≡ true
-passes_straight a b (inl up) = either _ _ (inl (both _ _ (eq-eqb (files_apart a b) 0 up.0) (lt-ltb 0 (ranks_apart a b) up.1)))
-passes_straight a b (inr across) = either _ _ (inr (both _ _ (lt-ltb 0 (files_apart a b) across.0) (eq-eqb (ranks_apart a b) 0 across.1)))
-
-straight_passed : (a b : ℕ) → tests_straight a b ≡ true → IsOrthogonal a b
-straight_passed a b =
-    either_part _ _ _ _ (both_parts _ _ _ _ (eqb-true (files_apart a b) 0) (ltb-true 0 (ranks_apart a b))) (both_parts _ _ _ _ (ltb-true 0 (files_apart a b)) (eqb-true (ranks_apart a b) 0))
-
-pub rook_bit : (colour : Colour) (a b : ℕ) → a < 64 → b < 64 → (bit_at (get_or ROOK a 0) b ≡ 1) ↔ MayGo colour Rook a b
-rook_bit colour a b x y = bit_tells (λ q. get_or ROOK q 0) tests_straight a b (IsOrthogonal a b) rook_is_right x y (passes_straight a b) (straight_passed a b)
-
-pub king_bit : (colour : Colour) (a b : ℕ) → a < 64 → b < 64 → (bit_at (king a) b ≡ 1) ↔ MayGo colour King a b
-king_bit colour a b x y =
-    bit_tells king tests_king a b (MayGo colour King a b) king_is_right x y
-    (λ h. elim h [
-      | inl near ↦ either _ _ (inl (eq-eqb (max (files_apart a b) (ranks_apart a b)) 1 near))
-      | inr castles ↦ either _ _ (inr (both _ _ (eq-eqb (files_apart a b) 2 castles.0) (eq-eqb (ranks_apart a b) 0 castles.1)))
-    ])
-    (either_part _ _ _ _ (eqb-true (max (files_apart a b) (ranks_apart a b)) 1) (both_parts _ _ _ _ (eqb-true (files_apart a b) 2) (eqb-true (ranks_apart a b) 0)))
-
-pub queen_bit : (colour : Colour) (a b : ℕ) → a < 64 → b < 64 → (bit_at (get_or QUEEN a 0) b ≡ 1) ↔ MayGo colour Queen a b
-queen_bit colour a b x y =
-    bit_tells (λ q. get_or QUEEN q 0) tests_queen a b (MayGo colour Queen a b) queen_is_right x y
-    (λ h. elim h [
-      | inl diagonal ↦ either _ _ (inl (both _ _ (eq-eqb (files_apart a b) (ranks_apart a b) diagonal.0) (lt-ltb 0 (files_apart a b) diagonal.1)))
-      | inr straight ↦ either _ _ (inr (passes_straight a b straight))
-    ])
-    (either_part _ _ _ _ (both_parts _ _ _ _ (eqb-true (files_apart a b) (ranks_apart a b)) (ltb-true 0 (files_apart a b))) (straight_passed a b))
-
--- the same, with the colour, the kind and the square as the code names them
-pub bit_named : (colour side : Colour) (kind same : Kind) (from index to bit : ℕ) → colour ≡ side → kind ≡ same → index ≡ from
-    → ((bit ≡ 1) ↔ MayGo side same index to) → ((bit ≡ 1) ↔ MayGo colour kind from to)
-bit_named colour side kind same from index to bit same_colour same_kind same_square tells =
-    let C : Colour → Type 0 = λ x. (bit ≡ 1) ↔ MayGo x kind from to in
-    let K : Kind → Type 0 = λ x. (bit ≡ 1) ↔ MayGo side x from to in
-    let S : ℕ → Type 0 = λ x. (bit ≡ 1) ↔ MayGo side same x to in
-    subst C (sym same_colour) (subst K (sym same_kind) (subst S same_square tells))
+pub up_tells : (a b : ℕ) → a < 64 → b < 64 → (bit_at (up_from a) b ≡ 1) ↔ (a ≤ b)
+up_tells a b x y = bit_tells up_from leb a b (a ≤ b) up_is_right x y (le-leb a b) (leb-true a b)

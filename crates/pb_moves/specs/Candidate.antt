@@ -1,13 +1,14 @@
 -- Squares to which a piece may go, and the legal moves found so far.
-use Rattle.std.specs.Prelude.{◌≡◌, ℕ, ◌<◌, ◌≤◌, ◌⊎◌, ◌↔◌, max, List, All, AllPairs, Contains}
+use Rattle.std.specs.Prelude.{◌≡◌, ℕ, ◌<◌, ◌⊎◌, ◌↔◌, List, All, AllPairs, Contains}
 use Rattle.pb_board.specs.declared.piece.Colour.{Colour}
+use Rattle.pb_board.specs.declared.piece.Colour.TheVariants.{Black}
 use Rattle.pb_board.specs.declared.piece.Kind.{Kind}
-use Rattle.pb_board.specs.declared.piece.Kind.TheVariants.{Pawn, Knight, Bishop, Rook, Queen, King}
+use Rattle.pb_board.specs.declared.piece.Kind.TheVariants.{Pawn, King}
 use Rattle.pb_board.specs.declared.piece.Piece.{Piece}
-use Rattle.pb_board.specs.Board.{Holds, rank, IsForward}
+use Rattle.pb_board.specs.Board.{Board, Holds, IsEmpty, file, rank, rank_for, IsForward}
+use Rattle.pb_board.specs.Piece.{kind_number}
 use Rattle.pb_board.specs.Position.{Position}
-use Rattle.pb_moves.specs.Attacks.{files_apart, ranks_apart}
-use Rattle.pb_moves.specs.Reach.{IsKnightsMove, IsDiagonal, IsOrthogonal}
+use Rattle.pb_moves.specs.Attacks.{Attacks, Clear, Pattern, files_apart, ranks_apart}
 use Rattle.pb_moves.specs.Moved.{Moved, IsMove}
 use Rattle.pb_moves.specs.Cases.{SafeCase}
 use Rattle.pb_moves.specs.Listing.{place}
@@ -22,17 +23,35 @@ pub record HoldsOwn (s : Position) (square : ℕ) (piece : Piece) : Type 0 where
 abbrev pub AreOwn : ℕ → Position → Type 0
 AreOwn own s = (q : ℕ) → q < 64 → In own q ↔ ((piece : Piece) × HoldsOwn s q piece)
 
--- a piece of this colour and kind can go from one square to the other on some board
+-- a piece of this side and kind on a attacks b, if nothing stands between
+abbrev pub Points : Colour → Kind → ℕ → ℕ → Type 0
+Points side kind a b =
+    Pattern kind (files_apart a b) (ranks_apart a b) × (kind ≡ Pawn → IsForward side 1 a b)
+
+-- a pawn of this side on a steps to b, if nothing stands there or between
+abbrev pub Steps : Colour → ℕ → ℕ → Type 0
+Steps side a b = (file b ≡ file a)
+    × (IsForward side 1 a b ⊎ ((rank_for side a ≡ 1) × IsForward side 2 a b))
+
+-- the piece may go from a to b on some board, castling apart
+abbrev pub MayTarget : Colour → Kind → ℕ → ℕ → Type 0
+MayTarget side kind a b = Points side kind a b ⊎ ((kind ≡ Pawn) × Steps side a b)
+
+-- its row in the table of these squares: the number of its kind, but for black pawns
+abbrev pub row_of : Kind → Colour → ℕ
+row_of Pawn Black = 6
+row_of kind side = kind_number kind
+
+-- the piece may go from a to b on some board
 abbrev pub MayGo : Colour → Kind → ℕ → ℕ → Type 0
-MayGo colour Pawn a b =
-    (IsForward colour 1 a b × (files_apart a b ≤ 1))
-    ⊎ (IsForward colour 2 a b × (files_apart a b ≡ 0))
-MayGo colour Knight a b = IsKnightsMove a b
-MayGo colour Bishop a b = IsDiagonal a b
-MayGo colour Rook a b = IsOrthogonal a b
-MayGo colour Queen a b = IsDiagonal a b ⊎ IsOrthogonal a b
-MayGo colour King a b =
-    (max (files_apart a b) (ranks_apart a b) ≡ 1) ⊎ ((files_apart a b ≡ 2) × (ranks_apart a b ≡ 0))
+MayGo side kind a b = MayTarget side kind a b
+    ⊎ ((kind ≡ King) × (files_apart a b ≡ 2) × (ranks_apart a b ≡ 0))
+
+-- the piece attacks b, a pawn where something stands; or a pawn steps to b, as nothing is in its way
+abbrev pub GoesTo : Piece → Board → ℕ → ℕ → Type 0
+GoesTo p board a b =
+    (Attacks p.colour p.kind board a b × (p.kind ≡ Pawn → ¬ IsEmpty board b))
+    ⊎ ((p.kind ≡ Pawn) × Steps p.colour a b × Clear board a b × IsEmpty board b)
 
 -- a pawn that goes to the first or last rank
 abbrev pub MayPromote : Kind → ℕ → Type 0

@@ -108,6 +108,16 @@ pub record Castles (row : CastlingRow) (s : Position) (m : Moved) (piece : Piece
   pub allowed : RowAllows row s
   pub after : Goes s m piece (rook_goes row) new
 
+-- the piece alone goes
+abbrev pub UsualMove : Position → Moved → Piece → Board → Type 0
+UsualMove s m piece new = (PieceMove s m piece new ⊎ PawnCapture s m piece new)
+    ⊎ (PawnStep s m piece new ⊎ PawnDouble s m piece new)
+
+-- another piece goes too
+abbrev pub UnusualMove : Position → Moved → Piece → Board → Type 0
+UnusualMove s m piece new = EnPassant s m piece new
+    ⊎ ((castling : Castling) × Castles (castling_row castling) s m piece new)
+
 -- one of the cases relates the two boards
 pub data CaseOf (s : Position) (m : Moved) (piece : Piece) (new : Board) : Type 0 where
   piece_move : PieceMove s m piece new → CaseOf s m piece new

@@ -1,60 +1,83 @@
-//! Which squares a piece attacks.
+//! Which squares a piece attacks and reaches.
 
-ghost use Rattle.std.specs.Prelude.{◌≡◌, ◌≢◌, ℕ, ◌<◌, ◌↔◌, IsTrue, slice_index_or};
-ghost use Rattle.pb_board.specs.declared.piece.Kind.TheVariants.{Pawn};
-ghost use Rattle.pb_board.specs.Board.{Board, IsForward};
-ghost use Rattle.pb_moves.specs.Attacks.{Pattern, files_apart, ranks_apart};
+ghost use Rattle.std.specs.Prelude.{◌≡◌, ◌≢◌, ℕ, ◌<◌, ◌↔◌, IsTrue, if◌then◌else◌};
+ghost use Rattle.pb_board.specs.declared.piece.Kind.TheVariants.{Pawn, Bishop, Rook};
+ghost use Rattle.pb_board.specs.Board.{Board};
 ghost use Rattle.pb_moves.specs.Attackers.{In};
+ghost use Rattle.pb_moves.specs.Attacks.{Pattern, files_apart, ranks_apart};
+ghost use Rattle.pb_moves.specs.Candidate.{GoesTo, MayTarget, row_of};
 ghost use Rattle.pb_moves.specs.Reach.{Reaches};
 
+use crate::board::is_empty;
 use crate::rays::{between, has};
-use crate::target_tables::{BISHOP, KING, KNIGHT, QUEEN, ROOK};
+use crate::target_tables::{BLACK_PAWN, TARGETS};
 use pb_board::{Colour, Kind, Piece, Setup, Square};
 
-/// Whether `to` is this many ranks forward of `from`.
+/// The row of the piece in the table of targets.
 #[inline(always)]
-pub(crate) fn is_forward(colour: Colour, ranks: u8, from: Square, to: Square) -> bool
-    requires { ranks < 8 }
-    ensures { IsTrue result ↔ IsForward colour ranks from to }
+fn row(piece: Piece) -> usize
+    ensures { result ≡ row_of piece.kind piece.colour }
 {
-    match colour {
-        Colour::White => to.rank() == from.rank() + ranks,
-        Colour::Black => from.rank() == to.rank() + ranks,
+    match piece {
+        Piece {
+            kind: Kind::Pawn,
+            colour: Colour::Black,
+        } => BLACK_PAWN,
+        _ => piece.kind as usize,
     }
 }
 
-/// For each square what a piece of this kind attacks from it on an empty board.
+/// Where the piece may go from the square on an empty board, and a pawn also by a capture. Which kind
+/// it is can't be foretold, so no branch is made of it.
 #[inline(always)]
-fn targets(kind: Kind) -> &'static [u64; 64]
+pub(crate) fn targets(piece: Piece, from: Square) -> u64
+    ensures squares { (to : ℕ) → to < 64
+        → (In result to ↔ MayTarget piece.colour piece.kind from to) }
+    ensures on_board { from < 64 }
+{
+    TARGETS[row(piece)][from.index() as usize]
+}
+
+/// The squares that a piece of this kind, of either side, attacks on an empty board.
+#[inline(always)]
+pub(crate) fn pattern(kind: Kind, from: Square) -> u64
     requires { kind ≢ Pawn }
-    ensures { (a b : ℕ) → a < 64 → b < 64 → (In (slice_index_or result.now a 0) b
-        ↔ Pattern kind (files_apart a b) (ranks_apart a b)) }
+    ensures squares { (to : ℕ) → to < 64
+        → (In result to ↔ Pattern kind (files_apart from to) (ranks_apart from to)) }
+    ensures on_board { from < 64 }
 {
-    match kind {
-        Kind::Knight => &KNIGHT,
-        Kind::Bishop => &BISHOP,
-        Kind::Rook => &ROOK,
-        Kind::Queen => &QUEEN,
-        Kind::King | Kind::Pawn => &KING,
+    let colour = Colour::White;
+    targets(Piece { colour, kind }, from)
+}
+
+/// A pawn takes on the diagonals and steps along its file.
+#[inline(always)]
+fn ways(kind: Kind, from: Square, takes: bool) -> u64
+    ensures { (to : ℕ) → to < 64 → (In result to ↔ (kind ≡ Pawn
+        → Pattern (if takes then Bishop else Rook) (files_apart from to) (ranks_apart from to))) }
+{
+    if kind == Kind::Pawn {
+        pattern(if takes { Kind::Bishop } else { Kind::Rook }, from)
+    } else {
+        !0
     }
 }
 
-/// Which kind the piece is can't be foretold, so no branch is made of it: the way is looked at for
-/// those that jump too.
+/// Whether the piece goes there: as it attacks, or as a pawn that steps to an empty square. The way
+/// is looked at for those that jump too.
 #[inline(always)]
-pub(crate) fn piece_reaches(piece: Piece, setup: &Setup, from: Square, to: Square) -> bool
-    requires no_pawn { piece.kind ≢ Pawn }
-    requires apart { ¬ (from ≡ to) }
-    ensures { IsTrue result ↔ Reaches piece setup.now.board from to }
+pub(crate) fn reaches(piece: Piece, setup: &Setup, from: Square, to: Square) -> bool
+    ensures { IsTrue result ↔ GoesTo piece setup.now.board from to }
 {
-    let taken = between(from, to) & setup.occupied();
-    has(targets(piece.kind)[from.index() as usize], to) & (taken == 0)
+    let takes = !is_empty(setup, to);
+    let reached = targets(piece, from) & ways(piece.kind, from, takes);
+    has(reached, to) & (between(from, to) & setup.occupied() == 0)
 }
 
 #[inline(always)]
-pub(crate) fn pawn_reaches(pawn: Piece, from: Square, to: Square) -> bool
+pub(crate) fn pawn_takes(pawn: Piece, from: Square, to: Square) -> bool
     requires { pawn.kind ≡ Pawn }
     ensures { (b : Board) → IsTrue result ↔ Reaches pawn b from to }
 {
-    from.file().abs_diff(to.file()) == 1 && is_forward(pawn.colour, 1, from, to)
+    has(targets(pawn, from) & pattern(Kind::Bishop, from), to)
 }

@@ -1,42 +1,37 @@
 //! Attackers of a square, by bitboards.
 
-ghost use Rattle.std.specs.Prelude.{◌≡◌, ◌≢◌, ℕ, ◌<◌, ◌↔◌, [], ◌∷◌, Some, None, IsTrue, max};
+ghost use Rattle.std.specs.Prelude.{◌≡◌, ◌≢◌, ℕ, ◌<◌, ◌↔◌, [], ◌∷◌, Some, None, IsTrue};
 ghost use Rattle.pb_board.specs.Board.{Board, Holds};
 ghost use Rattle.pb_board.specs.declared.piece.Colour.{Colour};
+ghost use Rattle.pb_board.specs.declared.piece.Kind.{Kind};
+ghost use Rattle.pb_board.specs.declared.piece.Kind.TheVariants.{Pawn};
 ghost use Rattle.pb_board.specs.declared.piece.Piece.{Piece};
+ghost use Rattle.pb_board.specs.Piece.{piece_of};
 ghost use Rattle.pb_moves.specs.Successor.{Differs};
-ghost use Rattle.pb_moves.specs.Attacks.{files_apart, ranks_apart};
-ghost use Rattle.pb_moves.specs.Reach.{IsReached, IsKnightsMove};
-ghost use Rattle.pb_moves.specs.Attackers.{In, AreAttackers, StrikesFrom};
+ghost use Rattle.pb_moves.specs.Attacks.{IsAttacked};
+ghost use Rattle.pb_moves.specs.Attackers.{In, IsSight};
+ghost use Rattle.pb_moves.specs.Candidate.{Points};
 
-use crate::board::squares_of;
-use crate::rays::Slider;
-use crate::target_tables::{BISHOP, BLACK_PAWN, KING, KNIGHT, WHITE_PAWN};
-use pb_board::{Colour, Kind, Setup, Square};
+use crate::attack::{pattern, targets};
+use crate::board::square_at;
+use crate::rays::between;
+use pb_board::{Colour, Kind, Piece, Setup, Square};
 
-/// The bitboards of all pieces and of the attackers of one side.
+/// The squares of all pieces and those of the attackers, on a setup's board or after a move of the
+/// other side.
 #[derive(Clone, Copy)]
-pub(crate) struct Attackers {
+pub(crate) struct Sight {
     pub(crate) occupied: u64,
-    pub(crate) pawns: u64,
-    pub(crate) knights: u64,
-    pub(crate) kings: u64,
-    pub(crate) orthogonal: u64,
-    pub(crate) diagonal: u64,
+    pub(crate) attackers: u64,
 }
 
 #[inline(always)]
-pub(crate) fn attackers_of(setup: &Setup, colour: Colour) -> Attackers
-    ensures { AreAttackers setup.now.board colour result }
+pub(crate) fn sight_of(setup: &Setup, by: Colour) -> Sight
+    ensures { IsSight setup.now.board setup.now.board by result }
 {
-    let queens = squares_of(setup, colour, Kind::Queen);
-    Attackers {
+    Sight {
         occupied: setup.occupied(),
-        pawns: squares_of(setup, colour, Kind::Pawn),
-        knights: squares_of(setup, colour, Kind::Knight),
-        kings: squares_of(setup, colour, Kind::King),
-        orthogonal: squares_of(setup, colour, Kind::Rook) | queens,
-        diagonal: squares_of(setup, colour, Kind::Bishop) | queens,
+        attackers: setup.by_colour(by),
     }
 }
 
@@ -44,77 +39,74 @@ pub(crate) fn attackers_of(setup: &Setup, colour: Colour) -> Attackers
 /// other colour may go from it on a diagonal.
 #[inline(always)]
 fn pawns_from(colour: Colour, square: Square) -> u64
-    ensures { (a : ℕ) → a < 64 → (In result a ↔ StrikesFrom colour a square) }
+    ensures { (a : ℕ) → a < 64 → (In result a ↔ Points colour Pawn a square) }
 {
-    let index = square.index() as usize;
-    match colour {
-        Colour::White => BLACK_PAWN[index] & BISHOP[index],
-        Colour::Black => WHITE_PAWN[index] & BISHOP[index],
+    let pawn = Piece {
+        colour: colour.opponent(),
+        kind: Kind::Pawn,
+    };
+    targets(pawn, square) & pattern(Kind::Bishop, square)
+}
+
+/// The squares of the pieces, of either side, that would attack the square on an empty board if they
+/// were of this one.
+#[inline(always)]
+fn pieces_from(setup: &Setup, by: Colour, square: Square) -> u64
+    ensures { (a : ℕ) → a < 64 → (In result a ↔ ((colour : Colour) × (kind : Kind)
+        × Holds setup.now.board a (piece_of colour kind) × Points by kind a square)) }
+{
+    let queens = setup.by_kind(Kind::Queen);
+    pawns_from(by, square) & setup.by_kind(Kind::Pawn)
+        | pattern(Kind::Knight, square) & setup.by_kind(Kind::Knight)
+        | pattern(Kind::Bishop, square) & (setup.by_kind(Kind::Bishop) | queens)
+        | pattern(Kind::Rook, square) & (setup.by_kind(Kind::Rook) | queens)
+        | pattern(Kind::King, square) & setup.by_kind(Kind::King)
+}
+
+#[inline(always)]
+pub(crate) fn is_attacked(setup: &Setup, sight: Sight, square: Square, by: Colour) -> bool
+    ensures { (b : Board) → IsSight setup.now.board b by sight
+        → (IsTrue result ↔ IsAttacked b by square) }
+{
+    let mut rest = pieces_from(setup, by, square) & sight.attackers;
+    while rest != 0 {
+        let from = rest.trailing_zeros();
+        if between(square_at(from as u8), square) & sight.occupied == 0 {
+            return true;
+        }
+        rest &= !(1 << from);
     }
+    false
 }
 
-#[inline(always)]
-pub(crate) fn knights_from(square: Square) -> u64
-    ensures moves { (a : ℕ) → a < 64 → (In result a ↔ IsKnightsMove a square) }
-    ensures on_board { square < 64 }
-{
-    KNIGHT[square.index() as usize]
-}
-
-#[inline(always)]
-pub(crate) fn kings_from(square: Square) -> u64
-    ensures { (a : ℕ) → a < 64 → (In result a ↔ (max (files_apart a square) (ranks_apart a square)
-        ≡ 1)) }
-{
-    KING[square.index() as usize]
-}
-
-#[inline(always)]
-pub(crate) fn is_attacked(attackers: &Attackers, square: Square, by: Colour) -> bool
-    ensures { (b : Board) → AreAttackers b by attackers.now
-        → (IsTrue result ↔ IsReached b by square) }
-{
-    let near = pawns_from(by, square) & attackers.pawns
-        | knights_from(square) & attackers.knights
-        | kings_from(square) & attackers.kings;
-    if near != 0 {
-        return true;
+impl Sight {
+    /// What is seen after a piece of the other side has gone from one square to another.
+    #[inline(always)]
+    pub(crate) fn after(self, from: Square, to: Square) -> Sight
+        requires { ¬ (from ≡ to) }
+        ensures { (first old new : Board) (by : Colour) (piece own : Piece)
+            → IsSight first old by self
+            → Differs old new ((from, None) ∷ (to, Some piece) ∷ []) → piece.colour ≢ by
+            → Holds old from own → own.colour ≢ by → IsSight first new by result }
+    {
+        let left = !(1u64 << from.index());
+        let reached = 1u64 << to.index();
+        Sight {
+            occupied: self.occupied & left | reached,
+            attackers: self.attackers & !reached,
+        }
     }
-    if Slider::Diagonal.slides(attackers.occupied, attackers.diagonal, square) {
-        return true;
-    }
-    Slider::Orthogonal.slides(attackers.occupied, attackers.orthogonal, square)
-}
 
-/// The attackers after a piece of the other side has gone from one square to another.
-#[inline(always)]
-pub(crate) fn attackers_after(attackers: Attackers, from: Square, to: Square) -> Attackers
-    requires { ¬ (from ≡ to) }
-    ensures { (old new : Board) (by : Colour) (piece own : Piece) → AreAttackers old by attackers
-        → Differs old new ((from, None) ∷ (to, Some piece) ∷ []) → piece.colour ≢ by
-        → Holds old from own → own.colour ≢ by → AreAttackers new by result }
-{
-    let left = !(1u64 << from.index());
-    let reached = 1u64 << to.index();
-    Attackers {
-        occupied: attackers.occupied & left | reached,
-        pawns: attackers.pawns & !reached,
-        knights: attackers.knights & !reached,
-        kings: attackers.kings & !reached,
-        orthogonal: attackers.orthogonal & !reached,
-        diagonal: attackers.diagonal & !reached,
-    }
-}
-
-/// The attackers after a piece of the other side has gone from the board.
-#[inline(always)]
-pub(crate) fn attackers_without(attackers: Attackers, from: Square) -> Attackers
-    ensures { (old new : Board) (by : Colour) (own : Piece) → AreAttackers old by attackers
-        → Differs old new ((from, None) ∷ [])
-        → Holds old from own → own.colour ≢ by → AreAttackers new by result }
-{
-    Attackers {
-        occupied: attackers.occupied & !(1u64 << from.index()),
-        ..attackers
+    /// What is seen after a piece of the other side has gone from the board.
+    #[inline(always)]
+    pub(crate) fn without(self, from: Square) -> Sight
+        ensures { (first old new : Board) (by : Colour) (own : Piece) → IsSight first old by self
+            → Differs old new ((from, None) ∷ [])
+            → Holds old from own → own.colour ≢ by → IsSight first new by result }
+    {
+        Sight {
+            occupied: self.occupied & !(1u64 << from.index()),
+            ..self
+        }
     }
 }

@@ -34,16 +34,6 @@ pub(crate) fn own_squares(setup: &Setup) -> u64
     setup.by_colour(setup.turn())
 }
 
-#[inline(always)]
-pub(crate) fn is_capturable(setup: &Setup, side: Colour, square: Square) -> bool
-    ensures value { IsTrue result ↔ IsCapturable setup.now.board side square }
-    ensures rules { IsSetup setup.now }
-{
-    let colour = side.opponent();
-    let king = squares_of(setup, colour, Kind::King);
-    has(setup.by_colour(colour) & !king, square)
-}
-
 /// Which of the two is the case can't be foretold, so one test tells both.
 #[inline(always)]
 pub(crate) fn is_target(setup: &Setup, side: Colour, square: Square) -> bool

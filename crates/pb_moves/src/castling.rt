@@ -17,7 +17,7 @@ use crate::board::holds;
 use crate::check::attacked;
 use crate::move_kind::MoveKind;
 use crate::moves::Move;
-use crate::rays::Slider;
+use crate::rays::between;
 use pb_board::{Castling, Kind, MovedPiece, Piece, Setup};
 
 fn way_is_clear(castling: Castling, setup: &Setup) -> bool
@@ -25,7 +25,7 @@ fn way_is_clear(castling: Castling, setup: &Setup) -> bool
         IsTrue result ↔ WayIsClear setup.now.board row.king_from row.rook_from }
 {
     let squares = castling.squares();
-    Slider::Orthogonal.is_clear(setup.occupied(), squares.rook_from, squares.king_from)
+    between(squares.king_from, squares.rook_from) & setup.occupied() == 0
 }
 
 fn way_is_safe(castling: Castling, setup: &Setup) -> bool

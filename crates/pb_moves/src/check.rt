@@ -4,14 +4,14 @@ ghost use Rattle.std.specs.Prelude.{◌≡◌, ◌<◌, ◌↔◌, IsTrue};
 ghost use Rattle.pb_board.specs.Piece.{opponent};
 ghost use Rattle.pb_moves.specs.Attacks.{IsAttacked, InCheck, IsPlayable};
 
-use crate::attackers::{attackers_of, is_attacked};
+use crate::attackers::{is_attacked, sight_of};
 use pb_board::{Colour, Setup, Square};
 
 /// Tells whether some piece of this side attacks the square, whoever is to move.
 pub fn attacked(setup: &Setup, square: Square, by: Colour) -> bool
     ensures { IsTrue result ↔ IsAttacked setup.now.board by square }
 {
-    is_attacked(&attackers_of(setup, by), square, by)
+    is_attacked(setup, sight_of(setup, by), square, by)
 }
 
 /// Tells whether this side is in check.

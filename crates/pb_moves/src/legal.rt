@@ -7,16 +7,16 @@ ghost use Rattle.pb_board.specs.Board.{Board};
 ghost use Rattle.pb_board.specs.Piece.{opponent};
 ghost use Rattle.pb_board.specs.Position.{IsOnlyKing, IsSetup};
 ghost use Rattle.pb_moves.specs.Candidate.{HoldsOwn};
-ghost use Rattle.pb_moves.specs.Cases.{CaseOf, SafeCase};
+ghost use Rattle.pb_moves.specs.Cases.{CaseOf, SafeCase, UnusualMove};
 ghost use Rattle.pb_moves.specs.MoveKind.{Finds, LeadsTo};
 ghost use Rattle.pb_moves.specs.declared.move_kind.MoveKind.TheVariants.{Two};
 ghost use Rattle.pb_moves.specs.Moved.{Moved};
-ghost use Rattle.pb_moves.specs.Attackers.{AreAttackers};
+ghost use Rattle.pb_moves.specs.Attackers.{IsSight};
 ghost use Rattle.pb_moves.specs.Unpinned.{IsUnpinned};
 
-use crate::attackers::{Attackers, attackers_after, attackers_of, attackers_without, is_attacked};
-use crate::board::{is_empty, own_squares};
-use crate::cases::{becomes, en_passant, pawn_capture, pawn_double, pawn_step, piece_move};
+use crate::attackers::{Sight, is_attacked, sight_of};
+use crate::board::own_squares;
+use crate::cases::{en_passant, usual_move};
 use crate::castling::castles;
 use crate::move_kind::MoveKind;
 use crate::moves::Move;
@@ -36,35 +36,17 @@ pub(crate) fn own_piece(setup: &Setup, square: Square) -> Option<Piece>
     }
 }
 
+/// Few moves need it, so it isn't inlined.
 #[inline(never)]
-fn pawn_change(setup: &Setup, m: Move, pawn: Piece) -> Option<MoveKind>
-    requires own { HoldsOwn setup.now m.from pawn }
-    requires pawn { pawn.kind ≡ Pawn }
-    ensures { Finds (CaseOf setup.now m pawn) setup.now m result }
+fn unusual_move(setup: &Setup, m: Move, piece: Piece) -> Option<MoveKind>
+    requires own { HoldsOwn setup.now m.from piece }
+    ensures { Finds (UnusualMove setup.now m piece) setup.now m result }
 {
-    let kind = becomes(pawn.colour, m)?;
-    if let Some(change) = pawn_step(setup, m, pawn, kind) {
-        return Some(change);
+    match piece.kind {
+        Kind::Pawn => en_passant(setup, m, piece),
+        Kind::King => castles(setup, m, piece),
+        _ => None,
     }
-    if let Some(change) = pawn_double(setup, m, pawn, kind) {
-        return Some(change);
-    }
-    if let Some(change) = pawn_capture(setup, m, pawn, kind) {
-        return Some(change);
-    }
-    en_passant(setup, m, pawn, kind)
-}
-
-#[inline(never)]
-fn king_change(setup: &Setup, m: Move, king: Piece) -> Option<MoveKind>
-    requires own { HoldsOwn setup.now m.from king }
-    requires king { king.kind ≡ King }
-    ensures { Finds (CaseOf setup.now m king) setup.now m result }
-{
-    if let Some(change) = piece_move(setup, m, king) {
-        return Some(change);
-    }
-    castles(setup, m, king)
 }
 
 #[inline(always)]
@@ -72,27 +54,9 @@ pub(crate) fn change_of(setup: &Setup, m: Move, piece: Piece) -> Option<MoveKind
     requires own { HoldsOwn setup.now m.from piece }
     ensures { Finds (CaseOf setup.now m piece) setup.now m result }
 {
-    match piece.kind {
-        Kind::Pawn => pawn_change(setup, m, piece),
-        Kind::King => king_change(setup, m, piece),
-        _ => piece_move(setup, m, piece),
-    }
-}
-
-/// A cheap test before the rules of a pawn: false only where it has no move there.
-#[inline(always)]
-pub(crate) fn has_way(setup: &Setup, piece: Piece, from: Square, to: Square) -> bool
-    ensures { (m : Moved) (b : Board) → m.from ≡ from → m.to ≡ to → CaseOf setup.now m piece b
-        → IsTrue result }
-{
-    if piece.kind != Kind::Pawn {
-        return true;
-    }
-    let empty = is_empty(setup, to);
-    if from.file() == to.file() {
-        empty
-    } else {
-        !empty || setup.ep().is_some()
+    match usual_move(setup, m, piece) {
+        Some(change) => Some(change),
+        None => unusual_move(setup, m, piece),
     }
 }
 
@@ -112,17 +76,21 @@ pub(crate) fn king_after(setup: &Setup, m: Move, piece: Piece) -> Square
 /// Whether the moves that put this piece alone elsewhere need no test of check: its king wouldn't be
 /// attacked if it were gone.
 #[inline(always)]
-pub(crate) fn is_unpinned(setup: &Setup, enemy: &Attackers, from: Square, piece: Piece) -> bool
+pub(crate) fn is_unpinned(setup: &Setup, enemy: Sight, from: Square, piece: Piece) -> bool
     requires own { HoldsOwn setup.now from piece }
-    requires seen { AreAttackers setup.now.board (opponent setup.now.turn) enemy.now }
+    requires seen { IsSight setup.now.board setup.now.board (opponent setup.now.turn) enemy }
     ensures { IsTrue result → IsUnpinned setup.now from piece }
 {
     if piece.kind == Kind::King {
         return false;
     }
     let side = setup.turn();
-    let seen = attackers_without(*enemy, from);
-    !is_attacked(&seen, setup.king(side), side.opponent())
+    !is_attacked(
+        setup,
+        enemy.without(from),
+        setup.king(side),
+        side.opponent(),
+    )
 }
 
 #[inline(always)]
@@ -134,8 +102,8 @@ pub(crate) fn is_safe(setup: &Setup, m: Move, piece: Piece, kind: &MoveKind) -> 
     match *kind {
         MoveKind::One(_) => {
             let enemy = setup.turn().opponent();
-            let seen = attackers_after(attackers_of(setup, enemy), m.from(), m.to());
-            !is_attacked(&seen, king_after(setup, m, piece), enemy)
+            let sight = sight_of(setup, enemy).after(m.from(), m.to());
+            !is_attacked(setup, sight, king_after(setup, m, piece), enemy)
         }
         MoveKind::Two(first, second) => is_safe_two(setup, m, piece, first, second),
     }
@@ -149,9 +117,9 @@ fn is_safe_two(setup: &Setup, m: Move, piece: Piece, first: MovedPiece, second: 
     ensures { IsTrue result ↔ SafeCase setup.now m }
 {
     let enemy = setup.turn().opponent();
-    let between = attackers_after(attackers_of(setup, enemy), first.from, first.to);
-    let seen = attackers_after(between, second.from, second.to);
-    !is_attacked(&seen, king_after(setup, m, piece), enemy)
+    let between = sight_of(setup, enemy).after(first.from, first.to);
+    let sight = between.after(second.from, second.to);
+    !is_attacked(setup, sight, king_after(setup, m, piece), enemy)
 }
 
 #[inline(always)]

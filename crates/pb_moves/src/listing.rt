@@ -6,13 +6,13 @@ ghost use Rattle.pb_board.specs.Piece.{opponent};
 ghost use Rattle.pb_moves.specs.Moved.{IsPromotion, promotion_number};
 ghost use Rattle.pb_moves.specs.Listing.{ListsLegal};
 ghost use Rattle.pb_moves.specs.Unpinned.{IsUnpinned};
-ghost use Rattle.pb_moves.specs.Attackers.{AreAttackers};
+ghost use Rattle.pb_moves.specs.Attackers.{IsSight};
 ghost use Rattle.pb_moves.specs.Candidate.{AreOwn, HoldsOwn, MayPromote, ListsBelow};
 
-use crate::attackers::{Attackers, attackers_of};
+use crate::attackers::{Sight, sight_of};
 use crate::board::{own_squares, square_at};
 use crate::candidates::candidates;
-use crate::legal::{has_way, is_legal_for, is_unpinned, own_piece};
+use crate::legal::{is_legal_for, is_unpinned, own_piece};
 use crate::moves::Move;
 use crate::rays::has;
 use pb_board::{Kind, Piece, Setup, Square};
@@ -26,7 +26,7 @@ const USUAL_MOVES: usize = 64;
 struct Lister<'a> {
     setup: &'a Setup,
     own: u64,
-    enemy: Attackers,
+    enemy: Sight,
 }
 
 #[derive(Drop)]
@@ -44,7 +44,7 @@ pub fn legal_moves(alloc: Global, setup: &Setup) -> Result<Vec<Move>, AllocError
     let lister = Lister {
         setup,
         own: own_squares(setup),
-        enemy: attackers_of(setup, setup.turn().opponent()),
+        enemy: sight_of(setup, setup.turn().opponent()),
     };
     let mut moves = Vec::with_capacity(alloc, USUAL_MOVES)?;
     for index in 0..64u8 {
@@ -62,7 +62,7 @@ fn may_promote(kind: Kind, to: Square) -> bool
 
 impl<'a> Lister<'a> {
     fn push_from(&self, from: Square, moves: &mut Vec<Move>) -> Result<(), AllocError>
-        requires seen { AreAttackers self.now.setup.now.board (opponent self.now.setup.now.turn)
+        requires seen { IsSight self.now.setup.now.board self.now.setup.now.board (opponent self.now.setup.now.turn)
             self.now.enemy }
         requires own { AreOwn self.now.own self.now.setup.now }
         requires before { ListsBelow self.now.setup.now moves.old.items (320 * from) }
@@ -74,7 +74,7 @@ impl<'a> Lister<'a> {
         let Some(piece) = own_piece(self.setup, from) else {
             return Ok(());
         };
-        let unpinned = is_unpinned(self.setup, &self.enemy, from, piece);
+        let unpinned = is_unpinned(self.setup, self.enemy, from, piece);
         let mover = Mover {
             piece,
             from,
@@ -100,9 +100,6 @@ impl<'a> Lister<'a> {
             (320 * mover.now.from + 5 * to + 5)) }
     {
         let promotes = may_promote(mover.piece.kind, to);
-        if !has_way(self.setup, mover.piece, mover.from, to) {
-            return Ok(());
-        }
         self.push_legal(mover, to, None, moves)?;
         if !promotes {
             return Ok(());

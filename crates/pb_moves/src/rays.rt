@@ -1,12 +1,12 @@
 //! Lines on the board, as bitboards.
 
-ghost use Rattle.std.specs.Prelude.{◌≡◌, ℕ, ◌<◌, ◌⊎◌, ◌↔◌, IsTrue};
-ghost use Rattle.pb_moves.specs.Attackers.{Between, In};
-ghost use Rattle.pb_moves.specs.Reach.{IsDiagonal, IsOrthogonal, LiesBetween};
+ghost use Rattle.std.specs.Prelude.{◌≡◌, ◌≢◌, ℕ, ◌<◌, ◌↔◌, IsTrue};
+ghost use Rattle.pb_board.specs.declared.piece.Kind.TheVariants.{Pawn, Queen};
+ghost use Rattle.pb_moves.specs.Attackers.{In};
+ghost use Rattle.pb_moves.specs.Attacks.{IsBetween, Pattern, files_apart, ranks_apart};
 
-use crate::board::square_at;
-use crate::target_tables::{BISHOP, ROOK};
-use pb_board::Square;
+use crate::attack::pattern;
+use pb_board::{Kind, Square};
 
 #[inline(always)]
 pub(crate) fn has(set: u64, square: Square) -> bool
@@ -16,87 +16,26 @@ pub(crate) fn has(set: u64, square: Square) -> bool
     set >> square.index() & 1 == 1
 }
 
+/// The squares that lines of this kind through both squares cross, where one leads from one to the
+/// other.
 #[inline(always)]
-fn run(low: u8, high: u8) -> u64
-    requires apart { low < high }
-    requires on_board { high < 64 }
-    ensures { (q : ℕ) → In result q ↔ ((low < q) × (q < high)) }
+fn line(kind: Kind, a: Square, b: Square) -> u64
+    requires { kind ≢ Pawn }
+    ensures { (q : ℕ) → q < 64 → (In result q ↔ Pattern kind (files_apart a b) (ranks_apart a b)
+        × Pattern kind (files_apart a q) (ranks_apart a q)
+        × Pattern kind (files_apart b q) (ranks_apart b q)) }
 {
-    (1u64 << high) - (1u64 << (low + 1))
+    let rays = pattern(kind, a);
+    let line = rays & pattern(kind, b);
+    if has(rays, b) { line } else { 0 }
 }
 
-#[inline(always)]
-fn interval(a: Square, b: Square) -> u64
-    requires { ¬ (a ≡ b) }
-    ensures { (q : ℕ) → In result q ↔ Between a b q }
-{
-    let (a, b) = (a.index(), b.index());
-    run(a.min(b), a.max(b))
-}
-
-/// No branch is made of where the squares stand.
+/// The squares between two on one line. No branch is made of where they stand.
 #[inline(always)]
 pub(crate) fn between(a: Square, b: Square) -> u64
-    requires { ¬ (a ≡ b) }
-    ensures { (q : ℕ) → q < 64
-        → (In result q ↔ ((IsDiagonal a b ⊎ IsOrthogonal a b) × LiesBetween a q b)) }
+    ensures { (q : ℕ) → q < 64 → (In result q
+        ↔ Pattern Queen (files_apart a b) (ranks_apart a b) × IsBetween a q b) }
 {
-    (Slider::Orthogonal.line(a, b) | Slider::Diagonal.line(a, b)) & interval(a, b)
-}
-
-/// The lines along which pieces slide.
-#[derive(Clone, Copy)]
-pub(crate) enum Slider {
-    Orthogonal,
-    Diagonal,
-}
-
-impl Slider {
-    ghost use Rattle.pb_moves.specs.Attackers.{Along, Open, Slides};
-
-    #[inline(always)]
-    pub(crate) fn rays(self, square: Square) -> u64
-        ensures lines { (q : ℕ) → q < 64 → (In result q ↔ Along self square q) }
-        ensures on_board { square < 64 }
-    {
-        let index = square.index() as usize;
-        match self {
-            Slider::Orthogonal => ROOK[index],
-            Slider::Diagonal => BISHOP[index],
-        }
-    }
-
-    #[inline(always)]
-    fn line(self, a: Square, b: Square) -> u64
-        ensures { (q : ℕ) → q < 64
-            → (In result q ↔ (Along self a b × Along self a q × Along self b q)) }
-    {
-        let rays = self.rays(a);
-        let line = rays & self.rays(b);
-        if has(rays, b) { line } else { 0 }
-    }
-
-    #[inline(always)]
-    pub(crate) fn is_clear(self, occupied: u64, a: Square, b: Square) -> bool
-        requires { Along self a b }
-        ensures { IsTrue result ↔ Open occupied a b }
-    {
-        let line = self.rays(a) & self.rays(b);
-        line & interval(a, b) & occupied == 0
-    }
-
-    #[inline(always)]
-    pub(crate) fn slides(self, occupied: u64, sliders: u64, square: Square) -> bool
-        ensures { IsTrue result ↔ Slides self occupied sliders square }
-    {
-        let mut rest = self.rays(square) & sliders;
-        while rest != 0 {
-            let index = rest.trailing_zeros();
-            if self.is_clear(occupied, square, square_at(index as u8)) {
-                return true;
-            }
-            rest &= !(1 << index);
-        }
-        false
-    }
+    let up_to_one = (!0u64 << a.index()) ^ (!0u64 << b.index());
+    (line(Kind::Rook, a, b) | line(Kind::Bishop, a, b)) & up_to_one
 }

@@ -46,9 +46,6 @@ pub(crate) fn en_passant_after(m: Move, piece: Piece) -> Option<Square>
     ensures { result ≡ en_passant_by m piece }
 {
     let (from, to) = (m.from(), m.to());
-    if piece.kind == Kind::Pawn && from.rank().abs_diff(to.rank()) == 2 {
-        Some(square_at((from.index() + to.index()) / 2))
-    } else {
-        None
-    }
+    let is_double = (piece.kind == Kind::Pawn) & (from.rank().abs_diff(to.rank()) == 2);
+    is_double.then_some(square_at((from.index() + to.index()) / 2))
 }

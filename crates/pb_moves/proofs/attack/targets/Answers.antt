@@ -1,18 +1,13 @@
-use Rattle.std.proofs.Common.{inl, inr}
-use Rattle.pb_moves.proofs.Patterns.{knight_points, bishop_points, rook_points, queen_points, king_points}
+use Rattle.std.proofs.Common.{ℕ, ◌↔◌, sym, subst}
+use Rattle.pb_moves.specs.Attackers.{In}
+use Rattle.pb_moves.specs.Candidate.{MayTarget, row_of}
+use Rattle.pb_moves.proofs.Targets.{entry, row_tells}
 use Rattle.pb_moves.proofs.attack.targets.Goals as goal
 
-pub returns-in-Knight : goal.returns-in-Knight
-returns-in-Knight c = rw c.in-Knight.is knight_points
-
-pub returns-in-Bishop : goal.returns-in-Bishop
-returns-in-Bishop c = rw c.in-Bishop.is bishop_points
-
-pub returns-in-Rook : goal.returns-in-Rook
-returns-in-Rook c = rw c.in-Rook.is rook_points
-
-pub returns-in-Queen : goal.returns-in-Queen
-returns-in-Queen c = rw c.in-Queen.is queen_points
-
-pub returns-in-King : goal.returns-in-King
-returns-in-King c = elim c.in-King.is [ inl king ↦ rw king king_points | inr pawn ↦ absurd (c.requires pawn) ]
+pub returns-clause-squares : goal.returns-clause-squares
+returns-clause-squares c = λ to on.
+    let side = c.args.piece.colour in
+    let kind = c.args.piece.kind in
+    let R : ℕ → Type 0 = λ row. In (entry row c.index.result) to ↔ MayTarget side kind c.args.from to in
+    let S : ℕ → Type 0 = λ a. In (entry (row_of kind side) c.index.result) to ↔ MayTarget side kind a to in
+    subst R (sym c.row.ensures) (subst S c.index.ensures.value (row_tells side kind c.index.result to c.index.ensures.below on))

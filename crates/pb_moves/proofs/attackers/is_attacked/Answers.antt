@@ -1,38 +1,42 @@
-use Rattle.std.proofs.Common.{refl, arith, inl, inr}
-use Rattle.pb_moves.proofs.Sets.{in_none, in_some}
-use Rattle.pb_moves.proofs.Seen.{near_of, near_small, near_attacks, straight_attacks, diagonal_attacks, seen_attack}
+use Rattle.std.proofs.Common.{arith, refl, w64}
+use Rattle.std.specs.Int.{trailing_zeros}
+use Rattle.pb_moves.proofs.Seen.{attacks_if_open, left_all, left_next, lowest_left, open_if_attacks, open_told}
+use Rattle.pb_moves.proofs.Sets.{in_none}
+use Rattle.pb_moves.proofs.Rising.{zeros_rise, without_small, zeros_some}
 use Rattle.pb_moves.proofs.attackers.is_attacked.Goals as goal
 
-pub returns-then-near-ne0 : goal.returns-then-near-ne0
-returns-then-near-ne0 c = λ b sees.
-    let p = c.pawns_from.result in
-    let n = c.knights_from.result in
-    let k = c.kings_from.result in
-    let attackers = c.args.attackers.now in
-    let small = near_small p n k attackers (omega arith) (omega arith) (omega arith) in
-    let w = in_some (near_of p n k attackers) small (omega arith) in (
-      λ _. near_attacks b c.args.by attackers c.args.square p n k w.0 sees c.pawns_from.ensures c.knights_from.ensures.moves c.kings_from.ensures w.1 w.2,
+pub loop-rest-init : goal.loop-rest-init
+loop-rest-init c = left_all _ _ _
+
+pub returns-then-between-sight-eq0 : goal.returns-then-between-sight-eq0
+returns-then-between-sight-eq0 c = λ b sees.
+    let rest = c.loop-rest.rest in
+    let some = zeros_some rest (omega arith) (omega arith) in
+    let lowest = lowest_left c.args.sight.occupied c.args.square _ rest c.square_at.result c.loop-rest.invariant (omega arith) some c.square_at.ensures in
+    let told = open_told c.args.sight.occupied c.between.result c.square_at.result c.args.square (omega arith) c.between.ensures in (
+      λ _. attacks_if_open c.args.setup.now.board b c.args.by c.args.sight c.pieces_from.result c.args.square c.square_at.result sees c.pieces_from.ensures lowest.0 lowest.1
+          (told.0 c.if-between-sight-eq0.true),
       λ _. refl,
     )
 
-pub returns-then-slides : goal.returns-then-slides
-returns-then-slides c = λ b sees. (
-  λ _. diagonal_attacks b c.args.by c.args.attackers.now c.args.square sees (c.slides.ensures.0 c.if-slides.true),
-  λ _. refl,
-)
+pub loop-rest-smaller : goal.loop-rest-smaller
+loop-rest-smaller c =
+    let bits = c.loop-rest.rest in
+    let some = zeros_some bits (omega arith) (omega arith) in
+    let rises = zeros_rise bits (omega arith) (without_small bits (trailing_zeros w64 c.loop-rest.rest) (omega arith)) some in
+    omega arith
+
+pub loop-rest-preserved : goal.loop-rest-preserved
+loop-rest-preserved c =
+    let rest = c.loop-rest.rest in
+    let some = zeros_some rest (omega arith) (omega arith) in
+    let told = open_told c.args.sight.occupied c.between.result c.square_at.result c.args.square (omega arith) c.between.ensures in
+    left_next c.args.sight.occupied c.args.square _ rest c.square_at.result c.loop-rest.invariant some c.square_at.ensures (λ way. c.if-between-sight-eq0.false (told.1 way))
 
 pub returns : goal.returns
-returns c = λ b sees.
-    let p = c.pawns_from.result in
-    let n = c.knights_from.result in
-    let k = c.kings_from.result in
-    let attackers = c.args.attackers.now in (
-      λ h. straight_attacks b c.args.by attackers c.args.square sees (c.slides-2.ensures.0 h),
-      λ attack. elim (seen_attack b c.args.by attackers c.args.square p n k sees c.pawns_from.ensures c.knights_from.ensures.moves c.kings_from.ensures attack) [
-        | inl w ↦ absurd (in_none (near_of p n k attackers) w.0 (omega arith) w.2)
-        | inr r ↦ elim r [
-          | inl s ↦ c.slides-2.ensures.1 s
-          | inr d ↦ absurd (let h = c.slides.ensures.1 d in let f = c.if-slides.false in cc)
-        ]
-      ],
-    )
+returns c = λ b sees. (
+  λ h. absurd cc,
+  λ attack.
+      let seen = open_if_attacks c.args.setup.now.board b c.args.by c.args.sight c.pieces_from.result c.args.square sees c.pieces_from.ensures attack in
+      absurd (c.loop-rest.invariant.shut seen.0 seen.1 seen.2 (in_none c.loop-rest.rest seen.0 c.loop-rest-test.false) seen.3),
+)

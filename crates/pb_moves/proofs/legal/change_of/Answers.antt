@@ -1,6 +1,8 @@
-use Rattle.pb_moves.proofs.Legality.{piece_cases}
+use Rattle.pb_moves.proofs.Usual.{usual_case, unusual_case}
 use Rattle.pb_moves.proofs.legal.change_of.Goals as goal
 
-pub returns-in_default : goal.returns-in_default
-returns-in_default c =
-    piece_cases c.args.setup.now c.args.m c.args.piece c.in_default.not-Pawn c.in_default.not-King c.piece_move.result c.piece_move.ensures
+pub returns-in-Some : goal.returns-in-Some
+returns-in-Some c = usual_case c.args.setup.now c.args.m c.args.piece _ c.in-Some.ensures
+
+pub returns-in-None : goal.returns-in-None
+returns-in-None c = unusual_case c.args.setup.now c.args.m c.args.piece c.unusual_move.result c.in-None.ensures c.unusual_move.ensures
