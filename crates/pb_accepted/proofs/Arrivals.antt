@@ -9,8 +9,6 @@ use Rattle.pb_games.specs.Repeat.{AreFieldsOf}
 use Rattle.pb_games.specs.Submissions.{IsLawful, IsSubmission, Submission}
 use Rattle.pb_games.proofs.Again.{again, fields_again}
 use Rattle.pb_games.proofs.Texts.{lawful_submission}
-use Rattle.pb_accepted.specs.declared.ledger.Arrival.TheVariants.{Other, Repeat}
-use Rattle.pb_accepted.specs.Arriving.{IsArrival}
 use Rattle.pb_accepted.specs.Replying.{IsNewId, IsNumber}
 
 -- a legal game that a line submits is within the bounds
@@ -33,12 +31,12 @@ module _ (A : List Submission) (line : List ℕ) (f : LineFields) (cut : IsCut l
   pub is_new : IsNewId f.id.now A → (s : Submission) → IsLawful line s → IsNewId s.0 A
   is_new fresh s lawful = subst (λ id. IsNewId id A) (fields_again line f cut s lawful).0 fresh
 
-  pub comes_again : All IsSubmission A → (n : ℕ) → IsArrival A f (Repeat n) → (s : Submission) × IsLawful line s × IsNumber A n s
+  pub comes_again : All IsSubmission A → (n : ℕ) → ((g : Game) × IsNumber A n (f.id.now, g) × AreFieldsOf g f) → (s : Submission) × IsLawful line s × IsNumber A n s
   comes_again all n h =
       let s : Submission = (f.id.now, h.0) in
       (s, again line f cut h.0 (submission_at A h.1.0 s all h.1.2) h.2, h.1)
 
-  pub another : (n : ℕ) → IsArrival A f (Other n) → (s : Submission) → IsLawful line s → (g : Game) × IsNumber A n (s.0, g) × (g ≢ s.1)
+  pub another : (n : ℕ) → ((g : Game) × IsNumber A n (f.id.now, g) × ¬ AreFieldsOf g f) → (s : Submission) → IsLawful line s → (g : Game) × IsNumber A n (s.0, g) × (g ≢ s.1)
   another n h s lawful =
       let of = fields_again line f cut s lawful in
       (h.0, (h.1.0, h.1.1, h.1.2 ∙ ap (λ id. Some (id, h.0)) of.0), λ same. h.2 (subst (λ g. AreFieldsOf g f) (sym same) of.1))

@@ -16,6 +16,7 @@ use Rattle.pb_moves.specs.Moved.{Moved}
 use Rattle.pb_moves.specs.Successor.{after}
 use Rattle.pb_moves.specs.Played.{plies_from}
 use Rattle.pb_poly.specs.Key.{key}
+use Rattle.pb_games.specs.declared.game.Game.{Game}
 use Rattle.pb_games.specs.declared.outcome.Outcome.{Outcome}
 use Rattle.pb_games.specs.declared.outcome.Outcome.TheVariants.{White, Black, Draw}
 use Rattle.pb_games.specs.Submissions.{IsSubmission, Submission, plies}
@@ -65,10 +66,12 @@ length-counted T A games = omega (
   sum_by-le (λ s. length (counted_of T s)) 1024 A (λ j d lt. omega (arith, length-counted_of T (get_or A j d), (games j d lt).game.few)),
 )
 
--- what the first plies give is what the plies give that count
-pub counted_ply_points : (T : Basis) (s : Submission) (all first : List PlyPoints) → first ≡ take T.rules.plies all → all ≡ map (given_by T.randoms s.1.outcome) (plies s.1) → first ≡ counted T (s ∷ [])
-counted_ply_points T s all first cut are =
-    cut ∙ ap (take T.rules.plies) are ∙ take-map (given_by T.randoms s.1.outcome) T.rules.plies (plies s.1) ∙ sym (counted_one T s)
+-- what the first plies of a game give is what its plies give that count
+pub counted_ply_points : (T : Basis) (words : List ℕ) (s : Submission) (g : Game) (all first : List PlyPoints) → words ≡ T.randoms → s.1 ≡ g
+    → all ≡ map (given_by words g.outcome) (plies g) → first ≡ take T.rules.plies all → first ≡ counted T (s ∷ [])
+counted_ply_points T words s g all first same is are cut =
+    cut ∙ ap (take T.rules.plies) (are ∙ (λ i. map (given_by (same i) (sym is i).outcome) (plies (sym is i))))
+    ∙ take-map (given_by T.randoms s.1.outcome) T.rules.plies (plies s.1) ∙ sym (counted_one T s)
 
 points_for-le : (o : Outcome) (side : Colour) → points_for o side ≤ 2
 points_for-le White side.White = omega arith

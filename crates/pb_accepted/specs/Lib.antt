@@ -1,5 +1,4 @@
 pub mod Accepting
-pub mod Arriving
 pub mod Basis
 pub mod Counting
 pub mod Holding

@@ -11,20 +11,18 @@ ghost use Rattle.pb_poly.specs.Entry.{IsEntry};
 ghost use Rattle.pb_poly.specs.declared.entry.Entry.{Entry};
 ghost use Rattle.pb_accepted.specs.Accepting.{Step, answer_of, says_new};
 ghost use Rattle.pb_accepted.specs.Replying.{IsNewId, IsNumber};
-ghost use Rattle.pb_accepted.specs.Arriving.{IsArrival};
 ghost use Rattle.pb_accepted.specs.Counting.{IsBook, count, counted as counted_by, stretch, times};
 ghost use Rattle.pb_accepted.specs.Holding.{IsLedger, lost as lost_of, most_games, rowed};
 ghost use Rattle.pb_accepted.specs.Holding.{with_ply_points};
-ghost use Rattle.pb_accepted.specs.Noting.{HasNoted};
 ghost use Rattle.pb_accepted.specs.Rules.{AreRules, all_plies};
 
 use crate::lost_ply::{LostPly, lost_times};
-use crate::ply_points::{add_ply_points, counted, make_room};
+use crate::ply_points::{PlyPoints, add_ply_points, make_room};
 use crate::recorder::Recorder;
 use crate::rules::Rules;
 use indexmap::IndexMap;
 use indexmap::map::Iter;
-use pb_games::{Game, Id, LineFields, Refusal, check_line, cut_line, repeats};
+use pb_games::{Game, Id, LineFields, NoVisitor, Refusal, cut_line, judge_fields, repeats};
 use pb_points::Tally;
 use pb_poly::{Book, Entry, Table};
 use std::alloc::{AllocError, Global};
@@ -40,15 +38,6 @@ pub struct Accepted {
     pub number: u32,
     /// Whether the submission brought the game, which wasn't held before.
     pub is_new: bool,
-}
-
-#[derive(Clone, Copy)]
-pub(crate) enum Arrival {
-    New,
-    /// The game that is held under its id, which has this number, comes again.
-    Repeat(u32),
-    /// Another game is held under its id, and has this number. The line may be illegal.
-    Other(u32),
 }
 
 /// Holds the accepted games by id, in order of acceptance, with the points of their moves.
@@ -164,37 +153,22 @@ impl<T: Tally> Ledger<T> {
             Err(refusal) => return Err(refusal),
         };
         let id = fields.id();
-        match self.arrival(&fields, &id) {
-            Arrival::Repeat(number) => Ok(Accepted {
+        // A game that is held is known to be legal, so nothing is played.
+        if let Some((index, _, game)) = self.games.get_full(&id) {
+            let number = index as u32 + 1;
+            if !repeats(&fields, game) {
+                judge_fields(fields, &mut NoVisitor)?;
+                return Err(Refusal::Conflict(number));
+            }
+            return Ok(Accepted {
                 number,
                 is_new: false,
-            }),
-            Arrival::Other(number) => {
-                check_line(line)?;
-                Err(Refusal::Conflict(number))
-            }
-            Arrival::New => Ok(Accepted {
-                number: self.take(fields, id)?,
-                is_new: true,
-            }),
+            });
         }
-    }
-
-    /// Nothing is played: a game that is held is known to be legal.
-    fn arrival(&self, fields: &LineFields<'_>, id: &Id) -> Arrival
-        requires { id.now ≡ fields.now.id.now }
-        ensures arrives { IsArrival self.now.accepted fields.now result }
-        ensures rules { IsLedger self.now }
-    {
-        let Some((index, _, game)) = self.games.get_full(id) else {
-            return Arrival::New;
-        };
-        let number = index as u32 + 1;
-        if repeats(fields, game) {
-            Arrival::Repeat(number)
-        } else {
-            Arrival::Other(number)
-        }
+        Ok(Accepted {
+            number: self.take(fields, id)?,
+            is_new: true,
+        })
     }
 
     fn take(&mut self, fields: LineFields<'_>, id: Id) -> Result<u32, Refusal>
@@ -206,7 +180,7 @@ impl<T: Tally> Ledger<T> {
         ensures basis { self.new.basis ≡ self.old.basis }
         ensures cap { self.new.cap ≡ self.old.cap }
     {
-        let read = self.recorder.judge(fields)?;
+        let read = judge_fields(fields, &mut self.recorder)?;
         if self.games.len() == self.cap as usize {
             return Err(Refusal::Full);
         }
@@ -218,8 +192,8 @@ impl<T: Tally> Ledger<T> {
             &mut self.games,
             &mut self.tally,
             &mut self.lost,
-            &self.recorder,
-            rules,
+            self.recorder.counted(rules),
+            rules.least(),
             id,
             game,
         ) {
@@ -320,37 +294,32 @@ impl<T: Tally> Ledger<T> {
     }
 }
 
-/// Adds the game that was judged last. The insert is the last step that may fail, and only then its
-/// plies that count are added to the tally and beside it.
+/// Adds a game. The insert is the last step that may fail, and only then its plies that count are
+/// added to the tally and beside it.
 fn accept<T: Tally>(
     games: &mut IndexMap<Id, Game>,
     tally: &mut T,
     lost: &mut Vec<LostPly>,
-    recorder: &Recorder,
-    rules: Rules,
+    ply_points: &[PlyPoints],
+    least: u32,
     id: Id,
     game: Game,
 ) -> Result<(), AllocError>
-    requires noted { HasNoted recorder.now.table recorder.now.log game }
     requires new { IsNewId id games.old.entries }
+    requires small { All (λ r. r.points ≤ 2) ply_points.now }
     requires points_fit { (k c : ℕ) → (held (T.content tally.old) k c).points
-        + 2 * length game.moves ≤ 2 ^ 63 }
+        + 2 * length ply_points.now ≤ 2 ^ 63 }
     requires times_fit { (k c : ℕ) → (held (T.content tally.old) k c).times
-        + length game.moves ≤ 2 ^ 63 }
+        + length ply_points.now ≤ 2 ^ 63 }
     ensures added { OnOk result (games.new.entries ≡ games.old.entries ++ (id, game) ∷ []) }
     ensures rows { OnOk result ((k c : ℕ) → held (T.content tally.new) k c
-        ≡ with_ply_points (rowed rules.least (counted_by
-        (record { randoms = recorder.now.table; rules = rules }) ((id, game) ∷ []))) k c
-        (held (T.content tally.old) k c)) }
-    ensures lost { OnOk result (lost.new.items ≡ lost.old.items ++ lost_of rules.least (counted_by
-        (record { randoms = recorder.now.table; rules = rules }) ((id, game) ∷ []))) }
+        ≡ with_ply_points (rowed least ply_points.now) k c (held (T.content tally.old) k c)) }
+    ensures lost { OnOk result (lost.new.items ≡ lost.old.items ++ lost_of least ply_points.now) }
     ensures same_games { OnErr result (games.new.entries ≡ games.old.entries) }
     ensures same_points { OnErr result ((k c : ℕ)
         → held (T.content tally.new) k c ≡ held (T.content tally.old) k c) }
     ensures same_lost { OnErr result (lost.new.items ≡ lost.old.items) }
 {
-    let ply_points = counted(recorder.ply_points(), rules);
-    let least = rules.least();
     make_room(tally, lost, ply_points, least)?;
     games.insert(id, game)?;
     add_ply_points(tally, lost, ply_points, least);

@@ -1,13 +1,12 @@
 //! What the plies of a game give to the points of moves.
 
 ghost use Rattle.std.specs.Prelude.{◌≡◌, ◌≤◌, ◌+◌, ◌++◌, ◌*◌, ◌^◌, ℕ, IsSome, OnOk, All, length};
-ghost use Rattle.std.specs.Prelude.{false, take, vec_capacity, vec_len};
+ghost use Rattle.std.specs.Prelude.{false, vec_capacity, vec_len};
 ghost use Rattle.pb_points.specs.Tally.{held};
 ghost use Rattle.pb_accepted.specs.Counting.{points_for as points_for_by};
 ghost use Rattle.pb_accepted.specs.Holding.{is_lost, lost as lost_of, rowed, with_ply_points};
 
 use crate::lost_ply::LostPly;
-use crate::rules::Rules;
 use pb_board::Colour;
 use pb_games::Outcome;
 use pb_points::Tally;
@@ -30,12 +29,6 @@ pub(crate) fn points_for(outcome: Outcome, side: Colour) -> u8
         (Outcome::White, Colour::White) | (Outcome::Black, Colour::Black) => 2,
         (Outcome::White, Colour::Black) | (Outcome::Black, Colour::White) => 0,
     }
-}
-
-pub(crate) fn counted(ply_points: &[PlyPoints], rules: Rules) -> &[PlyPoints]
-    ensures { result.now ≡ take rules.plies ply_points.now }
-{
-    &ply_points[..ply_points.len().min(rules.plies() as usize)]
 }
 
 /// Tells whether a ply stands beside the tally, and has no row in it.

@@ -1,22 +1,19 @@
 //! Writes down what each ply of a line gives, so that its moves are played once.
 
-ghost use Rattle.std.specs.Prelude.{◌≡◌, ℕ, List, IfErr, IfOk, Ok};
+ghost use Rattle.std.specs.Prelude.{◌≡◌, ◌≤◌, IfOk, take, vec_capacity};
 ghost use Rattle.pb_board.specs.Initial.{initial};
-ghost use Rattle.pb_games.specs.Cuts.{IsCut};
-ghost use Rattle.pb_games.specs.Refusing.{Refuses};
-ghost use Rattle.pb_games.specs.Submissions.{IsLawful, Submission};
 ghost use Rattle.pb_poly.specs.Key.{key as key_by};
-ghost use Rattle.pb_accepted.specs.Noting.{HasNoted};
+ghost use Rattle.pb_games.specs.declared.judge.TheConstants.{MAX_PLIES};
 
-use crate::ply_log::PlyLog;
 use crate::ply_points::{PlyPoints, points_for};
+use crate::rules::Rules;
 use pb_board::{Colour, Setup};
-use pb_games::{Game, Line, LineFields, MoveList, MoveVisitor, Outcome, Refusal, judge_fields};
+use pb_games::{Game, Line, MAX_PLIES, MoveList, MoveVisitor, Outcome};
 use pb_moves::{Move, legal_effect};
 use pb_poly::{Table, code_by, key_next, key_of};
 use std::alloc::{AllocError, Global};
 
-/// Its buffers are made with it, so that a ply takes no memory.
+/// Its buffers have room for the most plies of a game, so that a ply takes no memory.
 #[derive(Drop)]
 pub(crate) struct Recorder {
     table: Table,
@@ -26,7 +23,10 @@ pub(crate) struct Recorder {
     white: u8,
     black: u8,
     key: u64,
-    log: PlyLog,
+    ply_points: Vec<PlyPoints>,
+    moves: Vec<Move>,
+    ghost points_room: { MAX_PLIES ≤ vec_capacity ply_points },
+    ghost moves_room: { MAX_PLIES ≤ vec_capacity moves },
     ghost start_is: { start_key ≡ key_by table initial },
 }
 
@@ -40,7 +40,8 @@ impl Recorder {
             white: 0,
             black: 0,
             key: 0,
-            log: PlyLog::new(alloc)?,
+            ply_points: Vec::with_capacity(alloc, MAX_PLIES as usize)?,
+            moves: Vec::with_capacity(alloc, MAX_PLIES as usize)?,
         })
     }
 
@@ -50,43 +51,30 @@ impl Recorder {
         &self.table
     }
 
-    pub(crate) fn judge<'a>(&mut self, fields: LineFields<'a>) -> Result<Line<'a>, Refusal>
-        requires { (line : List ℕ) × IsCut line fields }
-        ensures found { (line : List ℕ) → IsCut line fields.entry
-            → IfOk result (λ s. IsLawful line s) }
-        ensures only { (line : List ℕ) → IsCut line fields.entry
-            → (s : Submission) → IsLawful line s → result ≡ Ok s }
-        ensures refused { (line : List ℕ) → IsCut line fields.entry
-            → IfErr result (λ e. Refuses line e) }
-        ensures noted { IfOk result (λ s. HasNoted self.new.table self.new.log s.1) }
-        ensures table { self.new.table ≡ self.old.table }
-    {
-        judge_fields(fields, self)
-    }
-
     /// Gives the game of the line that was judged last.
     pub(crate) fn game(&self, alloc: Global, line: &Line<'_>) -> Result<Game, AllocError>
-        requires { HasNoted self.now.table self.now.log line.now.1 }
+        requires { self.now.moves.items ≡ line.now.1.moves }
         ensures { IfOk result (λ g. g ≡ line.now.1) }
     {
         Ok(Game {
             start: line.start(),
             outcome: line.outcome(),
-            moves: MoveList::of(Vec::from_slice(alloc, &self.log.moves)?),
+            moves: MoveList::of(Vec::from_slice(alloc, &self.moves)?),
         })
     }
 
-    pub(crate) fn ply_points(&self) -> &[PlyPoints]
-        ensures { result.now ≡ self.now.log.ply_points.items }
+    /// Gives what the plies of that game give, as far as they count.
+    pub(crate) fn counted(&self, rules: Rules) -> &[PlyPoints]
+        ensures { result.now ≡ take rules.plies self.now.ply_points.items }
     {
-        &self.log.ply_points
+        &self.ply_points[..self.ply_points.len().min(rules.plies() as usize)]
     }
 }
 
 impl MoveVisitor for Recorder {
     ghost use Rattle.pb_accepted.specs.Noting.{Holds};
 
-    ghost holds = { λ r outcome ps t. Holds r.table r.white r.black r.key r.log outcome ps t };
+    ghost holds = { Holds };
 
     ghost fixed = { λ r. r.table };
 
@@ -98,7 +86,8 @@ impl MoveVisitor for Recorder {
         } else {
             key_of(&self.table, start)
         };
-        self.log.clear();
+        self.ply_points.clear();
+        self.moves.clear();
     }
 
     fn play(&mut self, setup: &mut Setup, m: Move) -> bool {
@@ -114,7 +103,8 @@ impl MoveVisitor for Recorder {
                 };
                 self.key = key_next(&self.table, self.key, setup, m, &effect);
                 effect.apply(setup, m);
-                self.log.add(given, m);
+                self.ply_points.push_reserved(given);
+                self.moves.push_reserved(m);
                 true
             }
             None => false,

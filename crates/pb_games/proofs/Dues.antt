@@ -102,7 +102,7 @@ stands_later d refusal.Plies less lt = refl
 stands_later d (refusal.Illegal k) less lt = ap (λ x. refusal.Illegal x) (move_stays d k less)
 stands_later d _ less lt = absurd (omega (arith, lt))
 
-first_position : (d : Refusal) → 1 ≤ order d
+pub first_position : (d : Refusal) → 1 ≤ order d
 first_position refusal.Long = omega arith
 first_position _ = omega arith
 

@@ -9,8 +9,7 @@ ghost use Rattle.pb_games.specs.Refusing.{Refuses};
 
 use crate::id::{Id, is_id};
 use crate::refusal::Refusal;
-use memchr::memchr;
-use pb_board::without_return;
+use pb_board::{cut_once, without_return};
 
 // A final CR counts.
 const MAX_BYTES: usize = 8192;
@@ -57,10 +56,10 @@ fn cut_fields(line: &[u8]) -> Option<LineFields<'_>>
         (λ f. fields_of line.now ≡ f.id.now ∷ f.outcome.now ∷ f.start.now ∷ f.moves.now ∷ []) }
     ensures short { IfSome result (λ f. length f.moves.now ≤ length line.now) }
 {
-    let (id, rest) = cut_at_tab(without_return(line))?;
-    let (outcome, rest) = cut_at_tab(rest)?;
-    let (start, moves) = cut_at_tab(rest)?;
-    let None = cut_at_tab(moves) else {
+    let (id, rest) = cut_once(without_return(line), b'\t')?;
+    let (outcome, rest) = cut_once(rest, b'\t')?;
+    let (start, moves) = cut_once(rest, b'\t')?;
+    let None = cut_once(moves, b'\t') else {
         return None;
     };
     Some(LineFields {
@@ -69,12 +68,4 @@ fn cut_fields(line: &[u8]) -> Option<LineFields<'_>>
         start,
         moves,
     })
-}
-
-fn cut_at_tab(text: &[u8]) -> Option<(&[u8], &[u8])>
-    ensures { MatchOption result (fields tab text.now ≡ text.now ∷ [])
-        (λ cut. fields tab text.now ≡ cut.0.now ∷ fields tab cut.1.now) }
-{
-    let at = memchr(b'\t', text)?;
-    Some((&text[..at], &text[at + 1..]))
 }

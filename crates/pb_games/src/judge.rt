@@ -34,26 +34,14 @@ pub fn check_line(line: &[u8]) -> Result<Line<'_>, Refusal>
     ensures only { (s : Submission) → IsLawful line.now s → result ≡ Ok s }
     ensures refused { IfErr result (λ e. Refuses line.now e) }
 {
-    judge_line(line, &mut NoVisitor)
-}
-
-/// Judges a line as `check_line` does, and has its moves played by this visitor, each once. What
-/// that holds after a refusal means nothing.
-pub fn judge_line<'a, P: MoveVisitor>(line: &'a [u8], visitor: &mut P) -> Result<Line<'a>, Refusal>
-    ensures found { IfOk result (λ s. IsLawful line.now s) }
-    ensures only { (s : Submission) → IsLawful line.now s → result ≡ Ok s }
-    ensures refused { IfErr result (λ e. Refuses line.now e) }
-    ensures holds { IfOk result
-        (λ s. P.holds visitor.new s.1.outcome (plies s.1) (last_setup s.1)) }
-    ensures fixed { P.fixed visitor.new ≡ P.fixed visitor.old }
-{
     match cut_line(line) {
-        Ok(fields) => judge_fields(fields, visitor),
+        Ok(fields) => judge_fields(fields, &mut NoVisitor),
         Err(refusal) => Err(refusal),
     }
 }
 
-/// Judges a line that was cut into these fields, as `judge_line` does.
+/// Judges a line that was cut into these fields, as `check_line` does, and has its moves played by
+/// this visitor, each once. What that holds after a refusal means nothing.
 pub fn judge_fields<'a, P: MoveVisitor>(
     fields: LineFields<'a>,
     visitor: &mut P,

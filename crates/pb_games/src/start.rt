@@ -5,7 +5,6 @@ ghost use Rattle.pb_board.specs.Fields.{fields, space};
 ghost use Rattle.pb_board.specs.Position.{IsRecord};
 ghost use Rattle.pb_board.specs.Refusal.{IsDueFen, IsFirstOf, fen_errors};
 ghost use Rattle.pb_board.specs.Text.{fen_text};
-ghost use Rattle.pb_games.specs.Starts.{initial_record};
 
 use pb_board::{Fen, FenError, Setup, read_fen};
 
@@ -17,8 +16,8 @@ pub(crate) fn read_start(text: &[u8]) -> Result<Fen, FenError>
     ensures found { IfOk result (λ f. IsRecord f × (text.now ≡ fen_text f)) }
     ensures refused { IfErr result (IsFirstOf fen_errors (IsDueFen (fields space text.now))) }
 {
-    if is_initial_text(text) {
-        Ok(initial_record())
+    if text == INITIAL_TEXT {
+        Ok(Fen::with_clocks(Setup::start(), 0, 1))
     } else {
         read_fen(text)
     }
@@ -27,28 +26,11 @@ pub(crate) fn read_start(text: &[u8]) -> Result<Fen, FenError>
 pub(crate) fn is_text_of(text: &[u8], fen: &Fen) -> bool
     ensures { IsTrue result ↔ (text.now ≡ fen_text fen.now) }
 {
-    if is_initial(fen) {
-        is_initial_text(text)
-    } else {
-        text == fen.text().as_bytes()
+    let setup = fen.setup();
+    match read_start(text) {
+        Ok(start) => start.half() == fen.half()
+            && start.full() == fen.full()
+            && start.setup() == setup,
+        Err(_) => false,
     }
-}
-
-fn initial_record() -> Fen
-    ensures { result ≡ initial_record }
-{
-    Fen::with_clocks(Setup::start(), 0, 1)
-}
-
-fn is_initial_text(text: &[u8]) -> bool
-    ensures { IsTrue result ↔ (text.now ≡ fen_text initial_record) }
-{
-    text == INITIAL_TEXT
-}
-
-fn is_initial(fen: &Fen) -> bool
-    ensures { IsTrue result ↔ (fen.now ≡ initial_record) }
-{
-    // The clocks tell most other records without a look at their setups.
-    fen.half() == 0 && fen.full() == 1 && fen.setup().is_start()
 }

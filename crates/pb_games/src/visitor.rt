@@ -41,8 +41,9 @@ pub trait MoveVisitor {
         ensures fixed { fixed self.new ≡ fixed self.old };
 }
 
+/// Plays the moves, and keeps nothing of them.
 #[derive(Drop)]
-pub(crate) struct NoVisitor;
+pub struct NoVisitor;
 
 impl MoveVisitor for NoVisitor {
     ghost use Rattle.std.specs.Prelude.{[]};

@@ -18,7 +18,6 @@ pub mod SavedLaws
 pub mod Saving
 pub mod Streams
 pub use Rattle.pb_accepted.specs.Accepting
-pub use Rattle.pb_accepted.specs.Arriving
 pub use Rattle.pb_accepted.specs.Basis
 pub use Rattle.pb_accepted.specs.Counting
 pub use Rattle.pb_accepted.specs.Holding

@@ -1,77 +1,105 @@
-use Rattle.std.proofs.Common.{◌≡◌, Ok, Err, ap, refl, ◌∙◌}
+use Rattle.std.proofs.Common.{◌≡◌, ◌+◌, Ok, Err, Some, ap, refl, sym, subst, ◌∙◌, rules}
+use Rattle.std.specs.List.{All}
 use Rattle.std.proofs.lemmas.Result.{err_from_is_err_and}
 use Rattle.pb_games.specs.declared.refusal.Refusal.TheVariants.{Conflict}
+use Rattle.pb_games.specs.Repeat.{AreFieldsOf}
+use Rattle.pb_games.specs.Submissions.{IsSubmission}
 use Rattle.pb_accepted.specs.Accepting as steps
-use Rattle.pb_accepted.specs.Accepting.{answer_of, says_new}
+use Rattle.pb_accepted.specs.Accepting.{Step, answer_of, says_new}
+use Rattle.pb_accepted.specs.Holding.{HaveOwnIds}
+use Rattle.pb_accepted.specs.Ledger.{LedgerState}
+use Rattle.pb_accepted.specs.Replying.{IsNewId, IsNumber}
 use Rattle.pb_games.proofs.Refused.{unlawful}
-use Rattle.pb_accepted.proofs.Arrivals.{another, comes_again, is_new}
-use Rattle.pb_accepted.proofs.Steps.{held_step, new_grows, not_held, refusal_step, same_is_no_longer}
+use Rattle.pb_accepted.proofs.Arrivals.{another, comes_again, is_new, submission_at}
+use Rattle.pb_accepted.proofs.Places.{IsNewId-absent, key_found}
+use Rattle.pb_accepted.proofs.Steps.{held_step, new_grows, not_held}
 use Rattle.pb_accepted.proofs.ledger.Ledger.submit_full.Goals as goal
 
 pub returns-in-Err-clause-step : goal.returns-in-Err-clause-step
 returns-in-Err-clause-step g c = steps.refused _ c.in-Err.ensures.refused refl refl
 
-pub returns-in-Err-clause-new : goal.returns-in-Err-clause-new
-returns-in-Err-clause-new g c = same_is_no_longer _ _ refl
-
 pub returns-in-Err-clause-held : goal.returns-in-Err-clause-held
 returns-in-Err-clause-held g c = λ s n lawful at. absurd (unlawful _ _ s c.in-Err.ensures.refused lawful)
 
-pub returns-in-Repeat-clause-step : goal.returns-in-Repeat-clause-step
-returns-in-Repeat-clause-step g c =
-    let arrives = comes_again _ _ _ c.in-Ok.ensures.cut c.arrival.ensures.rules.games _ c.in-Repeat.ensures.arrives in
-    steps.repeat arrives.0 c.in-Repeat.number arrives.1 arrives.2 refl refl
+pub repeats-requires : goal.repeats-requires
+repeats-requires g c =
+    let found = c.in-Some in
+    (submission_at c.self.inside.games.entries found.index _ c.self.invariant.rules.games found.ensures.entry).game.moves
 
-pub returns-in-Repeat-clause-new : goal.returns-in-Repeat-clause-new
-returns-in-Repeat-clause-new g c = same_is_no_longer _ _ refl
+pub returns-in_err-judge_fields-clause-step : goal.returns-in_err-judge_fields-clause-step
+returns-in_err-judge_fields-clause-step g c =
+    let e = err_from_is_err_and c.from_residual.result c.from_residual.ensures.1 in
+    steps.refused _ (c.in_err-judge_fields.ensures.refused c.args.line.now c.in-Ok.ensures.cut) (ap answer_of (e.1 ∙ ap (λ x. Err x) e.2)) refl
 
-pub returns-in-Repeat-clause-held : goal.returns-in-Repeat-clause-held
-returns-in-Repeat-clause-held g c = λ s n lawful at.
-    let same : Ok c.in-Repeat.number ≡ Ok n = held_step c.args.self.now.cap c.args.self.now.accepted c.args.line.now s n (Ok c.in-Repeat.number) c.args.self.now.accepted c.arrival.ensures.rules.ids lawful at (returns-in-Repeat-clause-step g c) in
+pub returns-then-not-repeats-clause-step : goal.returns-then-not-repeats-clause-step
+returns-then-not-repeats-clause-step g c =
+    let entries = c.self.inside.games.entries in
+    let found = c.in-Some in
+    let holds = ap (λ (l : LedgerState). l.accepted) c.self.view_is in
+    let id = key_found entries c.id-id.result _ found.ensures.key ∙ c.id-id.ensures in
+    let stands = subst (λ X. IsNumber X (found.index + 1) (c.in-Ok.fields.id.now, found.game.now)) holds (found.index, refl, found.ensures.entry ∙ ap (λ x. Some (x, found.game.now)) id) in
+    let differs : ¬ AreFieldsOf found.game.now c.in-Ok.fields = search rules in
+    let checked = c.in_ok-judge_fields in
+    let lawful = checked.ensures.found c.args.line.now c.in-Ok.ensures.cut in
+    let other = another _ _ _ c.in-Ok.ensures.cut (found.index + 1) (found.game.now, stands, differs) checked.field-0 lawful in
+    steps.conflict checked.field-0 other.0 (found.index + 1) lawful other.1 other.2 refl refl
+
+pub returns-then-not-repeats-clause-held : goal.returns-then-not-repeats-clause-held
+returns-then-not-repeats-clause-held g c = λ s n lawful at.
+    let holds = ap (λ (l : LedgerState). l.accepted) c.self.view_is in
+    let ids = subst HaveOwnIds holds c.self.invariant.rules.ids in
+    let no : Err (Conflict (c.in-Some.index + 1)) ≡ Ok n = held_step c.args.self.now.cap c.args.self.now.accepted c.args.line.now s n (Err (Conflict (c.in-Some.index + 1))) c.args.self.now.accepted ids lawful at (returns-then-not-repeats-clause-step g c) in
     cc
 
-pub returns-in_err-check_line-in-Other-clause-step : goal.returns-in_err-check_line-in-Other-clause-step
-returns-in_err-check_line-in-Other-clause-step g c =
-    let e = err_from_is_err_and c.from_residual.result c.from_residual.ensures.1 in
-    steps.refused _ c.in_err-check_line-in-Other.ensures.refused (ap answer_of (e.1 ∙ ap (λ x. Err x) e.2)) refl
+pub returns-in-Some-clause-step : goal.returns-in-Some-clause-step
+returns-in-Some-clause-step g c =
+    let entries = c.self.inside.games.entries in
+    let found = c.in-Some in
+    let holds = ap (λ (l : LedgerState). l.accepted) c.self.view_is in
+    let id = key_found entries c.id-id.result _ found.ensures.key ∙ c.id-id.ensures in
+    let stands = subst (λ X. IsNumber X (found.index + 1) (c.in-Ok.fields.id.now, found.game.now)) holds (found.index, refl, found.ensures.entry ∙ ap (λ x. Some (x, found.game.now)) id) in
+    let same : AreFieldsOf found.game.now c.in-Ok.fields = search rules in
+    let arrives = comes_again _ _ _ c.in-Ok.ensures.cut (subst (All IsSubmission) holds c.self.invariant.rules.games) (found.index + 1) (found.game.now, stands, same) in
+    steps.repeat arrives.0 (found.index + 1) arrives.1 arrives.2 refl refl
 
-pub returns-in_err-check_line-in-Other-clause-new : goal.returns-in_err-check_line-in-Other-clause-new
-returns-in_err-check_line-in-Other-clause-new g c =
-    let e = err_from_is_err_and c.from_residual.result c.from_residual.ensures.1 in
-    ap says_new e.1 ∙ same_is_no_longer _ _ refl
-
-pub returns-in_ok-check_line-in-Other-clause-step : goal.returns-in_ok-check_line-in-Other-clause-step
-returns-in_ok-check_line-in-Other-clause-step g c =
-    let checked = c.in_ok-check_line-in-Other in
-    let other = another _ _ _ c.in-Ok.ensures.cut _ c.in-Other.ensures.arrives checked.field-0 checked.ensures.found in
-    steps.conflict checked.field-0 other.0 c.in-Other.number checked.ensures.found other.1 other.2 refl refl
-
-pub returns-in_ok-check_line-in-Other-clause-new : goal.returns-in_ok-check_line-in-Other-clause-new
-returns-in_ok-check_line-in-Other-clause-new g c = same_is_no_longer _ _ refl
-
-pub returns-in_ok-check_line-in-Other-clause-held : goal.returns-in_ok-check_line-in-Other-clause-held
-returns-in_ok-check_line-in-Other-clause-held g c = λ s n lawful at.
-    let no : Err (Conflict c.in-Other.number) ≡ Ok n = held_step c.args.self.now.cap c.args.self.now.accepted c.args.line.now s n (Err (Conflict c.in-Other.number)) c.args.self.now.accepted c.arrival.ensures.rules.ids lawful at (returns-in_ok-check_line-in-Other-clause-step g c) in
+pub returns-in-Some-clause-held : goal.returns-in-Some-clause-held
+returns-in-Some-clause-held g c = λ s n lawful at.
+    let holds = ap (λ (l : LedgerState). l.accepted) c.self.view_is in
+    let ids = subst HaveOwnIds holds c.self.invariant.rules.ids in
+    let same : Ok (c.in-Some.index + 1) ≡ Ok n = held_step c.args.self.now.cap c.args.self.now.accepted c.args.line.now s n (Ok (c.in-Some.index + 1)) c.args.self.now.accepted ids lawful at (returns-in-Some-clause-step g c) in
     cc
 
-pub returns-in_err-take-in-New-clause-step : goal.returns-in_err-take-in-New-clause-step
-returns-in_err-take-in-New-clause-step g c =
-    let e = err_from_is_err_and c.from_residual-in_err-take-in-New.result c.from_residual-in_err-take-in-New.ensures.1 in
-    rw (e.1, e.2) (c.in_err-take-in-New.ensures.step c.args.line.now c.in-Ok.ensures.cut)
+pub take-requires-clause-new : goal.take-requires-clause-new
+take-requires-clause-new g c =
+    let entries = c.self.inside.games.entries in
+    let holds = ap (λ (l : LedgerState). l.accepted) c.self.view_is in
+    subst (IsNewId c.in-Ok.fields.id.now) holds (subst (λ x. IsNewId x entries) c.id-id.ensures (IsNewId-absent entries c.id-id.result (sym c.in_default.ensures.value)))
 
-pub returns-in_err-take-in-New-clause-held : goal.returns-in_err-take-in-New-clause-held
-returns-in_err-take-in-New-clause-held g c = λ s n lawful at. absurd (not_held c.args.self.now.accepted n s (is_new _ _ _ c.in-Ok.ensures.cut c.in-New.ensures.arrives s lawful) at)
+pub returns-in_err-take-clause-step : goal.returns-in_err-take-clause-step
+returns-in_err-take-clause-step g c =
+    let e = err_from_is_err_and c.from_residual-in_err-take.result c.from_residual-in_err-take.ensures.1 in
+    rw (e.1, e.2) (c.in_err-take.ensures.step c.args.line.now c.in-Ok.ensures.cut)
 
-pub returns-in_err-take-in-New-clause-new : goal.returns-in_err-take-in-New-clause-new
-returns-in_err-take-in-New-clause-new g c =
-    let e = err_from_is_err_and c.from_residual-in_err-take-in-New.result c.from_residual-in_err-take-in-New.ensures.1 in
-    ap says_new e.1 ∙ same_is_no_longer _ _ (refusal_step _ _ _ _ _ (c.in_err-take-in-New.ensures.step c.args.line.now c.in-Ok.ensures.cut))
+pub returns-in_err-take-clause-held : goal.returns-in_err-take-clause-held
+returns-in_err-take-clause-held g c = λ s n lawful at.
+    let entries = c.self.inside.games.entries in
+    let holds = ap (λ (l : LedgerState). l.accepted) c.self.view_is in
+    let fresh = subst (IsNewId c.in-Ok.fields.id.now) holds (subst (λ x. IsNewId x entries) c.id-id.ensures (IsNewId-absent entries c.id-id.result (sym c.in_default.ensures.value))) in
+    absurd (not_held c.args.self.now.accepted n s (is_new _ _ _ c.in-Ok.ensures.cut fresh s lawful) at)
 
-pub returns-in_ok-take-in-New-clause-step : goal.returns-in_ok-take-in-New-clause-step
-returns-in_ok-take-in-New-clause-step g c = c.in_ok-take-in-New.ensures.step c.args.line.now c.in-Ok.ensures.cut
+pub returns-clause-step : goal.returns-clause-step
+returns-clause-step g c = c.in_ok-take.ensures.step c.args.line.now c.in-Ok.ensures.cut
 
-pub returns-in_ok-take-in-New-clause-new : goal.returns-in_ok-take-in-New-clause-new
-returns-in_ok-take-in-New-clause-new g c = new_grows _ _ _ _ _ (is_new _ _ _ c.in-Ok.ensures.cut c.in-New.ensures.arrives) (c.in_ok-take-in-New.ensures.step c.args.line.now c.in-Ok.ensures.cut)
+pub returns-clause-new : goal.returns-clause-new
+returns-clause-new g c =
+    let entries = c.self.inside.games.entries in
+    let holds = ap (λ (l : LedgerState). l.accepted) c.self.view_is in
+    let fresh = subst (IsNewId c.in-Ok.fields.id.now) holds (subst (λ x. IsNewId x entries) c.id-id.ensures (IsNewId-absent entries c.id-id.result (sym c.in_default.ensures.value))) in
+    new_grows _ _ _ _ _ (is_new _ _ _ c.in-Ok.ensures.cut fresh) (c.in_ok-take.ensures.step c.args.line.now c.in-Ok.ensures.cut)
 
-pub returns-in_ok-take-in-New-clause-held : goal.returns-in_ok-take-in-New-clause-held
-returns-in_ok-take-in-New-clause-held g c = λ s n lawful at. absurd (not_held c.args.self.now.accepted n s (is_new _ _ _ c.in-Ok.ensures.cut c.in-New.ensures.arrives s lawful) at)
+pub returns-clause-held : goal.returns-clause-held
+returns-clause-held g c = λ s n lawful at.
+    let entries = c.self.inside.games.entries in
+    let holds = ap (λ (l : LedgerState). l.accepted) c.self.view_is in
+    let fresh = subst (IsNewId c.in-Ok.fields.id.now) holds (subst (λ x. IsNewId x entries) c.id-id.ensures (IsNewId-absent entries c.id-id.result (sym c.in_default.ensures.value))) in
+    absurd (not_held c.args.self.now.accepted n s (is_new _ _ _ c.in-Ok.ensures.cut fresh s lawful) at)
