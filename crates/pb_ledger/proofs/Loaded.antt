@@ -29,7 +29,7 @@ use Rattle.pb_ledger.specs.declared.loading.Loader.{Loader}
 use Rattle.pb_ledger.specs.declared.loading.LoadError.{LoadError}
 use Rattle.pb_ledger.specs.declared.loading.LoadError.TheVariants as error
 use Rattle.pb_ledger.specs.Lending.{SameLedger}
-use Rattle.pb_ledger.specs.Loader.{Judged, Submits, LoadsLine, header, load_error, submission}
+use Rattle.pb_ledger.specs.Loader.{Judged, LoadsGame, LoadsLine, header, load_error, submission}
 use Rattle.pb_ledger.specs.Saving as saving
 use Rattle.pb_ledger.specs.Making.{Makes, Wants}
 use Rattle.pb_ledger.specs.Loading.{Breaks, Loads, LoadsUntil, has_header, is_header, submission_lines}
@@ -141,7 +141,7 @@ module _ {T : Type 0} where
   Taken-none : (s : Loader T) → Taken s s []
   Taken-none s = record { answers = []; run = refl; taken = All-nil IsOk; new = λ h. omega arith; saved = refl; lines = λ h. omega arith; keeps = SameLedger-refl s.ledger }
 
-  Taken-more : (s m t : Loader T) (line : List ℕ) (ls : List (List ℕ)) → Submits s line (Ok tt) m → Taken m t ls → Taken s t (line ∷ ls)
+  Taken-more : (s m t : Loader T) (line : List ℕ) (ls : List (List ℕ)) → LoadsGame s line (Ok tt) m → Taken m t ls → Taken s t (line ∷ ls)
   Taken-more s m t line ls one rest = record {
     answers = one.answer ∷ rest.answers;
     run = (m.ledger.now.accepted, one.step, subst (λ most. Run most m.ledger.now.accepted ls rest.answers t.ledger.now.accepted) one.keeps.cap rest.run);
@@ -153,7 +153,7 @@ module _ {T : Type 0} where
   }
 
   -- no line after the first is a header
-  submitted : (s t : Loader T) (line : List ℕ) (answer : Result (Unit {0}) LoadError) → 1 ≤ s.lines → LoadsLine s line answer t → Submits s line answer t
+  submitted : (s t : Loader T) (line : List ℕ) (answer : Result (Unit {0}) LoadError) → 1 ≤ s.lines → LoadsLine s line answer t → LoadsGame s line answer t
   submitted s t line answer some (header zero is _ same) = absurd (omega (arith, zero, some))
   submitted s t line answer some (submission other one) = one
 
@@ -266,7 +266,7 @@ module _ {T : Type 0} where
                 omega (arith, fewer, more, ap length so.1, ap length push, length_push (submission_lines before) line)
           ]
 
-      stopped_so : (e : LoadError) → Submits m line (Err e) t → Stopped s t e ls
+      stopped_so : (e : LoadError) → LoadsGame m line (Err e) t → Stopped s t e ls
       stopped_so error.Read sub = absurd sub.judged
       stopped_so error.Endless sub = absurd sub.judged
       stopped_so error.Memory sub =

@@ -24,7 +24,7 @@ Judged is_saved n A B answer (Err (Line m)) =
 Judged is_saved n A B answer (Err _) = ⊥
 
 -- the line was submitted, and counted
-pub record Submits {T : Type 0} (s : Loader T) (line : List ℕ)
+pub record LoadsGame {T : Type 0} (s : Loader T) (line : List ℕ)
     (result : Result (Unit {0}) LoadError) (t : Loader T) : Type 0 where
   pub answer : Answer
   pub step : Step s.ledger.now.cap s.ledger.now.accepted line answer t.ledger.now.accepted
@@ -38,7 +38,7 @@ pub data LoadsLine {T : Type 0} (s : Loader T) (line : List ℕ)
     (result : Result (Unit {0}) LoadError) (t : Loader T) : Type 0 where
   header : s.lines ≡ 0 → is_header line ≡ true → result ≡ Ok tt
       → t ≡ record s { lines = 1; is_saved = true } → LoadsLine s line result t
-  submission : (s.lines ≡ 0 → is_header line ≡ false) → Submits s line result t
+  submission : (s.lines ≡ 0 → is_header line ≡ false) → LoadsGame s line result t
       → LoadsLine s line result t
 
 -- what a fault of reading is to the loading

@@ -13,7 +13,7 @@ Stops answer (Ok x) = answer ≢ Err refusal.Memory
 Stops answer (Err fault) = (answer ≡ Err refusal.Memory) × (fault ≡ Memory)
 
 -- the line was submitted
-pub record Submits {T W : Type 0} (s : Replayer T W) (line : List ℕ)
+pub record ReplaysGame {T W : Type 0} (s : Replayer T W) (line : List ℕ)
     (result : Result (Unit {0}) Fault) (t : Replayer T W) : Type 0 where
   pub answer : Answer
   pub step : Step s.ledger.now.cap s.ledger.now.accepted line answer t.ledger.now.accepted
@@ -24,6 +24,6 @@ pub record Submits {T W : Type 0} (s : Replayer T W) (line : List ℕ)
 -- a line that an LF ended was submitted, and one that none ended was noted
 pub data ReplaysLine {T W : Type 0} (s : Replayer T W) (line : List ℕ) (is_ended : Bool)
     (result : Result (Unit {0}) Fault) (t : Replayer T W) : Type 0 where
-  submits : is_ended ≡ true → Submits s line result t → ReplaysLine s line is_ended result t
+  submits : is_ended ≡ true → ReplaysGame s line result t → ReplaysLine s line is_ended result t
   torn : is_ended ≡ false → result ≡ Ok tt → t ≡ record s { is_torn = true }
       → ReplaysLine s line is_ended result t

@@ -5,7 +5,7 @@ use Rattle.pb_io.specs.Reads.{chunk_len}
 use Rattle.pb_io.specs.Source.{SourceState}
 use Rattle.pb_poly.specs.BookFinds.{FindsBook, FindsNoBook, MeetsNoBook}
 use Rattle.pb_poly.specs.Reading.{BookIs, ReadsBook}
-use Rattle.pb_poly.specs.Streams.{Reads, Way, at_end, at_fault, at_no_end, just_so_far, so_far}
+use Rattle.pb_poly.specs.Streams.{ReadsTo, Extent, at_end, at_fault, at_no_end, just_so_far, so_far}
 use Rattle.pb_poly.specs.Table.{table_limit}
 use Rattle.pb_poly.specs.TableFinds.{FindsNoTable, FindsTable, MeetsNoTable}
 use Rattle.pb_poly.specs.TableReading.{ReadsTable, TableIs}
@@ -44,7 +44,7 @@ module _ (fills : ℕ) (old new : SourceState) where
   Apart (Ok randoms) = FindsTable fills old new randoms
   Apart (Err e) = FindsNoTable fills old new e
 
-  by_way : (way : Way) (bytes : List ℕ) (result : Result (List ℕ) TableFault) → Reads way table_limit fills old new bytes → TableIs way bytes result → Apart result
+  by_way : (way : Extent) (bytes : List ℕ) (result : Result (List ℕ) TableFault) → ReadsTo way table_limit fills old new bytes → TableIs way bytes result → Apart result
   by_way at_end bytes (Ok randoms) r h = record { came = bytes; reads = r; is = h }
   by_way just_so_far bytes (Err Long) r h = record { came = bytes; reads = r; due = omega (arith, h); few = omega (arith, h) }
   by_way at_end bytes (Err (Line n)) r h = record { came = bytes; reads = r; due = h; few = omega (arith, h.0) }
@@ -90,7 +90,7 @@ module _ (fills : ℕ) (old new : SourceState) where
   BookApart (Ok entries) = FindsBook fills old new entries
   BookApart (Err e) = FindsNoBook fills old new e
 
-  book_by_way : (way : Way) (bytes : List ℕ) (result : Result (List Entry) BookError) → Reads way chunk_len fills old new bytes → BookIs way bytes result → BookApart result
+  book_by_way : (way : Extent) (bytes : List ℕ) (result : Result (List Entry) BookError) → ReadsTo way chunk_len fills old new bytes → BookIs way bytes result → BookApart result
   book_by_way at_end bytes (Ok entries) r h = record { came = bytes; reads = r; bytes = h.are; ordered = h.ordered }
   book_by_way so_far bytes (Err (book.Unsorted n)) r h = record { came = bytes; reads = r; due = h }
   book_by_way at_end bytes (Err (book.Cut n)) r h = record { came = bytes; reads = r; due = h }

@@ -10,7 +10,7 @@ use Rattle.pb_poly.specs.declared.reading.BookError.TheVariants.{Unsorted, Cut, 
 use Rattle.pb_poly.specs.declared.reading.BookError.TheVariants.{Endless, Memory}
 use Rattle.pb_poly.specs.Entry.{IsEntry}
 use Rattle.pb_poly.specs.Book.{BookBytes, IsBookFile, NeverFall, book_bytes}
-use Rattle.pb_poly.specs.Streams.{Reads, Way, at_end, at_fault, at_no_end, so_far}
+use Rattle.pb_poly.specs.Streams.{ReadsTo, Extent, at_end, at_fault, at_no_end, so_far}
 
 -- the bytes are those of these entries, whose keys never fall, and less than a whole entry
 pub record Splits (came : List ℕ) (entries : List Entry) (piece : List ℕ) : Type 0 where
@@ -20,7 +20,7 @@ pub record Splits (came : List ℕ) (entries : List Entry) (piece : List ℕ) : 
   pub ordered : NeverFall entries
 
 -- the bytes of a book, read in this way, come to these entries or to this fault
-abbrev pub BookIs : Way → List ℕ → Result (List Entry) BookError → Type 0
+abbrev pub BookIs : Extent → List ℕ → Result (List Entry) BookError → Type 0
 BookIs at_end bytes (Ok entries) = IsBookFile entries bytes
 BookIs so_far bytes (Err (Unsorted n)) =
     (entries : List Entry) × BookBytes entries bytes × BreaksAt NeverFall entries n
@@ -37,7 +37,7 @@ BookIs way bytes result = ⊥
 -- reading a book gives this; for want of memory at the start nothing is read
 abbrev pub ReadsBook : ℕ → SourceState → SourceState → Result (List Entry) BookError → Type 0
 ReadsBook fills old new result =
-    ((way : Way) × (bytes : List ℕ) × Reads way chunk_len fills old new bytes
+    ((way : Extent) × (bytes : List ℕ) × ReadsTo way chunk_len fills old new bytes
     × BookIs way bytes result)
     ⊎ ((result ≡ Err Memory) × (new ≡ old))
 

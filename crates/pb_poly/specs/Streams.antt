@@ -5,17 +5,17 @@ use Rattle.pb_io.specs.Reads.{ReadsAll, ReadsFront, ReadsOn, ReadsSome, ReadsToF
 use Rattle.pb_io.specs.Source.{SourceState}
 
 -- to its end, to a fault, until the fills were used up, just so far, or so far at least
-pub data Way : Type 0 where
-  at_end : Way
-  at_fault : Way
-  at_no_end : Way
-  just_so_far : Way
-  so_far : Way
+pub data Extent : Type 0 where
+  at_end : Extent
+  at_fault : Extent
+  at_no_end : Extent
+  just_so_far : Extent
+  so_far : Extent
 
 -- these bytes came, and so the reading ended
-abbrev pub Reads : Way → ℕ → ℕ → SourceState → SourceState → List ℕ → Type 0
-Reads at_end = ReadsAll
-Reads at_fault = ReadsToFault
-Reads at_no_end = ReadsOn
-Reads just_so_far = ReadsSome
-Reads so_far = ReadsFront
+abbrev pub ReadsTo : Extent → ℕ → ℕ → SourceState → SourceState → List ℕ → Type 0
+ReadsTo at_end = ReadsAll
+ReadsTo at_fault = ReadsToFault
+ReadsTo at_no_end = ReadsOn
+ReadsTo just_so_far = ReadsSome
+ReadsTo so_far = ReadsFront

@@ -2,7 +2,7 @@
 use Rattle.std.specs.Prelude.{◌≡◌, ℕ, ◌+◌, ◌≤◌, ◌⊎◌, List, Result, Ok, Err, length}
 use Rattle.pb_io.specs.Source.{SourceState}
 use Rattle.pb_io.specs.declared.fault.ReadFault.TheVariants.{Read, Endless, Memory}
-use Rattle.pb_poly.specs.Streams.{Reads, Way, at_end, at_fault, at_no_end, just_so_far}
+use Rattle.pb_poly.specs.Streams.{ReadsTo, Extent, at_end, at_fault, at_no_end, just_so_far}
 use Rattle.pb_poly.specs.Table.{IsDueTable, IsTableFile, table_limit}
 use Rattle.pb_poly.specs.declared.table.TableError.TheVariants as poly
 use Rattle.pb_poly.specs.declared.table_file.TableFault.{TableFault}
@@ -10,7 +10,7 @@ use Rattle.pb_poly.specs.declared.table_file.TableFault.TheVariants.{Long, Line,
 
 -- the bytes of a table file, read in this way, come to these random numbers or to this fault; where
 -- they are too many, just one too many was read
-abbrev pub TableIs : Way → List ℕ → Result (List ℕ) TableFault → Type 0
+abbrev pub TableIs : Extent → List ℕ → Result (List ℕ) TableFault → Type 0
 TableIs at_end bytes (Ok randoms) = IsTableFile randoms bytes
 TableIs just_so_far bytes (Err Long) = length bytes ≡ table_limit + 1
 TableIs at_end bytes (Err (Line n)) = (length bytes ≤ table_limit) × IsDueTable (poly.Line n) bytes
@@ -24,6 +24,6 @@ TableIs way bytes result = ⊥
 -- reading a table file gives this; for want of memory at the start nothing is read
 abbrev pub ReadsTable : ℕ → SourceState → SourceState → Result (List ℕ) TableFault → Type 0
 ReadsTable fills old new result =
-    ((way : Way) × (bytes : List ℕ) × Reads way table_limit fills old new bytes
+    ((way : Extent) × (bytes : List ℕ) × ReadsTo way table_limit fills old new bytes
     × TableIs way bytes result)
     ⊎ ((result ≡ Err (Fault Memory)) × (new ≡ old))
