@@ -18,7 +18,8 @@ use pb_points::Tally;
 pub(crate) const HEADER: &[u8] = b"pbook-ledger 1";
 
 /// Writes the saved form of a ledger and flushes: a header, and then the submission line of each
-/// game that is held, in order of acceptance.
+/// game that is held, in order of acceptance. It takes no memory, so what is held can be saved where
+/// there was none for more.
 ///
 /// # Errors
 ///
