@@ -16,7 +16,8 @@ INSTALLED := crates/worked_examples/data/installed
 
 # What is put in share/pbook: files for users' own games, to be read and to be run.
 SHARED_FILES := $(addprefix examples/,games.pgn submissions.awk)
-SHARED_SCRIPTS := $(addprefix examples/,client.py nightly pgn_to_lines.sh table_from_polyglot.sh)
+SHARED_SCRIPTS := $(addprefix examples/,client.py serve.py nightly pgn_to_lines.sh \
+    table_from_polyglot.sh)
 
 # Ends a goal that needs the toolchain where that isn't there.
 WANTS_TOOLCHAIN = command -v rt > /dev/null || { \

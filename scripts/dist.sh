@@ -25,7 +25,7 @@ done
 for file in games.txt games.pgn table.txt book.bin submissions.awk; do
     install -D -m 644 "examples/$file" "$top/examples/$file"
 done
-for file in table_from_polyglot.sh pgn_to_lines.sh workers.sh client.py nightly; do
+for file in table_from_polyglot.sh pgn_to_lines.sh workers.sh client.py serve.py nightly; do
     install -D -m 755 "examples/$file" "$top/examples/$file"
 done
 

@@ -1,7 +1,8 @@
 #!/bin/sh
 # Tries the scripts of examples/ that users run on their own games, as `make install` puts them in
-# place: pgn_to_lines.sh, client.py and nightly, and what they do at faults. The first check that
-# doesn't hold ends it. Those that want another program are left out where it isn't installed.
+# place: pgn_to_lines.sh, client.py, serve.py and nightly, and what they do at faults. The first
+# check that doesn't hold ends it. Those that want another program are left out where it isn't there.
+# KILLS=number kills so many nights and services, where 12 and 4 are killed else.
 # Usage: PROGRAM=program tests/examples.sh [CHECK..] (at the top of the repository; all checks where
 # none is given).
 set -eu
@@ -281,6 +282,18 @@ with collector() as it:
 assert not wrong, wrong'
 }
 
+# serves CHECK: whether this check of tests/lib/service.py holds
+serves() {
+    holds env PBOOK="$PROGRAM" PATIENCE="$patience" timeout $((patience * 3)) \
+        python3 -B "$top/tests/lib/service.py" "$1" "$shared/serve.py" "$table" "$work/games" > told
+    [ ! -s told ] || note "$(cat told)"
+}
+serve_answers() { serves answers; }
+serve_ends() { serves ends; }
+serve_limits() { serves limits; }
+serve_slow() { serves slow; }
+serve_workers() { serves workers; }
+
 # night STATUS TEXT [OPTION..]: whether a night in the folder $place/srv ends so, by a line that is
 # run as cron does: by sh, in another folder, with few variables
 night() {
@@ -289,8 +302,8 @@ night() {
     holds tells_of "$due_status" "$text" env -i HOME=/ LOGNAME=nobody PATH=/usr/bin:/bin \
         /bin/sh -c "cd / && $shared/nightly $place/srv $*"
     holds test ! -s printed
-    # No draft of the answers is left.
-    holds test -z "$(find srv -name '.replies.*')"
+    # No draft is left.
+    holds test -z "$(find srv -name '.*' ! -name .nightly.lock)"
 }
 
 # begin_nights: the folder before the first night
@@ -355,6 +368,25 @@ $failed"
     night 3 "pbook: games.ledger: no such file (an empty one begins a ledger)
 $failed"
     holds is_new srv/book.bin
+    # Another night has the folder.
+    : > srv/games.ledger
+    exec 7> srv/.nightly.lock
+    flock -n 7
+    night 1 "nightly: another night has $place/srv, or flock is not installed"
+    exec 7<&-
+    holds cmp srv/replies before
+    # A good night leaves no answers of a bad one, nor hidden files.
+    : > srv/.replies.old
+    night 0 ''
+    holds cmp srv/replies before
+    holds test ! -e srv/replies.failed
+}
+
+# Whatever process of a night is killed, the answers, the ledger and the book are old ones or new.
+killed_nights() {
+    KILLS=${KILLS:-12} holds python3 -B "$top/tests/lib/night_kills.py" "$work/put" "$table" \
+        "$work/games" > told
+    note "$(cat told)"
 }
 
 # The line that the script shows is one that cron takes.
@@ -378,14 +410,15 @@ judges_crontabs() {
     esac
     [ -n "$judging" ]
 }
+can_kill_nights() { has python3 && has flock; }
 has_pgn_extract() { has pgn-extract && has gzip; }
 if [ $# -eq 0 ]; then
     choose has_pgn_extract 'pgn-extract and gzip are wanted' lines_of_pgn bad_pgn no_pgn bundled_pgn
     choose 'has python3' 'python3 is wanted' client_answers client_faults client_killed \
-        client_lines client_threads
-    choose true '' nights cut_night
+        client_lines client_threads serve_answers serve_ends serve_limits serve_slow serve_workers
     choose 'has polyglot' 'polyglot is wanted' own_table
-    choose 'has flock' 'flock is wanted' bad_nights
+    choose 'has flock' 'flock is wanted' nights cut_night bad_nights
+    choose can_kill_nights 'python3 and flock are wanted' killed_nights
     choose judges_crontabs 'a crontab that looks at files is wanted' crontab_line
     # shellcheck disable=SC2086 # each name is a word
     set -- $chosen
