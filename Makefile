@@ -15,7 +15,7 @@ UNPROVED := build/unproved/pbook
 INSTALLED := crates/worked_examples/data/installed
 
 # What is put in share/pbook: files for users' own games, to be read and to be run.
-SHARED_FILES := $(addprefix examples/,games.pgn submissions.awk)
+SHARED_FILES := $(addprefix examples/,games.pgn pbook.service submissions.awk)
 SHARED_SCRIPTS := $(addprefix examples/,client.py serve.py nightly pgn_to_lines.sh \
     table_from_polyglot.sh)
 

@@ -22,7 +22,7 @@ make -s install PROGRAM="$PROGRAM" DESTDIR="$top" PREFIX=
 for file in README.md CHANGELOG.md docs/*.md docs/*.svg; do
     install -D -m 644 "$file" "$top/$file"
 done
-for file in games.txt games.pgn table.txt book.bin submissions.awk; do
+for file in games.txt games.pgn table.txt book.bin pbook.service submissions.awk; do
     install -D -m 644 "examples/$file" "$top/examples/$file"
 done
 for file in table_from_polyglot.sh pgn_to_lines.sh workers.sh client.py serve.py nightly; do

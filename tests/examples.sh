@@ -333,6 +333,18 @@ serve_limits() { serves limits; }
 serve_slow() { serves slow; }
 serve_workers() { serves workers; }
 
+# systemd takes the service that the example has, and sees a wrong one.
+serve_unit() {
+    sed "s|/usr/local/share/pbook|$shared|; s|/srv/book|$place|" "$shared/pbook.service" > pbook.service
+    holds is_unit pbook.service
+    sed 's/^KillMode=.*/KillMode=none at all/' pbook.service > wrong.service
+    holds not is_unit wrong.service
+    sed 's|/serve.py|/none.py|' pbook.service > wrong.service
+    holds not is_unit wrong.service
+}
+# is_unit FILE: whether systemd says nothing of this file
+is_unit() { systemd-analyze verify "$PWD/$1" > said 2>&1 && [ ! -s said ]; }
+
 # night STATUS TEXT [OPTION..]: whether a night in the folder $place/srv ends so, by a line that is
 # run as cron does: by sh, in another folder, with few variables
 night() {
@@ -459,6 +471,7 @@ if [ $# -eq 0 ]; then
     choose 'has polyglot' 'polyglot is wanted' own_table
     choose 'has flock' 'flock is wanted' nights cut_night bad_nights
     choose can_kill_nights 'python3 and flock are wanted' killed_nights
+    choose 'has systemd-analyze' 'systemd-analyze is wanted' serve_unit
     choose judges_crontabs 'a crontab that looks at files is wanted' crontab_line
     # shellcheck disable=SC2086 # each name is a word
     set -- $chosen
