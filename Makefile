@@ -67,7 +67,7 @@ dist: $(PROGRAM)
 # The main job on the bundled examples, with all comparisons: by the proved program where it stands,
 # else by that of `make unproved`, which it leaves.
 demo:
-	@sh scripts/demo.sh
+	@sh examples/demo.sh
 
 # Prints the definitions that the theorem of `pbook collect` rests on, in reading order, then those
 # that its laws rest on besides, and how much that is.

@@ -1,6 +1,6 @@
 #!/bin/sh
 # Tries the program in a few minutes, and proves nothing. The program is built once without proof,
-# with AddressSanitizer and a check in the place of each proof. Then scripts/demo.sh runs over it,
+# with AddressSanitizer and a check in the place of each proof. Then examples/demo.sh runs over it,
 # and those scripts of tests/ that so slow a program ends in time. `worked_examples` is built
 # likewise, and tests/rows.sh compares what it answers.
 # Usage: ROWS=pattern PATIENCE=seconds scripts/check.sh [PART..] (at the top of the repository; all
@@ -60,7 +60,7 @@ work_on() {
     case $1 in
         pbook) build build_unproved pbook ;;
         worked_examples) build build_unproved_examples worked_examples ;;
-        demo) script scripts/demo.sh ;;
+        demo) script examples/demo.sh ;;
         rows)
             PROGRAM=$room/worked_examples
             script tests/rows.sh
