@@ -187,12 +187,11 @@ def main():
     found = specs.closure(seeds)
     if not found:
         sys.exit(f"scripts/theorem.py: no definition is named {given.of}")
-    has_laws = given.of == HEADLINE and not given.contracts
-    laws = [specs.find(*law.rsplit(".", 1)) for law in LAWS] if has_laws else []
+    names = LAWS if given.of == HEADLINE and not given.contracts else ()
+    laws = [specs.find(*law.rsplit(".", 1)) for law in names]
     more = [it for it in specs.closure(laws) if it not in found]
     if given.check:
-        check(found, more)
-        return
+        return check(found, more)
     files = by_files(found, file)
     if given.contracts:
         for path, own in files.items():
@@ -211,5 +210,4 @@ def main():
         print("with its laws:", count_of(found + more))
 
 
-if __name__ == "__main__":
-    main()
+main()
