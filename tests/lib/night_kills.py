@@ -103,8 +103,9 @@ def main():
     folder.mkdir()
     (folder / "table.txt").write_bytes(pathlib.Path(TABLE).read_bytes())
     (folder / "games.ledger").write_bytes(b"")
-    nightly, texts, held, count, late = own_place(), games(), [], {}, 0
-    for turn in range(KILLS):
+    nightly, texts, held, count, late, turn = own_place(), games(), [], {}, 0, 0
+    while sum(count.values()) < KILLS:
+        turn += 1
         count_of = dice.randrange(1, 6)
         fresh = [b"n%d-%d\t" % (turn, at) + dice.choice(texts) for at in range(count_of)]
         tonight = b"".join(it + b"\n" for it in fresh + held[-2:])
@@ -119,6 +120,7 @@ def main():
         ledger = b"".join(it + b"\n" for it in [b"pbook-ledger 1"] + held)
         victim = dice.choice((*CALLS, "pbook", "pbook", "nightly", "the group"))
         killed, status, said = night(nightly, victim)
+        assert killed or status == 0, (turn, victim, status, said)
         count[victim] = count.get(victim, 0) + killed
         late += killed and status == 0
         due = [answers] if status == 0 else [before["replies"]]

@@ -1,7 +1,8 @@
 #!/usr/bin/env python3
 """Tries examples/serve.py, with workers of its own. tests/examples.sh calls it for each check.
 
-Usage: service.py CHECK SERVE TABLE GAMES, in an empty folder. PBOOK names the program.
+Usage: service.py CHECK SERVE TABLE GAMES, in an empty folder. PBOOK names the program. KILLS is how
+often a collector of the check `workers` is killed, and SEED draws other workers.
 """
 
 import collections
@@ -20,8 +21,7 @@ CHECK, SERVE, TABLE, GAMES = sys.argv[1:]
 PBOOK, PATIENCE = os.environ["PBOOK"], float(os.environ.get("PATIENCE") or 300)
 LINES = pathlib.Path(GAMES).read_bytes().split(b"\n")[:-1]
 JOURNAL, BOOK = pathlib.Path("journal"), pathlib.Path("book")
-# What befalls workers is drawn, the same in each run.
-SEED = int(os.environ.get("SEED") or 1)
+SEED, KILLS = (int(os.environ.get(name) or due) for name, due in (("SEED", 1), ("KILLS", 4)))
 
 
 class Service:
@@ -35,8 +35,8 @@ class Service:
             start_new_session=True, env={**os.environ, "PBOOK": program})
         Service.all.append(self)
         self.said = self.process.stderr.readline()
-        *_, host, port = self.said.decode().replace(":", " ").split()
-        self.address = (host, int(port)) if self.said.startswith(b"serve.py: at ") else None
+        host, _, port = self.said.decode().partition("serve.py: at ")[2].rpartition(":")
+        self.address = host, int(port or 0)
 
     def connect(self, room=None):
         return Connection(self.address, room)
@@ -257,20 +257,19 @@ class Worker(threading.Thread):
 def workers():
     """Sixteen workers, and a collector that is killed: each game has one line and its number."""
     global ADDRESS
-    count, kills = int(os.environ.get("GAMES") or 12), int(os.environ.get("KILLS") or 4)
     # Their first plies, as a program with a check in the place of each proof is slow.
     games = [b" ".join(it.partition(b"\t")[2].split(b" ")[:12]) for it in LINES[121:221]]
     dice = random.Random(SEED)
-    sets = [[b"w%d-%d\t" % (n, at) + dice.choice(games) for at in range(count)] for n in range(16)]
-    service = Service()
+    sets = [[b"w%d-%d\t" % (n, at) + dice.choice(games) for at in range(3 * KILLS)]
+            for n in range(16)]
+    service, kills = Service(), 0
     ADDRESS = service.address
     running = [Worker(lines, number) for number, lines in enumerate(sets)]
     for it in running:
         it.start()
-    for _ in range(kills):
+    while kills < KILLS and any(it.is_alive() for it in running):
         time.sleep(dice.random())
-        if not any(it.is_alive() for it in running):
-            break
+        kills += 1
         os.kill(service.child(), signal.SIGKILL)
         service.ends(128 + signal.SIGKILL)
         service = Service("{}:{}".format(*ADDRESS))
