@@ -96,7 +96,7 @@ def night(nightly, victim):
                 os.kill(found[0], signal.SIGKILL)
             killed = True
     said = process.stdout.read()  # All that have it open have ended then.
-    return killed or victim in CALLS and fate.read_text() == "-1\n", process.wait(), said
+    return killed or victim in CALLS and int(fate.read_text()) < 0, process.wait(), said
 
 
 def main():
