@@ -159,7 +159,8 @@ test-replies: build
 test-completions:
 	@sh tests/completions.sh
 
-# Runs the scripts of examples/ for users, and what they do at faults.
+# Runs the scripts of examples/ for users, and what they do at faults. KILLS=number kills so many
+# nights and services.
 test-examples: $(PROGRAM)
 	@sh tests/examples.sh
 

@@ -399,6 +399,19 @@ cut_night() {
     holds test "$(count '^ok' srv/replies)" -eq 9
 }
 
+# A signal to the script alone, while the program runs, loses no answers.
+stopped_night() {
+    begin_nights
+    cp "$work/games" srv/tonight.txt
+    "$shared/nightly" srv &
+    night=$!
+    awaits test -e srv/.replies.new -o -e srv/replies
+    kill "$night" 2> /dev/null || :
+    holds wait "$night"
+    holds test "$(wc -l < srv/replies)" -eq "$(wc -l < srv/tonight.txt)"
+    holds is_new srv/book.bin
+}
+
 bad_nights() {
     begin_nights
     night 1 "nightly: there is no $place/srv/tonight.txt"
@@ -469,7 +482,7 @@ if [ $# -eq 0 ]; then
     choose 'has python3' 'python3 is wanted' client_answers client_faults client_killed \
         client_lines client_threads serve_answers serve_ends serve_limits serve_slow serve_workers
     choose 'has polyglot' 'polyglot is wanted' own_table
-    choose 'has flock' 'flock is wanted' nights cut_night bad_nights
+    choose 'has flock' 'flock is wanted' nights cut_night stopped_night bad_nights
     choose can_kill_nights 'python3 and flock are wanted' killed_nights
     choose 'has systemd-analyze' 'systemd-analyze is wanted' serve_unit
     choose judges_crontabs 'a crontab that looks at files is wanted' crontab_line
