@@ -15,8 +15,9 @@ UNPROVED := build/unproved/pbook
 INSTALLED := crates/worked_examples/data/installed
 
 # What is put in share/pbook: files for users' own games, to be read and to be run.
-SHARED_FILES := $(addprefix examples/,games.pgn submissions.awk)
-SHARED_SCRIPTS := $(addprefix examples/,client.py nightly pgn_to_lines.sh table_from_polyglot.sh)
+SHARED_FILES := $(addprefix examples/,games.pgn pbook.service submissions.awk)
+SHARED_SCRIPTS := $(addprefix examples/,client.py serve.py nightly pgn_to_lines.sh \
+    table_from_polyglot.sh)
 
 # Ends a goal that needs the toolchain where that isn't there.
 WANTS_TOOLCHAIN = command -v rt > /dev/null || { \
@@ -66,7 +67,7 @@ dist: $(PROGRAM)
 # The main job on the bundled examples, with all comparisons: by the proved program where it stands,
 # else by that of `make unproved`, which it leaves.
 demo:
-	@sh scripts/demo.sh
+	@sh examples/demo.sh
 
 # Prints the contract of the call that `pbook collect` makes, the definitions that its theorem rests
 # on, in reading order, then those that its laws rest on besides, and how much that is.
@@ -158,7 +159,8 @@ test-replies: build
 test-completions:
 	@sh tests/completions.sh
 
-# Runs the scripts of examples/ for users, and what they do at faults.
+# Runs the scripts of examples/ for users, and what they do at faults. KILLS=number kills so many
+# nights and services.
 test-examples: $(PROGRAM)
 	@sh tests/examples.sh
 

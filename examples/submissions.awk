@@ -8,7 +8,7 @@ BEGIN {
     if (worker == "") give_up("give the games a name: -v worker=NAME")
 }
 { sub(/\r$/, "") }
-/^\[FEN / { split($0, part, "\""); start = part[2] }
+/^\[FEN / { split($0, part, "\""); start = with_clocks(part[2]) }
 /^\[/ || NF == 0 { next }
 {
     # The moves, and then the result.
@@ -17,6 +17,9 @@ BEGIN {
     start = initial
 }
 END { if (!failed && !games) give_up("no games came") }
+
+# A record of a FEN tag, which may have no clocks.
+function with_clocks(fen) { return split(fen, field, " ") == 4 ? fen " 0 1" : fen }
 
 function give_up(why) {
     print "submissions.awk: " why | "cat 1>&2"

@@ -77,7 +77,6 @@ class Function:
         return self.name.partition("::")[2]
 
 
-
 def module_of(path):
     """The module of a source file, as names below the crate."""
     parts = pathlib.PurePath(path).with_suffix("").parts[1:]
@@ -155,11 +154,6 @@ def lines_of(lines, indent):
     return 0, 0
 
 
-def names_in(line):
-    """The names of an import."""
-    return {*re.findall(r"[^\s{},;]+", line)}
-
-
 @dataclasses.dataclass(frozen=True)
 class Body:
     """An edit: in which line of which file a text takes another's place, and in what functions. It
@@ -200,7 +194,8 @@ class Body:
                 places = [it for it in places if it.first <= at <= it.last]
                 # (an import that loses or renames a name turns all functions of the file)
                 is_import = re.match(r"(ghost )?use ", text.split("\n")[at - 1])
-                is_import = is_import and names_in(old) <= names_in(rest) and " as " not in rest
+                names, kept = ({*re.findall(r"[^\s{},;]+", it)} for it in (old, rest))
+                is_import = is_import and names <= kept and " as " not in rest
                 is_inside = bool(places or is_import) and all(at >= it.body for it in places)
                 is_alone = is_alone or not is_inside
                 functions.update(places)
@@ -316,11 +311,6 @@ class Crate:
         files = [str(it.relative_to(self.folder)) for it in files]
         return [it for file in files for it in functions_of(self.name, file)]
 
-    def text_of(self, function):
-        """The lines of a function."""
-        lines = (self.folder / function.file).read_text(encoding="utf-8").split("\n")
-        return "\n".join(lines[function.first - 1 : function.last])
-
     def kept(self):
         """The file that says that its bodies have passed, as they are and over what they rest on:
         no proof sees the bodies of the functions below, nor how those are proved."""
@@ -422,8 +412,9 @@ class Trial:
 
     def rests(self, law):
         """The definitions on which a law rests."""
-        known = imports((self.crate.folder / law.file).read_text(encoding="utf-8"))
-        words = TOKEN.findall(self.crate.text_of(law))
+        text = (self.crate.folder / law.file).read_text(encoding="utf-8")
+        known, lines = imports(text), text.split("\n")[law.first - 1 : law.last]
+        words = TOKEN.findall("\n".join(lines))
         return {*self.specs.closure(self.specs.find_import(known.get(it)) for it in words)}
 
     def turned(self, body):

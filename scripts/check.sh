@@ -1,23 +1,19 @@
 #!/bin/sh
 # Tries the program in a few minutes, and proves nothing. The program is built once without proof,
-# with AddressSanitizer and a check in the place of each proof. Then scripts/demo.sh runs over it,
+# with AddressSanitizer and a check in the place of each proof. Then examples/demo.sh runs over it,
 # and those scripts of tests/ that so slow a program ends in time. `worked_examples` is built
 # likewise, and tests/rows.sh compares what it answers.
 # Usage: ROWS=pattern PATIENCE=seconds scripts/check.sh [PART..] (at the top of the repository; all
-# parts where none is given: files, messages, demo, replies, locks, order, rows; ROWS is told of in
-# tests/rows.sh).
+# parts where none is given; tests/rows.sh tells of ROWS).
 #
 # Parts run side by side, each in a folder of its own. What a part says is in build/check/PART.log,
 # and is shown at the end where the part has failed.
 set -eu
 . scripts/lib/total.sh
-[ $# -gt 0 ] || set -- files messages demo replies locks order rows
-parts=$*
-for part; do
-    case $part in
-        files | messages | demo | replies | locks | order | rows) ;;
-        *) echo "check: no part is named $part"; exit 2 ;;
-    esac
+all='files messages demo replies locks order rows'
+parts=${*:-$all}
+for part in $parts; do
+    case " $all " in *" $part "*) ;; *) echo "check: no part is named $part"; exit 2 ;; esac
 done
 top=$PWD
 logs=build/check
@@ -60,11 +56,8 @@ work_on() {
     case $1 in
         pbook) build build_unproved pbook ;;
         worked_examples) build build_unproved_examples worked_examples ;;
-        demo) script scripts/demo.sh ;;
-        rows)
-            PROGRAM=$room/worked_examples
-            script tests/rows.sh
-            ;;
+        demo) script examples/demo.sh ;;
+        rows) PROGRAM=$room/worked_examples && script tests/rows.sh ;;
         *)
             # AddressSanitizer looks for leaks by a means that strace has taken.
             export ASAN_OPTIONS=detect_leaks=0
@@ -91,12 +84,11 @@ run() {
     echo "ok: $1, $took s$(sed -n '/ checks hold, /s/^/: /p' "$logs/$1.log")"
 }
 
+# wants NAME: whether this part is wanted
+wants() { case " $parts " in *" $1 "*) ;; *) return 1 ;; esac }
+
 # lane NAME..: those of these parts that are wanted, one after the other
-lane() {
-    for part; do
-        ! wants "$part" || run "$part" || true
-    done
-}
+lane() { for part; do ! wants "$part" || run "$part" || true; done; }
 
 # begin_lane COMMAND..: runs this function beside the others
 begin_lane() {
@@ -108,14 +100,6 @@ begin_lane() {
     lanes="$lanes $!"
 }
 
-# wants NAME..: whether one of these parts is wanted
-wants() {
-    for name; do
-        case " $parts " in *" $name "*) return ;; esac
-    done
-    return 1
-}
-
 rows_lane() { run worked_examples && lane rows; }
 
 echo 'Nothing is proved here: the program is built without proof, with a check in place of each.'
@@ -124,7 +108,7 @@ if wants rows; then
     builds=worked_examples
     begin_lane rows_lane
 fi
-if wants files messages demo replies locks order; then
+if [ "$parts" != rows ]; then
     builds="$builds pbook"
     if run pbook; then
         # The slowest part has a lane of its own. With that of the rows there are four.
@@ -134,24 +118,16 @@ if wants files messages demo replies locks order; then
     fi
 fi
 wait
-lanes=
-
-failed=
-passed=
+lanes='' failed='' passed=''
 for name in $builds $parts; do
-    if [ -e "$room/$name.passed" ]; then
-        passed="$passed $logs/$name.log"
-        continue
-    fi
+    if [ -e "$room/$name.passed" ]; then passed="$passed $logs/$name.log" && continue; fi
     failed="$failed $name"
     echo "== $name failed:"
     if [ -e "$logs/$name.log" ]; then cat "$logs/$name.log"; else echo 'It was not run.'; fi
 done
-if [ -n "$failed" ]; then
-    echo "FAILED:$failed. Nothing was proved."
-else
-    echo "All of it passed: $parts. Nothing was proved; make proves the program."
-fi
+said="All of it passed: $parts. Nothing was proved; make proves the program."
+[ -z "$failed" ] || said="FAILED:$failed. Nothing was proved."
+echo "$said"
 # shellcheck disable=SC2086 # names have no spaces
 total "$(echo $failed | wc -w)" $passed
 [ -z "$failed" ]

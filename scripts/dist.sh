@@ -6,10 +6,8 @@
 set -eu
 PROGRAM=${PROGRAM:-build/pbook}
 to=${1:-build}
-[ -x "$PROGRAM" ] || {
-    echo "dist: no program stands at $PROGRAM; make proves and builds build/pbook"
-    exit 1
-}
+[ -x "$PROGRAM" ] ||
+    { echo "dist: no program stands at $PROGRAM; make proves and builds build/pbook"; exit 1; }
 version=$({ "$PROGRAM" --version || :; } | cut -d' ' -f2)
 name=pbook-$version-x86_64-linux
 mkdir -p "$to"
@@ -19,15 +17,12 @@ trap 'exit 1' HUP INT TERM
 top=$room/$name
 
 make -s install PROGRAM="$PROGRAM" DESTDIR="$top" PREFIX=
-for file in README.md CHANGELOG.md docs/*.md docs/*.svg; do
-    install -D -m 644 "$file" "$top/$file"
-done
-for file in games.txt games.pgn table.txt book.bin submissions.awk; do
-    install -D -m 644 "examples/$file" "$top/examples/$file"
-done
-for file in table_from_polyglot.sh pgn_to_lines.sh workers.sh client.py nightly; do
-    install -D -m 755 "examples/$file" "$top/examples/$file"
-done
+install -m 644 README.md CHANGELOG.md "$top"
+install -D -m 644 -t "$top/docs" docs/*.md docs/*.svg
+cd examples
+install -D -m 644 -t "$top/examples" games.* table.txt book.bin pbook.service submissions.awk
+install -m 755 -t "$top/examples" table_from_polyglot.sh pgn_to_lines.sh workers.sh ./*.py nightly
+cd ..
 
 # A link to a file or folder of the source, which isn't packed, becomes its text.
 for text in README.md CHANGELOG.md docs/*.md; do

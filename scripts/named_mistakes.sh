@@ -8,16 +8,11 @@ document=docs/WRONG_BODIES.md
 refused=0
 
 # refuse WHAT LINE: says what is wrong, and of which line or edit
-refuse() {
-    printf '%s: %s\n' "$1" "$2" >&2
-    refused=1
-}
+refuse() { printf '%s: %s\n' "$1" "$2" >&2 && refused=1; }
 
 # edits LINES: the edits that these lines name
-edits() {
-    printf '%s\n' "$1" | tr '`' '\n' |
-        grep -xE 'crates/[^/]*/(must-fail|bodies)/[^/]*\.edit' || true
-}
+edit='crates/[^/]*/(must-fail|bodies)/[^/]*\.edit'
+edits() { printf '%s\n' "$1" | tr '`' '\n' | grep -xE "$edit" || :; }
 
 list=$(sed -n '/^## What nobody may do$/,/^## /p' "$document" | grep '^- ' || :)
 named=$(edits "$list")
@@ -26,15 +21,11 @@ named=$(edits "$list")
 while IFS= read -r line; do
     paths=$(edits "$line")
     [ -n "$paths" ] || refuse 'no edit is named' "$line"
-    for path in $paths; do
-        [ -f "$path" ] || refuse "there is no $path" "$line"
-    done
+    for path in $paths; do [ -f "$path" ] || refuse "there is no $path" "$line"; done
 done << END
 $list
 END
-for path in $(printf '%s\n' "$named" | sort | uniq -d); do
-    refuse 'it is named twice' "$path"
-done
+for path in $(printf '%s\n' "$named" | sort | uniq -d); do refuse 'it is named twice' "$path"; done
 for path in crates/*/must-fail/*; do
     [ ! -e "$path" ] || printf '%s\n' "$named" | grep -qxF "$path" || refuse 'no line names it' "$path"
 done

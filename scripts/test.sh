@@ -14,9 +14,8 @@ rm -f "$logs"/*
 # watch: has ps tell each second what the prover's processes have taken by now, by crate
 watch() {
     session=$(ps -o sess= -p $$ | tr -d ' ')
-    while [ ! -e "$logs/ci.ended" ] && kill -0 $$; do
+    while [ ! -e "$logs/ci.ended" ] && kill -0 $$ && sleep 1; do
         ps -s "$session" -o pid=,cputimes=,args=
-        sleep 1
     done | sed -n 's/^ *\([0-9]*\) *\([0-9]*\) .*--crate-name \([a-z_]*\) .*/\3 \2 \1/p' \
         > "$logs/times"
 }
@@ -46,10 +45,7 @@ part() {
     [ -e "$logs/failed" ] || return 0
     echo "FAILED: $name"
     lost=0
-    case $(tail -n 1 "$logs/$name.log") in
-        *' failed'*) ;;
-        *) lost=1 && rm "$logs/$name.log" ;;
-    esac
+    tail -n 1 "$logs/$name.log" | grep -q ' failed' || { lost=1 && rm "$logs/$name.log"; }
     total "$lost" "$logs"/*.log
     exit 1
 }

@@ -239,8 +239,7 @@ def main():
     call, imported = program_call() if has_laws else (None, {})
     whole = specs.closure(cited_in(specs, call, imported)) if call else []
     if given.check:
-        check(found, more, whole)
-        return
+        return check(found, more, whole)
     files = by_files(found, file)
     if given.contracts:
         for path, own in files.items():
@@ -263,5 +262,4 @@ def main():
         print("the program's call, however it ends:", count_of(whole))
 
 
-if __name__ == "__main__":
-    main()
+main()

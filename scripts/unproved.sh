@@ -12,11 +12,7 @@ begin=$(date +%s)
 # Without links, as the file of a process names it.
 work=$(cd "$(mktemp -d)" && pwd -P)
 building=
-leave() {
-    [ -z "$building" ] || kill "$building" 2> /dev/null || :
-    rm -rf "$work"
-}
-trap leave EXIT
+trap '[ -z "$building" ] || kill "$building" 2> /dev/null || :; rm -rf "$work"' EXIT
 trap 'exit 1' HUP INT TERM
 
 . scripts/lib/unproved.sh

@@ -168,8 +168,8 @@ from_pgn() {
 # shared: what converts games is packed twice, in examples and where `make install` puts it
 shared() {
     cd "$work/unpacked/top"
-    for file in games.pgn submissions.awk client.py nightly pgn_to_lines.sh \
-        table_from_polyglot.sh; do
+    for file in games.pgn pbook.service submissions.awk client.py serve.py nightly \
+        pgn_to_lines.sh table_from_polyglot.sh; do
         holds cmp "examples/$file" "share/pbook/$file"
     done
     for file in examples/*.sh examples/*.py examples/nightly share/pbook/*.sh \

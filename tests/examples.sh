@@ -1,7 +1,8 @@
 #!/bin/sh
 # Tries the scripts of examples/ that users run on their own games, as `make install` puts them in
-# place: pgn_to_lines.sh, client.py and nightly, and what they do at faults. The first check that
-# doesn't hold ends it. Those that want another program are left out where it isn't installed.
+# place: pgn_to_lines.sh, client.py, serve.py and nightly, and what they do at faults. The first
+# check that doesn't hold ends it. Those that want another program are left out where it is missing.
+# KILLS=number kills so many nights and services, where 12 and 4 are killed else.
 # Usage: PROGRAM=program tests/examples.sh [CHECK..] (at the top of the repository; all checks where
 # none is given).
 set -eu
@@ -41,11 +42,19 @@ lines_of_pgn() {
     sed 1,40d games | as_pgn | pgn-extract -s -Wsan > -two.pgn
     # The last line has no end, and no empty line follows it.
     head -c -2 one.pgn > short && mv short one.pgn
-    gzip -c -- -two.pgn > two.pgn.gz
+    # Lines may end in CR LF, as on Windows.
+    sed 's/$/\r/' ./-two.pgn > two.pgn
+    packed=
+    for by in gzip:gz zstd:zst bzip2:bz2 xz:xz; do
+        has "${by%:*}" || continue
+        "${by%:*}" -c -- two.pgn > "two.pgn.${by#*:}"
+        packed="$packed two.pgn.${by#*:}"
+    done
+    note "-two.pgn two.pgn$packed"
     awk -F'\t' -v OFS='\t' '{ $1 = "w1-" NR; print }' games > lines
-    for two in two.pgn.gz -two.pgn; do
-        holds tells_of 0 "pgn_to_lines.sh: one.pgn: 40 games, 0 left out, 0 cut
-pgn_to_lines.sh: $two: 20 games, 0 left out, 0 cut" \
+    for two in -two.pgn two.pgn $packed; do
+        holds tells_of 0 "pgn_to_lines.sh: one.pgn: games: 40, left out: 0, cut: 0
+pgn_to_lines.sh: $two: games: 20, left out: 0, cut: 0" \
             "$shared/pgn_to_lines.sh" w1 one.pgn "$two"
         holds cmp printed lines
     done
@@ -59,6 +68,19 @@ pgn_to_lines.sh: $two: 20 games, 0 left out, 0 cut" \
     holds test ! -s printed
 }
 
+# The start of a game may have no clocks.
+starts_of_pgn() {
+    for start in '4k3/8/8/8/8/8/4P3/4K3 w - -' '4k3/8/8/8/8/8/4P3/4K3 w - - 3 9'; do
+        printf '[Result "1-0"]\n[SetUp "1"]\n[FEN "%s"]\n\n1. e4 Kd7 1-0\n\n' "$start"
+    done > starts.pgn
+    holds tells_of 0 'pgn_to_lines.sh: starts.pgn: games: 2, left out: 0, cut: 0' \
+        "$shared/pgn_to_lines.sh" w1 starts.pgn
+    holds test "$(cut -f 3 printed)" = '4k3/8/8/8/8/8/4P3/4K3 w - - 0 1
+4k3/8/8/8/8/8/4P3/4K3 w - - 3 9'
+    holds ends 0 "$PROGRAM" check < printed > replies
+    holds test "$(count '^ok' replies)" -eq 2
+}
+
 # Of five games the second one isn't legal, and the fourth one has no result.
 bad_pgn() {
     {
@@ -69,7 +91,7 @@ bad_pgn() {
         printf '[Event "4"]\n[Result "1-0"]\n\n1. e4 c5\n\n'
         printf '[Event "5"]\n[Result "*"]\n\n1. c4 e5 *\n'
     } > bad.pgn
-    holds tells_of 0 'pgn_to_lines.sh: bad.pgn: 5 games, 1 left out, 1 cut' \
+    holds tells_of 0 'pgn_to_lines.sh: bad.pgn: games: 5, left out: 1, cut: 1' \
         "$shared/pgn_to_lines.sh" w1 bad.pgn
     {
         printf 'w1-1\t1-0\t%s\te2e4 e7e5 g1f3\n' "$start"
@@ -84,14 +106,32 @@ no_pgn() {
     : > empty.pgn
     gzip -c "$shared/games.pgn" | head -c 2000 > cut.pgn.gz
     mkdir folder
-    for file in no.pgn folder; do
-        holds tells_of 1 "pgn_to_lines.sh: $file can't be read" \
-            "$shared/pgn_to_lines.sh" w1 empty.pgn "$file"
+    for file in "no.pgn can't be read" 'folder is a folder: name the files in it'; do
+        holds tells_of 1 "pgn_to_lines.sh: $file" \
+            "$shared/pgn_to_lines.sh" w1 empty.pgn "${file%% *}"
         holds test ! -s printed
+    done
+    # Ids have no spaces, and room for their numbers.
+    long=$(printf '%054d' 0)
+    for name in '' 'my worker' "$(printf 'caf\303\251')"; do
+        holds tells_of 1 "pgn_to_lines.sh: a name is of ASCII characters without spaces: '$name'" \
+            "$shared/pgn_to_lines.sh" "$name" "$shared/games.pgn"
+    done
+    holds tells_of 1 "pgn_to_lines.sh: a name has at most 53 bytes: $long" \
+        "$shared/pgn_to_lines.sh" "$long" "$shared/games.pgn"
+    # What unpacks a file may not be there.
+    mkdir few
+    for tool in awk cat dirname mktemp pgn-extract rm; do
+        ln -s "$(command -v "$tool")" few
+    done
+    for by in gzip:gz zstd:zst bzip2:bz2 xz:xz; do
+        : > "one.pgn.${by#*:}"
+        holds tells_of 1 "pgn_to_lines.sh: one.pgn.${by#*:}: ${by%:*} is not installed" \
+            env PATH="$PWD/few" "$shared/pgn_to_lines.sh" w1 "one.pgn.${by#*:}"
     done
     holds tells_of 1 "pgn_to_lines.sh: usage: pgn_to_lines.sh NAME FILE.. > lines" \
         "$shared/pgn_to_lines.sh" no.pgn
-    holds tells_of 1 'pgn_to_lines.sh: empty.pgn: 0 games, 0 left out, 0 cut
+    holds tells_of 1 'pgn_to_lines.sh: empty.pgn: games: 0, left out: 0, cut: 0
 submissions.awk: no games came' "$shared/pgn_to_lines.sh" w1 empty.pgn
     holds ends 1 "$shared/pgn_to_lines.sh" w1 cut.pgn.gz > printed 2> told
     holds test "$(tail -n 1 told)" = 'pgn_to_lines.sh: a file was not read to its end'
@@ -108,7 +148,7 @@ pgn_to_lines.sh: a file was not read to its end' \
 
 # The bundled games: 20, of which one has no result, and four begin elsewhere.
 bundled_pgn() {
-    holds tells_of 0 'pgn_to_lines.sh: games.pgn: 20 games, 0 left out, 0 cut' \
+    holds tells_of 0 'pgn_to_lines.sh: games.pgn: games: 20, left out: 0, cut: 0' \
         in_shared ./pgn_to_lines.sh w1 games.pgn
     holds test "$(cut -f 3 printed | sort | uniq -c | awk '{ print $1 }' | tr '\n' ' ')" = '4 16 '
     mv printed lines
@@ -281,6 +321,30 @@ with collector() as it:
 assert not wrong, wrong'
 }
 
+# serves CHECK: whether this check of tests/lib/service.py holds
+serves() {
+    holds env PBOOK="$PROGRAM" PATIENCE="$patience" timeout $((patience * 3)) \
+        python3 -B "$top/tests/lib/service.py" "$1" "$shared/serve.py" "$table" "$work/games" > told
+    [ ! -s told ] || note "$(cat told)"
+}
+serve_answers() { serves answers; }
+serve_ends() { serves ends; }
+serve_limits() { serves limits; }
+serve_slow() { serves slow; }
+serve_workers() { serves workers; }
+
+# systemd takes the service that the example has, and sees a wrong one.
+serve_unit() {
+    sed "s|/usr/local/share/pbook|$shared|; s|/srv/book|$place|" "$shared/pbook.service" > pbook.service
+    holds is_unit pbook.service
+    sed 's/^KillMode=.*/KillMode=none at all/' pbook.service > wrong.service
+    holds not is_unit wrong.service
+    sed 's|/serve.py|/none.py|' pbook.service > wrong.service
+    holds not is_unit wrong.service
+}
+# is_unit FILE: whether systemd says nothing of this file
+is_unit() { systemd-analyze verify "$PWD/$1" > said 2>&1 && [ ! -s said ]; }
+
 # night STATUS TEXT [OPTION..]: whether a night in the folder $place/srv ends so, by a line that is
 # run as cron does: by sh, in another folder, with few variables
 night() {
@@ -289,8 +353,8 @@ night() {
     holds tells_of "$due_status" "$text" env -i HOME=/ LOGNAME=nobody PATH=/usr/bin:/bin \
         /bin/sh -c "cd / && $shared/nightly $place/srv $*"
     holds test ! -s printed
-    # No draft of the answers is left.
-    holds test -z "$(find srv -name '.replies.*')"
+    # No draft is left.
+    holds test -z "$(find srv -name '.*' ! -name .nightly.lock)"
 }
 
 # begin_nights: the folder before the first night
@@ -335,6 +399,19 @@ cut_night() {
     holds test "$(count '^ok' srv/replies)" -eq 9
 }
 
+# A signal to the script alone, while the program runs, loses no answers.
+stopped_night() {
+    begin_nights
+    cp "$work/games" srv/tonight.txt
+    "$shared/nightly" srv &
+    night=$!
+    awaits test -e srv/.replies.new -o -e srv/replies
+    kill "$night" 2> /dev/null || :
+    holds wait "$night"
+    holds test "$(wc -l < srv/replies)" -eq "$(wc -l < srv/tonight.txt)"
+    holds is_new srv/book.bin
+}
+
 bad_nights() {
     begin_nights
     night 1 "nightly: there is no $place/srv/tonight.txt"
@@ -355,6 +432,25 @@ $failed"
     night 3 "pbook: games.ledger: no such file (an empty one begins a ledger)
 $failed"
     holds is_new srv/book.bin
+    # Another night has the folder.
+    : > srv/games.ledger
+    exec 7> srv/.nightly.lock
+    flock -n 7
+    night 1 "nightly: another night has $place/srv, or flock is not installed"
+    exec 7<&-
+    holds cmp srv/replies before
+    # A good night leaves no answers of a bad one, nor hidden files.
+    : > srv/.replies.old
+    night 0 ''
+    holds cmp srv/replies before
+    holds test ! -e srv/replies.failed
+}
+
+# Whatever process of a night is killed, the answers, the ledger and the book are old ones or new.
+killed_nights() {
+    KILLS=${KILLS:-12} holds python3 -B "$top/tests/lib/night_kills.py" "$work/put" "$table" \
+        "$work/games" > told
+    note "$(cat told)"
 }
 
 # The line that the script shows is one that cron takes.
@@ -378,14 +474,17 @@ judges_crontabs() {
     esac
     [ -n "$judging" ]
 }
+can_kill_nights() { has python3 && has flock; }
 has_pgn_extract() { has pgn-extract && has gzip; }
 if [ $# -eq 0 ]; then
-    choose has_pgn_extract 'pgn-extract and gzip are wanted' lines_of_pgn bad_pgn no_pgn bundled_pgn
+    choose has_pgn_extract 'pgn-extract and gzip are wanted' lines_of_pgn starts_of_pgn \
+        bad_pgn no_pgn bundled_pgn
     choose 'has python3' 'python3 is wanted' client_answers client_faults client_killed \
-        client_lines client_threads
-    choose true '' nights cut_night
+        client_lines client_threads serve_answers serve_ends serve_limits serve_slow serve_workers
     choose 'has polyglot' 'polyglot is wanted' own_table
-    choose 'has flock' 'flock is wanted' bad_nights
+    choose 'has flock' 'flock is wanted' nights cut_night stopped_night bad_nights
+    choose can_kill_nights 'python3 and flock are wanted' killed_nights
+    choose 'has systemd-analyze' 'systemd-analyze is wanted' serve_unit
     choose judges_crontabs 'a crontab that looks at files is wanted' crontab_line
     # shellcheck disable=SC2086 # each name is a word
     set -- $chosen

@@ -184,10 +184,8 @@ class Specs:
 
     def imported(self, found):
         """The imports whose names stand in these definitions, each once."""
-        named = [self.imports[it.file][local] for it in found for local in self.named(it)]
+        # (a circle in a name is the place of an argument)
+        named = ((own, *it) for own in found for it in self.imports[own.file].items())
+        named = (it for own, local, it in named
+                 if own.words.issuperset(TOKEN.findall(local.replace("◌", " "))))
         return list(dict.fromkeys(named))
-
-    def named(self, own):
-        """The imported names that stand in a definition. A circle is the place of an argument."""
-        tokens = {it: TOKEN.findall(it.replace("◌", " ")) for it in self.imports[own.file]}
-        return [it for it, parts in tokens.items() if own.words.issuperset(parts)]

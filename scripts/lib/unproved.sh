@@ -43,21 +43,14 @@ copy_built() {
     found=false hints=true
     while kill -0 "$building" 2> /dev/null; do
         if [ "$hints" = true ] && end_hint "$building"; then hints=false; fi
-        if holder_of "$work/waits"; then
-            cp "$built" "$copied"
-            found=true
-            break
-        fi
+        if holder_of "$work/waits"; then cp "$built" "$copied" && found=true && break; fi
         sleep 1
     done
     exec 8>&-
     wait "$building" || true
     building=
     rm "$work/waits"
-    [ "$found" = true ] || {
-        cat "$work/printed" "$work/said"
-        return 1
-    }
+    [ "$found" = true ] || { cat "$work/printed" "$work/said" && return 1; }
 }
 
 # build_unproved TREE PROGRAM: builds `pbook` of this tree so. It waits for a book.

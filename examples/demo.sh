@@ -2,7 +2,7 @@
 # Shows the main job on the bundled examples: a book is made of 300 games and looked into, games are
 # played from their records, and EPD lines are rewritten. The book and the export are compared with
 # examples/book.bin and examples/export.epd, which other programs made of the same games.
-# Usage: PROGRAM=program scripts/demo.sh (at the top of the repository).
+# Usage: PROGRAM=program examples/demo.sh (at the top of the repository).
 #
 # It runs PROGRAM where that is given, and else the proved program where `make` has left it and no
 # source is newer. Else it runs that of `make unproved`, which it has made where none stands that

@@ -1,0 +1,299 @@
+#!/usr/bin/env python3
+"""Tries examples/serve.py, with workers of its own. tests/examples.sh calls it for each check.
+
+Usage: service.py CHECK SERVE TABLE GAMES, in an empty folder. PBOOK names the program. KILLS is how
+often a collector of the check `workers` is killed, and SEED draws other workers.
+"""
+
+import collections
+import contextlib
+import os
+import pathlib
+import random
+import signal
+import socket
+import subprocess
+import sys
+import threading
+import time
+
+CHECK, SERVE, TABLE, GAMES = sys.argv[1:]
+PBOOK, PATIENCE = os.environ["PBOOK"], float(os.environ.get("PATIENCE") or 300)
+LINES = pathlib.Path(GAMES).read_bytes().split(b"\n")[:-1]
+JOURNAL, BOOK = pathlib.Path("journal"), pathlib.Path("book")
+SEED, KILLS = (int(os.environ.get(name) or due) for name, due in (("SEED", 1), ("KILLS", 4)))
+
+
+class Service:
+    """A running serve.py, in a session of its own."""
+
+    all = []
+
+    def __init__(self, at="127.0.0.1:0", table=TABLE, program=PBOOK, by=()):
+        self.process = subprocess.Popen(
+            [*by, SERVE, "--at", at, table, BOOK, JOURNAL, "-q"], stderr=subprocess.PIPE,
+            start_new_session=True, env={**os.environ, "PBOOK": program})
+        Service.all.append(self)
+        self.said = self.process.stderr.readline()
+        host, _, port = self.said.decode().partition("serve.py: at ")[2].rpartition(":")
+        self.address = host, int(port or 0)
+
+    def connect(self, room=None):
+        return Connection(self.address, room)
+
+    def child(self):
+        """The process of its collector."""
+        process = self.process.pid
+        return int(pathlib.Path(f"/proc/{process}/task/{process}/children").read_text().split()[0])
+
+    def ends(self, due):
+        """Makes sure that it ends with this status. What it says besides is kept."""
+        self.said += self.process.stderr.read()
+        status = self.process.wait(PATIENCE)
+        assert status == due, (status, self.said)
+
+
+class Connection:
+    """A worker's connection, for which the system keeps about so many bytes of answers."""
+
+    def __init__(self, address, room=None):
+        self.socket = socket.socket()
+        if room:
+            self.socket.setsockopt(socket.SOL_SOCKET, socket.SO_RCVBUF, room)
+        self.socket.settimeout(PATIENCE)
+        self.socket.connect(address)
+        self.answers = self.socket.makefile("rb")
+
+    def send(self, text):
+        self.socket.sendall(text)
+
+    def ask(self, line):
+        """The answer to a line."""
+        self.send(line + b"\n")
+        return self.answers.readline()
+
+    def cut(self, at_once):
+        """Ends it, and where it has to be at once by a reset."""
+        if at_once:
+            self.socket.setsockopt(socket.SOL_SOCKET, socket.SO_LINGER, b"\1\0\0\0\0\0\0\0")
+        self.answers.close()
+        self.socket.close()
+
+
+def collected(lines):
+    """The replies and the book of a run of `pbook collect` over these lines."""
+    made = subprocess.run([PBOOK, "collect", "-q", TABLE, "due"], stdout=subprocess.PIPE,
+                          input=b"".join(it + b"\n" for it in lines), check=True)
+    return made.stdout, pathlib.Path("due").read_bytes()
+
+
+def answers():
+    """Lines that come at once are answered in their order, and the book is that of one run."""
+    lines = LINES[:80]
+    replies, book = collected(lines)
+    service = Service()
+    worker = service.connect()
+    worker.send(b"".join(it + b"\n" for it in lines))
+    assert b"".join(worker.answers.readline() for _ in lines) == replies
+    # As `nc -N` does, which ends its side before it reads.
+    again = service.connect()
+    again.send(LINES[0] + b"\n")
+    again.socket.shutdown(socket.SHUT_WR)
+    assert again.answers.read() == replies.partition(b"\n")[0] + b"\n"
+    service.process.terminate()
+    service.ends(0)
+    assert BOOK.read_bytes() == book
+
+
+def ends():
+    """A signal to it, or to all processes, makes the book. Else the status is that of pbook."""
+    _, book = collected(LINES[:9])
+    for number in (signal.SIGINT, signal.SIGTERM):
+        for kill in (os.kill, os.killpg):
+            BOOK.unlink(missing_ok=True)
+            service = Service()
+            worker = service.connect()
+            for line in LINES[:9]:
+                assert worker.ask(line).startswith(b"ok ")
+            kill(service.process.pid, number)
+            service.ends(0)
+            assert worker.answers.read() == b"" and BOOK.read_bytes() == book
+    journal = JOURNAL.read_bytes()
+    # The port is taken: no second collector is started, and the first one goes on.
+    service = Service()
+    second = Service("{}:{}".format(*service.address))
+    second.ends(1)
+    assert second.said.startswith(b"serve.py: ") and b"already in use" in second.said, second.said
+    assert service.connect().ask(LINES[0]).startswith(b"ok ")
+    os.kill(service.child(), signal.SIGKILL)
+    service.ends(128 + signal.SIGKILL)
+    assert JOURNAL.read_bytes() == journal
+    for due, words in ((1, {"at": "here"}), (1, {"at": "127.0.0.1:99999"}),
+                       (1, {"program": "./none"}), (1, {"table": GAMES})):
+        Service(**words).ends(due)
+    JOURNAL.unlink()
+    Service().ends(3)
+
+
+def limits():
+    """What is no line of pbook's is refused, what isn't whole is dropped, and others go on."""
+    service = Service()
+    worker = service.connect()
+    start = LINES[0].split(b"\t")[2]
+    blank = b"w\t1-0\t" + start + b"\t"
+    for size, due in ((8192, b"refused w "), (8193, b"refused - long"), (8194, b"refused - long"),
+                      (20000, b"refused - long"), (999_000, b"refused - long")):
+        assert worker.ask(blank + b"e" * (size - len(blank))).startswith(due), size
+        assert worker.ask(LINES[0]).startswith(b"ok "), size
+    assert worker.ask(b"") == b"refused - shape\n"
+    assert worker.ask(b"caf\xe9\t1-0\t" + start + b"\t") == b"refused - id\n"
+    assert worker.ask(b"w1\t1-0\t" + start + b"\te2e4\r") == b"ok w1 2\n"
+    # One whose end comes alone.
+    worker.send(blank + b"e" * (16384 - len(blank)))
+    time.sleep(0.2)
+    assert worker.ask(b"") == b"refused - long\n"
+    # A line that comes in pieces, and lines of which the last one isn't whole.
+    for piece in (LINES[1][:5], LINES[1][5:90], LINES[1][90:]):
+        worker.send(piece)
+        time.sleep(0.1)
+    assert worker.ask(b"").startswith(b"ok ")
+    for at_once in (False, True):
+        half = service.connect()
+        half.send(LINES[2] + b"\n" + LINES[3][:-5])
+        assert half.answers.readline().startswith(b"ok ")
+        half.cut(at_once)
+    assert worker.ask(LINES[4]) == b"ok " + LINES[4].split(b"\t")[0] + b" 5\n"
+    # What never ends is dropped.
+    endless = service.connect()
+    with contextlib.suppress(ConnectionError):
+        for _ in range(2000):
+            endless.send(b"e" * 1000)
+        assert endless.answers.read() == b""
+        raise AssertionError("it is not dropped")
+    assert worker.ask(LINES[0]).startswith(b"ok ")
+    service.process.terminate()
+    service.ends(0)
+    assert len(JOURNAL.read_bytes().split(b"\n")) == 6
+
+
+# Runs serve.py where the system keeps few bytes of what workers have yet to take.
+NARROW = """
+import os, socket, sys
+sys.argv = sys.argv[1:]
+sys.path.insert(0, os.path.dirname(sys.argv[0]))
+import serve
+class Narrow(serve.Worker):
+    def __init__(self, connection):
+        connection.setsockopt(socket.SOL_SOCKET, socket.SO_SNDBUF, 4096)
+        super().__init__(connection)
+serve.Worker = Narrow
+serve.main()
+"""
+
+
+def slow():
+    """Workers that take no answers, or stop in a line, keep no other one waiting."""
+    service = Service(by=(sys.executable, "-B", "-c", NARROW))
+    idle, deaf, worker = service.connect(), service.connect(4096), service.connect()
+    idle.send(LINES[0][:9])
+    deaf.send(b"\n" * 6000)
+    for line in LINES[:5]:
+        assert worker.ask(line).split()[:2] == [b"ok", line.split(b"\t")[0]]
+    for _ in range(6000):
+        assert deaf.answers.readline() == b"refused - shape\n"
+    assert idle.ask(LINES[0][9:]).startswith(b"ok ")
+    service.process.terminate()
+    service.ends(0)
+
+
+class Worker(threading.Thread):
+    """Sends its games until each is answered, through connections that break."""
+
+    def __init__(self, lines, number):
+        super().__init__(daemon=True)
+        self.lines, self.dice = lines, random.Random(SEED * 1000 + number)
+        self.connection, self.numbers, self.wrong = None, {}, []
+
+    def run(self):
+        for line in self.lines:
+            while not self.try_once(line):
+                pass
+            while self.dice.random() < 0.2:
+                self.try_once(self.dice.choice(self.lines[: len(self.numbers)]))
+
+    def try_once(self, line):
+        """Sends a line in one of several ways, and says whether an answer came."""
+        fate, text = self.dice.random(), line + b"\n"
+        # Where a move ends, what comes before it is a game too.
+        at = self.dice.choice((self.dice.randrange(1, len(text)), text.rindex(b" ")))
+        try:
+            self.connection = self.connection or Connection(ADDRESS)
+            if fate < 0.1:  # cut within the line
+                self.connection.send(text[:at])
+                raise ConnectionError
+            if fate < 0.2:  # sent, and not waited for
+                self.connection.send(text)
+                raise ConnectionError
+            if fate < 0.3:  # in two pieces
+                self.connection.send(text[:at])
+                time.sleep(0.002)
+                text = text[at:]
+            self.connection.send(text)
+            answer = self.connection.answers.readline()
+            if not answer.endswith(b"\n"):
+                raise ConnectionError
+        except OSError:
+            if self.connection:
+                self.connection.cut(self.dice.random() < 0.5)
+            self.connection = None
+            time.sleep(0.01)
+            return False
+        words, name = answer.split(), line.split(b"\t")[0]
+        if words[:2] != [b"ok", name] or self.numbers.setdefault(name, words[2]) != words[2]:
+            self.wrong.append(answer)
+        return True
+
+
+def workers():
+    """Sixteen workers, and a collector that is killed: each game has one line and its number."""
+    global ADDRESS
+    # Their first plies, as a program with a check in the place of each proof is slow.
+    games = [b" ".join(it.partition(b"\t")[2].split(b" ")[:12]) for it in LINES[121:221]]
+    dice = random.Random(SEED)
+    sets = [[b"w%d-%d\t" % (n, at) + dice.choice(games) for at in range(3 * KILLS)]
+            for n in range(16)]
+    service, kills = Service(), 0
+    ADDRESS = service.address
+    running = [Worker(lines, number) for number, lines in enumerate(sets)]
+    for it in running:
+        it.start()
+    while kills < KILLS and any(it.is_alive() for it in running):
+        time.sleep(dice.random())
+        kills += 1
+        os.kill(service.child(), signal.SIGKILL)
+        service.ends(128 + signal.SIGKILL)
+        service = Service("{}:{}".format(*ADDRESS))
+    for it in running:
+        it.join(PATIENCE)
+    service.process.terminate()
+    service.ends(0)
+    assert not any(it.is_alive() or it.wrong for it in running), [it.wrong for it in running]
+    # The journal, but for lines that kills have torn, is made of what was sent, each game once.
+    sent = [it for lines in sets for it in lines]
+    held = [it for it in JOURNAL.read_bytes().split(b"\n")[:-1] if not it.endswith(b"\t\t\t\t")]
+    assert collections.Counter(held) == collections.Counter(sent)
+    numbers = {it.split(b"\t")[0]: b"%d" % number for number, it in enumerate(held, 1)}
+    assert numbers == {name: it for worker in running for name, it in worker.numbers.items()}
+    assert BOOK.read_bytes() == collected(sent)[1]
+    print(f"{len(held)} games, {kills} kills")
+
+
+ADDRESS = None
+JOURNAL.write_bytes(b"")
+try:
+    globals()[CHECK]()
+finally:
+    # A check that fails leaves none behind.
+    for it in Service.all:
+        if it.process.poll() is None:
+            os.killpg(it.process.pid, signal.SIGKILL)
