@@ -5,10 +5,8 @@ use Rattle.std.specs.List.{flat_map}
 use Rattle.std.proofs.lemmas.List.Sorted.{sum_by-IsPermutation}
 use Rattle.std.proofs.lemmas.List.Sums.{sum_by-append, sum_by-cons}
 use Rattle.pb_poly.specs.declared.entry.Entry.{Entry}
-use Rattle.pb_poly.specs.Book.{NeverFall}
 use Rattle.pb_games.specs.Submissions.{Submission}
 use Rattle.pb_points.specs.Weight.{scaled, Before}
-use Rattle.pb_points.proofs.Groups.{NeverFall-ordered}
 use Rattle.pb_accepted.specs.Basis.{Basis}
 use Rattle.pb_accepted.specs.Counting.{count, counted, times, IsGreatest, IsBook}
 use Rattle.pb_accepted.specs.Laws.{NoRepeats, SameMembers}
@@ -42,10 +40,6 @@ pub one_book : (G : List PlyPoints) (least : ℕ) (E F : List Entry) → IsBook 
 one_book G least E F h k = same_in_order Before before_itself before_both E F h.ordered k.ordered
     (λ e here. (k.members e).1 ((h.members e).0 here))
     (λ e here. (h.members e).1 ((k.members e).0 here))
-
--- the keys of a book never fall
-pub never_falls : (G : List PlyPoints) (least : ℕ) (E : List Entry) → IsBook G least E → NeverFall E
-never_falls G least E h = NeverFall-ordered E h.ordered
 
 -- ---- plies that have the same counts
 

@@ -1,6 +1,6 @@
 -- A line is refused by itself for one reason, and a line that submits a legal game for none.
 use Rattle.std.proofs.Common.{◌≡◌, ℕ, zero, suc, List, [], ◌∷◌, ◌++◌, inl, inr, sym, ap, subst, ◌∙◌}
-use Rattle.std.specs.Prelude.{All, codes, decimal}
+use Rattle.std.specs.Prelude.{codes, decimal}
 use Rattle.pb_board.specs.Fields.{field}
 use Rattle.pb_board.specs.Position.{Record}
 use Rattle.pb_board.specs.Refusal.{BreaksAt}

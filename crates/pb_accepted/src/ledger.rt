@@ -148,10 +148,7 @@ impl<T: Tally> Ledger<T> {
         ensures basis { self.new.basis ≡ self.old.basis }
         ensures cap { self.new.cap ≡ self.old.cap }
     {
-        let fields = match cut_line(line) {
-            Ok(fields) => fields,
-            Err(refusal) => return Err(refusal),
-        };
+        let fields = cut_line(line)?;
         let id = fields.id();
         // A game that is held is known to be legal, so nothing is played.
         if let Some((index, _, game)) = self.games.get_full(&id) {

@@ -34,10 +34,7 @@ pub fn check_line(line: &[u8]) -> Result<Line<'_>, Refusal>
     ensures only { (s : Submission) → IsLawful line.now s → result ≡ Ok s }
     ensures refused { IfErr result (λ e. Refuses line.now e) }
 {
-    match cut_line(line) {
-        Ok(fields) => judge_fields(fields, &mut NoVisitor),
-        Err(refusal) => Err(refusal),
-    }
+    judge_fields(cut_line(line)?, &mut NoVisitor)
 }
 
 /// Judges a line that was cut into these fields, as `check_line` does, and has its moves played by
@@ -68,16 +65,14 @@ pub fn judge_fields<'a, P: MoveVisitor>(
     if !playable(&setup) {
         return Err(Refusal::Start);
     }
-    match read_moves(visitor, &setup, outcome, fields.moves) {
-        Ok(plies) => Ok(Line {
-            id: fields.id,
-            start,
-            outcome,
-            moves: fields.moves,
-            plies,
-        }),
-        Err(refusal) => Err(refusal),
-    }
+    let plies = read_moves(visitor, &setup, outcome, fields.moves)?;
+    Ok(Line {
+        id: fields.id,
+        start,
+        outcome,
+        moves: fields.moves,
+        plies,
+    })
 }
 
 /// Reads the moves of the field, and plays them from this setup while they are legal and not too

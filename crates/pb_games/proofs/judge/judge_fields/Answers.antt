@@ -1,12 +1,15 @@
 use Rattle.std.proofs.Common.{refl, sym, subst, arith}
+use Rattle.std.specs.Prelude.{IfErr}
+use Rattle.std.proofs.lemmas.Result.{err_from_is_err_and}
 use Rattle.pb_moves.specs.Attacks.{IsPlayable}
 use Rattle.pb_moves.specs.Played.{plies_from}
 use Rattle.pb_games.specs.Reading.{AreRead, AreRefused}
+use Rattle.pb_games.specs.Refusing.{Refuses}
 use Rattle.pb_games.specs.Submissions.{setup_after}
 use Rattle.pb_games.specs.Tokens.{moves_spelt}
 use Rattle.pb_games.proofs.Headers.{result_refused, fen_refused}
 use Rattle.pb_games.proofs.Judging.{start_refused, moves_refused, moves_lawful, moves_checked}
-use Rattle.pb_games.proofs.Refused.{only_one}
+use Rattle.pb_games.proofs.Refused.{only_one, unlawful}
 use Rattle.pb_games.proofs.judge.judge_fields.Goals as goal
 
 pub returns-in_default-clause-refused : goal.returns-in_default-clause-refused
@@ -33,28 +36,33 @@ returns-then-not-playable-clause-only g c = λ line cut. only_one _ _ tt (return
 pub invariant_of-result : goal.invariant_of-result
 invariant_of-result g c =
     moves_checked c.requires.0 _ c.requires.1 _ c.in-Some.ensures _ c.in-Ok.ensures.found (subst IsPlayable c.setup-setup.ensures.value (c.if-not-playable.ensures.0 refl))
-    c.in-Ok-read_moves.plies (subst (λ t. AreRead t c.args.fields.moves.now c.in-Ok-read_moves.plies) c.setup-setup.ensures.value c.in-Ok-read_moves.ensures.read)
+    c.in_ok-plies.plies (subst (λ t. AreRead t c.args.fields.moves.now c.in_ok-plies.plies) c.setup-setup.ensures.value c.in_ok-plies.ensures.read)
 
-pub returns-in-Ok-read_moves-clause-found : goal.returns-in-Ok-read_moves-clause-found
-returns-in-Ok-read_moves-clause-found g c = λ line cut.
+pub returns-clause-found : goal.returns-clause-found
+returns-clause-found g c = λ line cut.
     moves_lawful line _ cut _ c.in-Some.ensures _ c.in-Ok.ensures.found (subst IsPlayable c.setup-setup.ensures.value (c.if-not-playable.ensures.0 refl))
-    c.in-Ok-read_moves.plies (subst (λ t. AreRead t c.args.fields.moves.now c.in-Ok-read_moves.plies) c.setup-setup.ensures.value c.in-Ok-read_moves.ensures.read)
+    c.in_ok-plies.plies (subst (λ t. AreRead t c.args.fields.moves.now c.in_ok-plies.plies) c.setup-setup.ensures.value c.in_ok-plies.ensures.read)
 
-pub returns-in-Ok-read_moves-clause-only : goal.returns-in-Ok-read_moves-clause-only
-returns-in-Ok-read_moves-clause-only g c = λ line cut. only_one _ _ (returns-in-Ok-read_moves-clause-found g c line cut) tt
+pub returns-clause-only : goal.returns-clause-only
+returns-clause-only g c = λ line cut. only_one _ _ (returns-clause-found g c line cut) tt
 
-pub returns-in-Ok-read_moves-clause-holds : goal.returns-in-Ok-read_moves-clause-holds
-returns-in-Ok-read_moves-clause-holds g c =
+pub returns-clause-holds : goal.returns-clause-holds
+returns-clause-holds g c =
     let moves = moves_spelt c.args.fields.moves.now in
-    subst (λ t. g.P.MoveVisitor.holds c.read_moves.new.visitor c.in-Some.outcome (plies_from t moves) (setup_after t moves)) c.setup-setup.ensures.value c.in-Ok-read_moves.ensures.holds
+    subst (λ t. g.P.MoveVisitor.holds c.read_moves.new.visitor c.in-Some.outcome (plies_from t moves) (setup_after t moves)) c.setup-setup.ensures.value c.in_ok-plies.ensures.holds
 
-pub returns-in-Err-read_moves-clause-refused : goal.returns-in-Err-read_moves-clause-refused
-returns-in-Err-read_moves-clause-refused g c = λ line cut.
-    moves_refused line _ cut _ c.in-Some.ensures _ c.in-Ok.ensures.found (subst IsPlayable c.setup-setup.ensures.value (c.if-not-playable.ensures.0 refl)) _
-    (subst (λ t. AreRefused t c.args.fields.moves.now c.in-Err-read_moves.refusal) c.setup-setup.ensures.value c.in-Err-read_moves.ensures.read)
+pub returns-in_err-plies-clause-refused : goal.returns-in_err-plies-clause-refused
+returns-in_err-plies-clause-refused g c = λ line cut.
+    let e = err_from_is_err_and c.from_residual.result c.from_residual.ensures.1 in
+    let read = subst (λ x. AreRefused c.setup-setup.result c.args.fields.moves.now x) (sym e.2) c.in_err-plies.ensures.read in
+    subst (λ r. IfErr r (λ x. Refuses line x)) (sym e.1)
+    (moves_refused line _ cut _ c.in-Some.ensures _ c.in-Ok.ensures.found (subst IsPlayable c.setup-setup.ensures.value (c.if-not-playable.ensures.0 refl)) e.0
+    (subst (λ t. AreRefused t c.args.fields.moves.now e.0) c.setup-setup.ensures.value read))
 
-pub returns-in-Err-read_moves-clause-only : goal.returns-in-Err-read_moves-clause-only
-returns-in-Err-read_moves-clause-only g c = λ line cut. only_one _ _ tt (returns-in-Err-read_moves-clause-refused g c line cut)
+pub returns-in_err-plies-clause-only : goal.returns-in_err-plies-clause-only
+returns-in_err-plies-clause-only g c = λ line cut s lawful.
+    let e = err_from_is_err_and c.from_residual.result c.from_residual.ensures.1 in
+    absurd (unlawful line e.0 s (subst (λ r. IfErr r (λ x. Refuses line x)) e.1 (returns-in_err-plies-clause-refused g c line cut)) lawful)
 
 pub read_moves-requires : goal.read_moves-requires
 read_moves-requires g c = omega (arith, c.requires.1.short, c.requires.1.room)
