@@ -6,7 +6,7 @@ use crate::line_refusal::{is_blank, put_refusal, refuse_line};
 use crate::lines::answer_lines;
 use crate::output::put_line;
 use pb_board::without_return;
-use pb_epd::form_of;
+use pb_epd::{read_epd, write_epd};
 use pb_io::{Fault, Sink, Source};
 use std::alloc::Global;
 
@@ -33,8 +33,9 @@ impl LineAnswer for Rewriter {
         if is_blank(text) {
             return Ok(true);
         }
-        match form_of(self.alloc, text) {
-            Ok(form) => {
+        match read_epd(self.alloc, text) {
+            Ok(epd) => {
+                let form = write_epd(self.alloc, &epd)?;
                 put_line(sink, &[form.as_slice()])?;
                 Ok(true)
             }

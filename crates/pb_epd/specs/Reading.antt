@@ -4,7 +4,6 @@ use Rattle.std.specs.Prelude.{map, flat_map, All, AllPairs, Contains, MatchOptio
 use Rattle.std.specs.List.{slice_split}
 use Rattle.pb_board.specs.Refusal.{BreaksAt}
 use Rattle.pb_epd.specs.declared.operand.Operand.{Operand}
-use Rattle.pb_epd.specs.declared.read.FourWords.{FourWords}
 use Rattle.pb_epd.specs.declared.read.SoFar.{SoFar}
 use Rattle.pb_epd.specs.declared.read.Taken.{Taken}
 use Rattle.pb_epd.specs.declared.read.Taken.TheVariants as taken
@@ -32,10 +31,6 @@ pub record FourFollow (placement turn castling en_passant rest : List ℕ)
   pub others : List Token
   pub is : ts ≡ word placement ∷ word turn ∷ word castling ∷ word en_passant ∷ others
   pub after : TokensAfter (word en_passant) others rest
-
--- the four words of a line, in order
-abbrev pub four_of : FourWords → List (List ℕ)
-four_of f = f.placement.now ∷ f.turn.now ∷ f.castling.now ∷ f.en_passant.now ∷ []
 
 -- words and texts alone
 abbrev pub AreOperands : List Token → Type 0

@@ -41,8 +41,6 @@ impl Epd {
         ensures value { result ≡ record { setup = setup; operations = [] } }
         ensures rules { IsEpd result }
     {
-        // The reader tells that the setup meets its rules.
-        let _turn = setup.turn();
         Epd {
             alloc,
             setup,

@@ -19,6 +19,6 @@ mod write;
 
 pub use epd::Epd;
 pub use operand::{Operand, OperandBytes};
-pub use read::{form_of, read_epd};
+pub use read::read_epd;
 pub use refusal::{EpdError, PutError};
 pub use write::write_epd;

@@ -2,7 +2,7 @@
 
 ghost use Rattle.std.specs.Prelude.{◌≡◌, ◌↔◌, ◌+◌, List, All, IsTrue, MatchOption};
 ghost use Rattle.pb_epd.specs.Token.{IsToken, text as text_token, word};
-ghost use Rattle.pb_epd.specs.Operation.{IsLetter, IsNameByte, IsOpcode, IsOperand};
+ghost use Rattle.pb_epd.specs.Operation.{IsOpcode, IsOperand};
 ghost use Rattle.pb_board.specs.Refusal.{BreaksAt};
 
 use crate::byte_runs::{text_run, word_run};
@@ -12,31 +12,15 @@ use crate::token::LONGEST;
 /// In bytes, after the first.
 const OPCODE_REST: usize = 14;
 
-fn is_letter(byte: u8) -> bool
-    ensures { IsTrue result ↔ IsLetter byte }
-{
-    byte.is_ascii_alphabetic()
-}
-
-fn is_name_byte(byte: u8) -> bool
-    ensures { IsTrue result ↔ IsNameByte byte }
-{
-    is_letter(byte) || byte.is_ascii_digit() || byte == b'_'
-}
-
-fn are_name_bytes(bytes: &[u8]) -> bool
-    ensures { IsTrue result ↔ All IsNameByte bytes.now }
-{
-    bytes.iter().all(|byte| is_name_byte(*byte))
-}
-
 pub(crate) fn is_opcode(bytes: &[u8]) -> bool
     ensures { IsTrue result ↔ IsOpcode bytes.now }
 {
     match bytes.split_first() {
-        Some((first, rest)) => is_letter(*first)
-            && are_name_bytes(rest)
-            && rest.len() <= OPCODE_REST,
+        Some((first, rest)) => first.is_ascii_alphabetic()
+            && rest.len() <= OPCODE_REST
+            && rest
+                .iter()
+                .all(|byte| byte.is_ascii_alphanumeric() || *byte == b'_'),
         None => false,
     }
 }

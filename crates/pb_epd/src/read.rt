@@ -5,11 +5,10 @@ ghost use Rattle.std.specs.Prelude.{length, map, IfOk, IfErr, IfSome, MatchOptio
 ghost use Rattle.std.specs.Prelude.{OnErr, OnOk};
 ghost use Rattle.pb_epd.specs.Token.{Token, word, end_mark, Tokens, TokensAfter};
 ghost use Rattle.pb_epd.specs.Lexeme.{IsOperandToken, token_of};
-ghost use Rattle.pb_board.specs.Text.{setup_fields};
-ghost use Rattle.pb_epd.specs.Epd.{EpdRecord, IsEpd, EpdText, epd_form};
+ghost use Rattle.pb_epd.specs.Epd.{EpdRecord, IsEpd, EpdText};
 ghost use Rattle.pb_epd.specs.Operation.{IsOpcode, IsOperand, IsOperation, operand_token};
 ghost use Rattle.pb_epd.specs.Refusal.{IsFirstDueEpd, IsFourWords, IsNamed};
-ghost use Rattle.pb_epd.specs.Reading.{HasTokens, EndsSoundly, Follow, FourFollow, four_of};
+ghost use Rattle.pb_epd.specs.Reading.{HasTokens, EndsSoundly, Follow, FourFollow};
 ghost use Rattle.pb_epd.specs.Reading.{EndsWithOperands, AreOperands, IsTaken, IsSound};
 ghost use Rattle.pb_epd.specs.Reading.{AreOperations, IsRefused, StandsWith};
 ghost use Rattle.pb_epd.specs.declared.refusal.EpdError.TheVariants as epd;
@@ -19,18 +18,8 @@ use crate::operand::{Operand, OperandBytes};
 use crate::operation::is_opcode;
 use crate::refusal::{EpdError, PutError};
 use crate::token::{Lexeme, Next, first_bad, next_token};
-use crate::write::write_with_words;
 use pb_board::{Setup, read_setup};
 use std::alloc::{AllocError, Global};
-
-#[derive(Clone, Copy)]
-pub(crate) struct FourWords<'a> {
-    pub(crate) placement: &'a [u8],
-    pub(crate) turn: &'a [u8],
-    pub(crate) castling: &'a [u8],
-    pub(crate) en_passant: &'a [u8],
-    pub(crate) rest: &'a [u8],
-}
 
 #[derive(Drop)]
 pub(crate) enum Taken<'a> {
@@ -54,12 +43,6 @@ pub(crate) struct SoFar {
     pub(crate) repeated: Option<usize>,
 }
 
-#[derive(Drop)]
-pub(crate) struct Line<'a> {
-    pub(crate) words: FourWords<'a>,
-    pub(crate) epd: Epd,
-}
-
 fn next_word<'a>(before: Lexeme<'_>, text: &'a [u8]) -> Option<(&'a [u8], &'a [u8])>
     ensures next { MatchOption result
         ((bytes : List ℕ) (ts : List Token) → ¬ TokensAfter (token_of before.entry)
@@ -78,26 +61,23 @@ fn next_word<'a>(before: Lexeme<'_>, text: &'a [u8]) -> Option<(&'a [u8], &'a [u
     Some((bytes, rest))
 }
 
+/// The last is what follows the words.
+type FourWords<'a> = (&'a [u8], &'a [u8], &'a [u8], &'a [u8], &'a [u8]);
+
 fn four_words(text: &[u8]) -> Option<FourWords<'_>>
     ensures next { MatchOption result
         ((four : List (List ℕ)) (ts : List Token) → length four ≡ 4
         → ¬ Tokens (map word four ++ ts) text.now)
         (λ f. (ts : List Token) → Tokens ts text.now
-        → FourFollow f.placement.now f.turn.now f.castling.now f.en_passant.now f.rest.now ts) }
-    ensures back { IfSome result (λ f. HasTokens (word f.en_passant.now) f.rest.now
+        → FourFollow f.0.now f.1.now f.2.now f.3.now f.4.now ts) }
+    ensures back { IfSome result (λ f. HasTokens (word f.3.now) f.4.now
         → HasTokens end_mark text.now) }
 {
     let (placement, rest) = next_word(Lexeme::End, text)?;
     let (turn, rest) = next_word(Lexeme::Word(placement), rest)?;
     let (castling, rest) = next_word(Lexeme::Word(turn), rest)?;
     let (en_passant, rest) = next_word(Lexeme::Word(castling), rest)?;
-    Some(FourWords {
-        placement,
-        turn,
-        castling,
-        en_passant,
-        rest,
-    })
+    Some((placement, turn, castling, en_passant, rest))
 }
 
 fn operand_of(alloc: Global, token: Lexeme<'_>) -> Result<Option<Operand>, AllocError>
@@ -244,43 +224,20 @@ fn read_operations(
     }
 }
 
-fn read_tokens(alloc: Global, text: &[u8]) -> Result<Line<'_>, EpdError>
-    ensures found { IfOk result (λ l. IsEpd l.epd × EpdText l.epd text.now) }
-    ensures words { IfOk result (λ l. four_of l.words ≡ setup_fields l.epd.setup) }
+fn read_tokens(alloc: Global, text: &[u8]) -> Result<Epd, EpdError>
+    ensures found { IfOk result (λ e. IsEpd e × EpdText e text.now) }
     ensures refused { IfErr result (λ x. (ts : List Token) → Tokens ts text.now
         → IsFirstDueEpd x text.now) }
     ensures memory { IfErr result (λ x. x ≡ epd.Memory → ¬ IsFourWords text.now) }
 {
-    let Some(words) = four_words(text) else {
+    let Some((placement, turn, castling, en_passant, rest)) = four_words(text) else {
         return Err(EpdError::Fields);
     };
-    let setup = match read_setup([
-        words.placement,
-        words.turn,
-        words.castling,
-        words.en_passant,
-    ]) {
+    let setup = match read_setup([placement, turn, castling, en_passant]) {
         Ok(setup) => setup,
         Err(error) => return Err(EpdError::Setup(error)),
     };
-    let epd = read_operations(alloc, setup, Lexeme::Word(words.en_passant), words.rest)?;
-    Ok(Line { words, epd })
-}
-
-fn read_line(alloc: Global, text: &[u8]) -> Result<Line<'_>, EpdError>
-    ensures found { IfOk result (λ l. IsEpd l.epd × EpdText l.epd text.now) }
-    ensures words { IfOk result (λ l. four_of l.words ≡ setup_fields l.epd.setup) }
-    ensures refused { IfErr result (λ x. IsFirstDueEpd x text.now) }
-    ensures memory { IfErr result (λ x. x ≡ epd.Memory → ¬ IsFourWords text.now) }
-{
-    // Bad tokens are looked for only in a text that is refused.
-    match read_tokens(alloc, text) {
-        Ok(line) => Ok(line),
-        Err(error) => match first_bad(text) {
-            Some(at) => Err(EpdError::Token(at)),
-            None => Err(error),
-        },
-    }
+    read_operations(alloc, setup, Lexeme::Word(en_passant), rest)
 }
 
 /// Reads the record that the text spells (PGN Standard 16.2), its operations in any order.
@@ -296,28 +253,12 @@ pub fn read_epd(alloc: Global, text: &[u8]) -> Result<Epd, EpdError>
     ensures refused { IfErr result (λ x. IsFirstDueEpd x text.now) }
     ensures memory { IfErr result (λ x. x ≡ epd.Memory → ¬ IsFourWords text.now) }
 {
-    match read_line(alloc, text) {
-        Ok(line) => Ok(line.epd),
-        Err(error) => Err(error),
-    }
-}
-
-/// Gives the ordered form of the record that the text spells, as `read_epd` and then `write_epd` do.
-///
-/// # Errors
-///
-/// The refusals of `read_epd`, and want of memory for the form.
-pub fn form_of(alloc: Global, text: &[u8]) -> Result<Vec<u8>, EpdError>
-    ensures found { IfOk result (λ v. (e : EpdRecord) × IsEpd e × EpdText e text.now
-        × (v.items ≡ epd_form e)) }
-    ensures only { (e : EpdRecord) → IsEpd e → EpdText e text.now
-        → MatchResult result (λ v. v.items ≡ epd_form e) (λ x. x ≡ epd.Memory) }
-    ensures refused { IfErr result (λ x. IsFirstDueEpd x text.now) }
-{
-    let line = read_line(alloc, text)?;
-    // The words stand in the form as they were read.
-    match write_with_words(alloc, text.len(), &line.words, &line.epd) {
-        Ok(form) => Ok(form),
-        Err(_) => Err(EpdError::Memory),
+    // Bad tokens are looked for only in a text that is refused.
+    match read_tokens(alloc, text) {
+        Ok(epd) => Ok(epd),
+        Err(error) => match first_bad(text) {
+            Some(at) => Err(EpdError::Token(at)),
+            None => Err(error),
+        },
     }
 }

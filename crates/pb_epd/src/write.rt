@@ -1,17 +1,13 @@
 //! Writes EPD records.
 
 ghost use Rattle.std.specs.Prelude.{◌≡◌, ◌∷◌, ◌++◌, IfOk, OnOk, flat_map};
-ghost use Rattle.std.specs.List.{join_with_byte};
 ghost use Rattle.pb_board.specs.Fields.{space};
-ghost use Rattle.pb_board.specs.Text.{setup_fields};
 ghost use Rattle.pb_epd.specs.Epd.{epd_form};
-ghost use Rattle.pb_epd.specs.Reading.{four_of};
 ghost use Rattle.pb_epd.specs.Token.{token_text};
 ghost use Rattle.pb_epd.specs.Operation.{operand_token, operation_text};
 
 use crate::epd::Epd;
 use crate::operand::Operand;
-use crate::read::FourWords;
 use pb_board::write_setup;
 use std::alloc::{AllocError, Global};
 
@@ -52,33 +48,6 @@ fn put_operations(out: &mut Vec<u8>, epd: &Epd) -> Result<(), AllocError>
         put_operation(out, opcode.as_slice(), operands.as_slice())?;
     }
     Ok(())
-}
-
-fn put_words(out: &mut Vec<u8>, words: &FourWords<'_>) -> Result<(), AllocError>
-    ensures { OnOk result (out.new.items ≡ out.old.items ++ join_with_byte 32 (four_of words.now)) }
-{
-    out.extend_from_slice(words.placement)?;
-    out.push(b' ')?;
-    out.extend_from_slice(words.turn)?;
-    out.push(b' ')?;
-    out.extend_from_slice(words.castling)?;
-    out.push(b' ')?;
-    out.extend_from_slice(words.en_passant)
-}
-
-pub(crate) fn write_with_words(
-    alloc: Global,
-    room: usize,
-    words: &FourWords<'_>,
-    epd: &Epd,
-) -> Result<Vec<u8>, AllocError>
-    requires { four_of words.now ≡ setup_fields epd.now.setup }
-    ensures { IfOk result (λ v. v.items ≡ epd_form epd.now) }
-{
-    let mut out = Vec::with_capacity(alloc, room)?;
-    put_words(&mut out, words)?;
-    put_operations(&mut out, epd)?;
-    Ok(out)
 }
 
 /// Gives the one ordered text of the record (PGN Standard 16.2.1 and 16.2.2): the four fields and the

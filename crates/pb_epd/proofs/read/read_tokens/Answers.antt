@@ -1,7 +1,6 @@
-use Rattle.std.proofs.Common.{◌≡◌, ◌≢◌, [], ◌∙◌, ℕ, List, ap, arith, length, map, subst, sym}
+use Rattle.std.proofs.Common.{◌≡◌, ◌≢◌, [], ℕ, List, Result, Ok, Err, ap, arith, length, map, subst}
+use Rattle.std.specs.Prelude.{IfErr, IfOk}
 use Rattle.std.proofs.lemmas.List.{length-map, nil_from_length}
-use Rattle.std.proofs.lemmas.Result.{err_from_is_err_and}
-use Rattle.pb_board.specs.Text.{setup_fields}
 use Rattle.pb_epd.specs.Reading.{FourFollow, IsRefused}
 use Rattle.pb_epd.specs.Refusal.{IsFourWords}
 use Rattle.pb_epd.specs.Token.{Token, Tokens, TokensAfter, word}
@@ -16,17 +15,21 @@ returns-in_default-clause-refused c = λ ts tokens. fields_first _ ts tokens c.i
 pub returns-in-Err-clause-refused : goal.returns-in-Err-clause-refused
 returns-in-Err-clause-refused c = setup_refused _ _ _ _ _ _ c.in-Some.ensures.next _ c.in-Err.ensures.refused
 
+each_ok : {T E : Type 0} (P Q : T → Type 0) (r : Result T E) → ((x : T) → P x → Q x) → IfOk r P → IfOk r Q
+each_ok P Q (Ok x) then h = then x h
+each_ok P Q (Err x) then h = tt
+
+each_err : {T E : Type 0} (P Q : E → Type 0) (r : Result T E) → ((x : E) → P x → Q x) → IfErr r P → IfErr r Q
+each_err P Q (Ok x) then h = tt
+each_err P Q (Err x) then h = then x h
+
 pub returns-clause-found : goal.returns-clause-found
 returns-clause-found c =
-    found_all _ _ _ _ _ _ c.in-Some.ensures.next _ c.in-Ok.ensures.found.0 c.in-Ok.ensures.found.1 c.in-Some.ensures.back _ c.in_ok-epd.ensures.found
+    each_ok _ _ c.read_operations.result (λ e h. found_all _ _ _ _ _ _ c.in-Some.ensures.next _ c.in-Ok.ensures.found.0 c.in-Ok.ensures.found.1 c.in-Some.ensures.back e h) c.read_operations.ensures.found
 
-pub returns-clause-words : goal.returns-clause-words
-returns-clause-words c = c.in-Ok.ensures.found.1 ∙ ap setup_fields (sym c.in_ok-epd.ensures.found.0)
-
-pub returns-in_err-epd-clause-refused : goal.returns-in_err-epd-clause-refused
-returns-in_err-epd-clause-refused c =
-    let p = err_from_is_err_and c.from_residual.result c.from_residual.ensures.1 in
-    rw (p.1, p.2) (refused_all _ _ _ _ _ _ c.in-Some.ensures.next _ c.in-Ok.ensures.found.0 c.in-Ok.ensures.found.1 _ c.in_err-epd.ensures.refused)
+pub returns-clause-refused : goal.returns-clause-refused
+returns-clause-refused c =
+    each_err _ _ c.read_operations.result (λ x h. refused_all _ _ _ _ _ _ c.in-Some.ensures.next _ c.in-Ok.ensures.found.0 c.in-Ok.ensures.found.1 x h) c.read_operations.ensures.refused
 
 -- four words alone have no operation
 no_memory : (bytes a b c d rest : List ℕ) (x : EpdError) → ((ts : List Token) → Tokens ts bytes → FourFollow a b c d rest ts)
@@ -37,7 +40,5 @@ no_memory bytes a b c d rest x next refused is four =
     let some : f.others ≢ [] = subst (λ y. IsRefused y f.others) is (refused f.others f.after) in
     some (nil_from_length f.others size)
 
-pub returns-in_err-epd-clause-memory : goal.returns-in_err-epd-clause-memory
-returns-in_err-epd-clause-memory c =
-    let p = err_from_is_err_and c.from_residual.result c.from_residual.ensures.1 in
-    rw (p.1, p.2) (no_memory _ _ _ _ _ _ _ c.in-Some.ensures.next c.in_err-epd.ensures.refused)
+pub returns-clause-memory : goal.returns-clause-memory
+returns-clause-memory c = each_err _ _ c.read_operations.result (λ x h. no_memory _ _ _ _ _ _ x c.in-Some.ensures.next h) c.read_operations.ensures.refused
