@@ -8,8 +8,7 @@ ghost use Rattle.pb_board.specs.Piece.{opponent};
 ghost use Rattle.pb_board.specs.Position.{IsOnlyKing, IsSetup};
 ghost use Rattle.pb_moves.specs.Candidate.{HoldsOwn};
 ghost use Rattle.pb_moves.specs.Cases.{CaseOf, SafeCase, UnusualMove};
-ghost use Rattle.pb_moves.specs.MoveKind.{Finds, LeadsTo};
-ghost use Rattle.pb_moves.specs.declared.move_kind.MoveKind.TheVariants.{Two};
+ghost use Rattle.pb_moves.specs.MoveKind.{Finds, Fits, LeadsTo, board_by};
 ghost use Rattle.pb_moves.specs.Moved.{Moved};
 ghost use Rattle.pb_moves.specs.Attackers.{IsSight};
 ghost use Rattle.pb_moves.specs.Unpinned.{IsUnpinned};
@@ -21,7 +20,7 @@ use crate::castling::castles;
 use crate::move_kind::MoveKind;
 use crate::moves::Move;
 use crate::rays::has;
-use pb_board::{Kind, MovedPiece, Piece, Setup, Square};
+use pb_board::{Kind, Piece, Setup, Square};
 
 #[inline(always)]
 pub(crate) fn own_piece(setup: &Setup, square: Square) -> Option<Piece>
@@ -93,32 +92,32 @@ pub(crate) fn is_unpinned(setup: &Setup, enemy: Sight, from: Square, piece: Piec
     )
 }
 
+/// What is seen of the enemy after the move.
+#[inline(always)]
+fn sight_after(setup: &Setup, m: Move, kind: &MoveKind) -> Sight
+    requires own { (p : Piece) × HoldsOwn setup.now m.from p }
+    requires fits { Fits kind.now setup.now }
+    ensures { IsSight setup.now.board (board_by kind.now m setup.now.board)
+        (opponent setup.now.turn) result }
+{
+    let sight = sight_of(setup, setup.turn().opponent());
+    match *kind {
+        MoveKind::One(_) => sight.after(m.from(), m.to()),
+        MoveKind::Two(first, second) => {
+            let between = sight.after(first.from, first.to);
+            between.after(second.from, second.to)
+        }
+    }
+}
+
 #[inline(always)]
 pub(crate) fn is_safe(setup: &Setup, m: Move, piece: Piece, kind: &MoveKind) -> bool
     requires own { HoldsOwn setup.now m.from piece }
     requires leads { LeadsTo (CaseOf setup.now m piece) setup.now m kind.now }
     ensures { IsTrue result ↔ SafeCase setup.now m }
 {
-    match *kind {
-        MoveKind::One(_) => {
-            let enemy = setup.turn().opponent();
-            let sight = sight_of(setup, enemy).after(m.from(), m.to());
-            !is_attacked(setup, sight, king_after(setup, m, piece), enemy)
-        }
-        MoveKind::Two(first, second) => is_safe_two(setup, m, piece, first, second),
-    }
-}
-
-/// Few moves need it, so it isn't inlined.
-#[inline(never)]
-fn is_safe_two(setup: &Setup, m: Move, piece: Piece, first: MovedPiece, second: MovedPiece) -> bool
-    requires own { HoldsOwn setup.now m.from piece }
-    requires leads { LeadsTo (CaseOf setup.now m piece) setup.now m (Two first second) }
-    ensures { IsTrue result ↔ SafeCase setup.now m }
-{
+    let sight = sight_after(setup, m, kind);
     let enemy = setup.turn().opponent();
-    let between = sight_of(setup, enemy).after(first.from, first.to);
-    let sight = between.after(second.from, second.to);
     !is_attacked(setup, sight, king_after(setup, m, piece), enemy)
 }
 

@@ -34,8 +34,9 @@ fn rights_left(rights: Rights, m: Move) -> Rights
 pub(crate) fn rights_after(rights: Rights, m: Move) -> Rights
     ensures { result ≡ rights_by rights m }
 {
-    // Most moves touch none of these squares.
-    if !Castling::is_home(m.from()) && !Castling::is_home(m.to()) {
+    // Most moves touch none of these squares, so one branch is made of both tests.
+    let touches = Castling::is_home(m.from()) | Castling::is_home(m.to());
+    if !touches {
         return rights;
     }
     rights_left(rights, m)

@@ -1,4 +1,5 @@
 pub mod Among
+pub mod Capturers
 pub mod Codes
 pub mod Digits
 pub mod Entries

@@ -17,6 +17,7 @@ use Rattle.pb_board.specs.Rights.{of_rights, only_if}
 use Rattle.pb_board.proofs.PieceTests.{is_piece-is, is_piece-passes}
 use Rattle.pb_moves.specs.Attacks.{files_apart}
 use Rattle.pb_poly.specs.Key.{AreOffsets, HasOffset, of_piece, of_right, en_passant, white_to_move, HasCapturer, has_capturer, en_passant_offsets, piece_offset, piece_offsets, offsets}
+use Rattle.pb_poly.proofs.Capturers.{capturer_known, capturer_there}
 use Rattle.pb_poly.proofs.Among.{Among, Distinct, among_contained, among_either, among_left, among_right, contains_among, distinct_append, distinct_pairs}
 
 -- ---- the pieces
@@ -115,74 +116,13 @@ distinct_turn Black = tt
 
 -- ---- the en passant square
 
-there_pawn : (side : Colour) (content : Place) → content ≡ Some (piece_of side Pawn) → is_piece (piece_of side Pawn) content ≡ true
-there_pawn side content h = let P : Place → Type 0 = λ x. is_piece (piece_of side Pawn) x ≡ true in subst P (sym h) (is_piece-passes (piece_of side Pawn))
-
-either_true : (a b : Bool) → (a || b) ≡ true → (a ≡ true) ⊎ (b ≡ true)
-either_true true b h = inl refl
-either_true false b h = inr h
-
-true_left : (a b : Bool) → a ≡ true → (a || b) ≡ true
-true_left true b h = refl
-true_left false b h = absurd (cc)
-
-true_right : (a b : Bool) → b ≡ true → (a || b) ≡ true
-true_right true b h = refl
-true_right false b h = h
-
-both_true : (a b : Bool) → a ≡ true → b ≡ true → (a && b) ≡ true
-both_true true b h k = k
-both_true false b h k = absurd (cc)
-
-other_than : (n m : ℕ) → not (n == m) ≡ true → n ≢ m
-other_than n m h = grind (arith, nat_tests)
-
-tells_other : (n m : ℕ) → n ≢ m → not (n == m) ≡ true
-tells_other n m h = grind (arith, nat_tests)
-
-rank_before : (pawn : ℕ) → pawn % 8 ≢ 0 → rank (pawn - 1) ≡ rank pawn
-rank_before pawn inside = omega arith
-
-file_before : (pawn : ℕ) → pawn % 8 ≢ 0 → files_apart (pawn - 1) pawn ≡ 1
-file_before pawn inside = omega arith
-
-rank_next : (pawn : ℕ) → pawn % 8 ≢ 7 → rank (pawn + 1) ≡ rank pawn
-rank_next pawn inside = omega arith
-
-file_next : (pawn : ℕ) → pawn % 8 ≢ 7 → files_apart (pawn + 1) pawn ≡ 1
-file_next pawn inside = omega arith
-
-beside_either : (capturer pawn : ℕ) → rank capturer ≡ rank pawn → files_apart capturer pawn ≡ 1 → ((capturer ≡ pawn - 1) × (file pawn ≢ 0)) ⊎ ((capturer ≡ pawn + 1) × (file pawn ≢ 7))
-beside_either capturer pawn same next = elim (cases_lt capturer pawn) [
-  | inl low ↦ inl (omega arith, λ e. omega (arith, e))
-  | inr high ↦ inr (omega arith, λ e. omega (arith, e))
-]
-
 capturer_of : (s : Position) (square : ℕ) → has_capturer s.board s.turn (beyond s.turn square) ≡ true → HasCapturer s square
 capturer_of s square h =
-    let pawn : ℕ = beyond s.turn square in
-    elim (either_true (not (file pawn == 0) && is_piece (piece_of s.turn Pawn) (at s.board (pawn - 1))) (not (file pawn == 7) && is_piece (piece_of s.turn Pawn) (at s.board (pawn + 1))) h) [
-      | inl left ↦
-          let parts = and_parts (not (file pawn == 0)) (is_piece (piece_of s.turn Pawn) (at s.board (pawn - 1))) left in
-          let inside : pawn % 8 ≢ 0 = other_than (file pawn) 0 parts.0 in
-          record { capturer = pawn - 1; stands = is_piece-is (piece_of s.turn Pawn) (at s.board (pawn - 1)) parts.1; same_rank = rank_before pawn inside; next_file = file_before pawn inside }
-      | inr right ↦
-          let parts = and_parts (not (file pawn == 7)) (is_piece (piece_of s.turn Pawn) (at s.board (pawn + 1))) right in
-          let inside : pawn % 8 ≢ 7 = other_than (file pawn) 7 parts.0 in
-          record { capturer = pawn + 1; stands = is_piece-is (piece_of s.turn Pawn) (at s.board (pawn + 1)) parts.1; same_rank = rank_next pawn inside; next_file = file_next pawn inside }
-    ]
+    let found = capturer_there s.board s.turn (beyond s.turn square) h in
+    record { capturer = found.0; stands = found.1; same_rank = found.2; next_file = found.3 }
 
 of_capturer : (s : Position) (square : ℕ) → HasCapturer s square → has_capturer s.board s.turn (beyond s.turn square) ≡ true
-of_capturer s square h =
-    let pawn : ℕ = beyond s.turn square in
-    let left : Bool = not (file pawn == 0) && is_piece (piece_of s.turn Pawn) (at s.board (pawn - 1)) in
-    let right : Bool = not (file pawn == 7) && is_piece (piece_of s.turn Pawn) (at s.board (pawn + 1)) in
-    let stands = there_pawn s.turn (at s.board h.capturer) h.stands in
-    let P : ℕ → Type 0 = λ q. is_piece (piece_of s.turn Pawn) (at s.board q) ≡ true in
-    elim (beside_either h.capturer pawn h.same_rank h.next_file) [
-      | inl l ↦ true_left left right (both_true (not (file pawn == 0)) (is_piece (piece_of s.turn Pawn) (at s.board (pawn - 1))) (tells_other (file pawn) 0 l.1) (subst P l.0 stands))
-      | inr r ↦ true_right left right (both_true (not (file pawn == 7)) (is_piece (piece_of s.turn Pawn) (at s.board (pawn + 1))) (tells_other (file pawn) 7 r.1) (subst P r.0 stands))
-    ]
+of_capturer s square h = capturer_known s.board s.turn (beyond s.turn square) h.capturer h.stands h.same_rank h.next_file
 
 -- the offset of such an en passant square
 abbrev pub passing_offsets : Position → Option ℕ → List ℕ

@@ -1,9 +1,10 @@
 //! Keys of setups.
 
-ghost use Rattle.std.specs.Prelude.{◌≡◌, ◌<◌, ◌+◌, ◌==◌};
-ghost use Rattle.pb_board.specs.declared.piece.Kind.TheVariants.{Pawn};
-ghost use Rattle.pb_board.specs.Piece.{colour_number, piece_of};
-ghost use Rattle.pb_board.specs.Board.{at, file, is_piece};
+ghost use Rattle.std.specs.Prelude.{◌≡◌, ℕ, ◌<◌, ◌+◌, ◌==◌, ◌↔◌};
+ghost use Rattle.std.specs.Int.{bit_at};
+ghost use Rattle.pb_board.specs.Piece.{colour_number};
+ghost use Rattle.pb_board.specs.Board.{file, rank};
+ghost use Rattle.pb_moves.specs.Attacks.{files_apart};
 ghost use Rattle.pb_board.specs.Position.{IsSetup, OnEnPassantRank, beyond as beyond_by};
 ghost use Rattle.pb_board.specs.Rights.{of_rights, only_if};
 ghost use Rattle.pb_poly.specs.Key.{IsKey, en_passant_offsets};
@@ -20,6 +21,10 @@ const CASTLING_START: usize = 768;
 
 /// The first offset of en passant files.
 const EN_PASSANT_START: usize = 772;
+
+const FILE_A: u64 = 0x0101_0101_0101_0101;
+
+const FILE_H: u64 = 0x8080_8080_8080_8080;
 
 pub(crate) const WHITE_TO_MOVE: usize = 780;
 
@@ -65,16 +70,6 @@ pub(crate) fn toggle_rights(table: &Table, key: u64, rights: Rights) -> u64
     toggle_if(table, key, rights.black_long, CASTLING_START + 3)
 }
 
-fn has_pawn(setup: &Setup, side: Colour, square: u8) -> bool
-    requires { square < 64 }
-    ensures { result ≡ is_piece (piece_of side Pawn) (at setup.now.board square) }
-{
-    match setup.at(Square::from_index(square).unwrap()) {
-        Some(piece) => piece.kind == Kind::Pawn && piece.colour == side,
-        None => false,
-    }
-}
-
 fn beyond(turn: Colour, square: Square) -> u8
     requires { OnEnPassantRank turn square }
     ensures value { result ≡ beyond_by turn square }
@@ -86,12 +81,25 @@ fn beyond(turn: Colour, square: Square) -> u8
     }
 }
 
+/// The squares beside this one, on the files next to its own.
+#[inline(always)]
+fn beside(square: u8) -> u64
+    requires { square < 64 }
+    ensures { (q : ℕ) → q < 64
+        → ((bit_at result q ≡ 1) ↔ ((rank q ≡ rank square) × (files_apart q square ≡ 1))) }
+{
+    let bit = 1u64 << square;
+    (bit & !FILE_H) << 1 | (bit & !FILE_A) >> 1
+}
+
+/// Which squares have a pawn can't be foretold, so one test is made of both.
+#[inline(always)]
 pub(crate) fn has_capturer(setup: &Setup, side: Colour, pawn: u8) -> bool
     requires { pawn < 64 }
     ensures { result ≡ has_capturer_by setup.now.board side pawn }
 {
-    (pawn % 8 != 0 && has_pawn(setup, side, pawn - 1))
-        || (pawn % 8 != 7 && has_pawn(setup, side, pawn + 1))
+    let kind = Kind::Pawn;
+    beside(pawn) & setup.by_piece(Piece { colour: side, kind }) != 0
 }
 
 #[inline(always)]
