@@ -1,25 +1,24 @@
 //! The setups that stand before the moves of games and for which a book has moves.
 
-ghost use Rattle.std.specs.Prelude.{◌≡◌, ◌≤◌, ◌<◌, ◌^◌, ◌==◌, ◌++◌, ◌∷◌, [], ℕ, All, AllPairs};
+ghost use Rattle.std.specs.Prelude.{◌≡◌, ◌≤◌, ◌<◌, ◌^◌, ◌==◌, ◌++◌, ◌∷◌, [], ℕ, All};
 ghost use Rattle.std.specs.Prelude.{Contains, IfOk, IsTrue, MatchOption, filter, List, OnOk};
 ghost use Rattle.std.specs.Prelude.{length, map};
 ghost use Rattle.pb_board.specs.Position.{Position};
+ghost use Rattle.pb_board.specs.Text.{setup_text};
 ghost use Rattle.pb_games.specs.Submissions.{IsLegalGame};
 ghost use Rattle.pb_moves.specs.Legal.{Legal};
 ghost use Rattle.pb_moves.specs.Moved.{Moved};
 ghost use Rattle.pb_poly.specs.Code.{HasCode};
 ghost use Rattle.pb_poly.specs.Found.{Found};
 ghost use Rattle.pb_poly.specs.declared.entry.Entry.{Entry as BookEntry};
-ghost use Rattle.pb_export.specs.Packed.{IsPacked};
 ghost use Rattle.pb_poly.specs.Key.{key as key_by};
-ghost use Rattle.pb_export.specs.Setups.{ListsSetups, SameSetup, TextBelow, all_setups, moves_of};
-ghost use Rattle.pb_export.specs.Setups.{setups_before};
+ghost use Rattle.pb_export.specs.Setups.{HasMoves, InFieldOrder, ListsSetups, all_setups};
+ghost use Rattle.pb_export.specs.Setups.{moves_of, setups_before};
 ghost use Rattle.pb_export.specs.declared.setups.ListedSetup.{ListedSetup};
 
 use crate::indexed_book::IndexedBook;
-use crate::packed::PackedSetup;
 use pb_accepted::Ledger;
-use pb_board::Setup;
+use pb_board::{Fen, Setup, Text};
 use pb_games::Game;
 use pb_moves::{Move, effect_of};
 use pb_points::Tally;
@@ -29,15 +28,14 @@ use std::alloc::{AllocError, Global};
 /// How many recent setups are noted.
 const RECENT: usize = 16_384;
 
+/// The four fields of a setup.
+type SetupText = Text<89>;
+
 /// A setup, and where its moves stand among those of all.
 #[derive(Clone, Copy)]
-#[derive_where(PartialEq, Eq)]
 pub(crate) struct ListedSetup {
-    pub(crate) setup: PackedSetup,
-    // The moves follow from the setup.
-    #[derive_where(skip)]
+    pub(crate) fields: SetupText,
     first: u32,
-    #[derive_where(skip)]
     end: u32,
 }
 
@@ -66,7 +64,7 @@ impl Listing {
     ) -> Result<Listing, AllocError>
         ensures setups { IfOk result (λ l. ListsSetups ledger.now.basis.randoms book.now
             (all_setups ledger.now.accepted) l.moves.items l.setups.items) }
-        ensures ordered { IfOk result (λ l. AllPairs TextBelow l.setups.items) }
+        ensures ordered { IfOk result (λ l. InFieldOrder l.setups.items) }
         ensures few { IfOk result (λ l. length l.setups.items < 2 ^ 32) }
     {
         let mut listing = Listing {
@@ -83,8 +81,7 @@ impl Listing {
     }
 
     pub(crate) fn moves_of(&self, listed: &ListedSetup) -> &[(Move, u16)]
-        requires some { listed.now.first < listed.now.end }
-        requires within { listed.now.end ≤ length self.now.moves.items }
+        requires { HasMoves self.now.moves.items listed.now }
         ensures { result.now ≡ moves_of self.now.moves.items listed.now }
     {
         &self.moves[listed.first as usize..listed.end as usize]
@@ -134,23 +131,23 @@ impl Listing {
         if entries.is_empty() {
             return Ok(());
         }
-        let packed = PackedSetup::of(setup);
-        if self.is_recent(key, &packed) {
+        let fields = fields_of(setup);
+        if self.is_recent(key, fields.as_bytes()) {
             return Ok(());
         }
         self.note_recent(key);
-        self.add_new(packed, entries, setup, played)
+        self.add_new(fields, entries, setup, played)
     }
 
     /// Adds a setup that isn't known to be listed, where an entry is for it.
     fn add_new(
         &mut self,
-        packed: PackedSetup,
+        fields: SetupText,
         entries: &[Entry],
         setup: &Setup,
         played: Move,
     ) -> Result<(), AllocError>
-        requires packed { IsPacked packed setup.now }
+        requires fields { fields ≡ setup_text setup.now }
         requires legal { Legal setup.now played }
         ensures { OnOk result ((words : List ℕ) (book : List BookEntry) (known : List Position)
             (key : ℕ) → key ≡ key_by words setup.now → entries.now ≡ filter (λ e. e.key == key) book
@@ -164,11 +161,7 @@ impl Listing {
         add_moves(&mut self.moves, entries, setup, played)?;
         let end = in_32_bits(self.moves.len())?;
         if first < end {
-            self.setups.push(ListedSetup {
-                setup: packed,
-                first,
-                end,
-            })?;
+            self.setups.push(ListedSetup { fields, first, end })?;
         }
         Ok(())
     }
@@ -186,9 +179,9 @@ impl Listing {
 
     /// Whether this setup is the last noted of its key, so that one that many games meet is mostly
     /// listed once.
-    fn is_recent(&self, key: u64, packed: &PackedSetup) -> bool
+    fn is_recent(&self, key: u64, fields: &[u8]) -> bool
         ensures { IsTrue result → (x : ListedSetup) × Contains self.now.setups.items x
-            × (x.setup.ranks ≡ packed.now.ranks) × (x.setup.state ≡ packed.now.state) }
+            × (x.fields ≡ fields.now) }
     {
         let Some((noted, index)) = self.recent.get((key % RECENT as u64) as usize) else {
             return false;
@@ -197,10 +190,19 @@ impl Listing {
             return false;
         }
         match self.setups.get(*index as usize) {
-            Some(listed) => listed.setup == *packed,
+            Some(listed) => listed.fields.as_bytes() == fields,
             None => false,
         }
     }
+}
+
+fn fields_of(setup: &Setup) -> SetupText
+    ensures { result ≡ setup_text setup.now }
+{
+    // They stand in front of the clocks.
+    let record = Fen::with_clocks(*setup, 0, 1).text();
+    let bytes = record.as_bytes();
+    Text::of(&bytes[..bytes.len() - 4])
 }
 
 fn keyed_setups(alloc: Global, table: &Table, game: &Game) -> Result<KeyedSetups, AllocError>
@@ -275,12 +277,12 @@ fn move_by(setup: &Setup, code: u16, known: Move, known_code: u16) -> Option<Mov
 }
 
 fn put_in_order(setups: &mut Vec<ListedSetup>)
-    ensures ordered { AllPairs TextBelow setups.new.items }
+    ensures ordered { InFieldOrder setups.new.items }
     ensures sound { (x : ListedSetup) → Contains setups.new.items x → Contains setups.old.items x }
     ensures whole { (x : ListedSetup) → Contains setups.old.items x
-        → (y : ListedSetup) × Contains setups.new.items y × SameSetup y x }
+        → (y : ListedSetup) × Contains setups.new.items y × (y.fields ≡ x.fields) }
     ensures few { length setups.new.items ≤ length setups.old.items }
 {
-    setups.sort_unstable_by(|one, other| one.setup.order(&other.setup));
-    setups.dedup();
+    setups.sort_unstable_by(|one, other| one.fields.as_bytes().cmp(other.fields.as_bytes()));
+    setups.dedup_by(|next, one| next.fields.as_bytes() == one.fields.as_bytes());
 }

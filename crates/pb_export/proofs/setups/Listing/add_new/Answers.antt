@@ -34,7 +34,7 @@ returns-in_ok-push c = λ words book known k key_is under lists.
     let listed = c.args.self.now.setups.items in
     let w = finds words book c.args.entries.now s k moves c.add_moves.new.moves.items key_is under (c.in_ok-add_moves.ensures words) in
     subst (λ (xs : List ListedSetup). ListsSetups words book (known ++ s ∷ []) c.add_moves.new.moves.items xs) (sym c.in_ok-push.ensures.items)
-    (one_listed words book known moves listed lists s c.turn-turn.ensures.rules w.found c.add_moves.new.moves.items _ w.is w.has c.requires.packed (omega (arith, c.len.ensures, c.in_ok-first.ensures)) (omega (arith, c.len-2.ensures, c.in_ok-end.ensures)) c.if-first-end.true)
+    (one_listed words book known moves listed lists s c.turn-turn.ensures.rules w.found c.add_moves.new.moves.items _ w.is w.has c.requires.fields (omega (arith, c.len.ensures, c.in_ok-first.ensures)) (omega (arith, c.len-2.ensures, c.in_ok-end.ensures)) c.if-first-end.true)
 
 pub returns-else-first-end : goal.returns-else-first-end
 returns-else-first-end c = λ words book known k key_is under lists.

@@ -26,7 +26,8 @@ returns-then-is_empty c = λ words book known key_is under lists.
 pub returns-then-is_recent : goal.returns-then-is_recent
 returns-then-is_recent c = λ words book known key_is under lists.
     let x = c.is_recent.ensures c.if-is_recent.true in
-    listed_before words book known c.args.self.now.moves.items c.args.self.now.setups.items lists c.args.setup.now c.turn-turn.ensures.rules x.0 c.of-packed.result x.1 x.2 x.3 c.of-packed.ensures
+    let as_bytes = c.as_bytes.ensures.value ∙ c.fields_of-fields.ensures in
+    listed_before words book known c.args.self.now.moves.items c.args.self.now.setups.items lists c.args.setup.now c.turn-turn.ensures.rules x.0 x.1 (x.2 ∙ as_bytes)
 
 pub returns : goal.returns
 returns c = on_ok_weaker c.add_new.result (λ adds words book known key_is under lists.
