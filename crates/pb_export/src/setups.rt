@@ -3,7 +3,6 @@
 ghost use Rattle.std.specs.Prelude.{◌≡◌, ◌≤◌, ◌<◌, ◌^◌, ◌==◌, ◌++◌, ◌∷◌, [], ℕ, All};
 ghost use Rattle.std.specs.Prelude.{Contains, IfOk, IsTrue, MatchOption, filter, List, OnOk};
 ghost use Rattle.std.specs.Prelude.{length, map};
-ghost use Rattle.pb_board.specs.Position.{Position};
 ghost use Rattle.pb_board.specs.Text.{setup_text};
 ghost use Rattle.pb_games.specs.Submissions.{IsLegalGame};
 ghost use Rattle.pb_moves.specs.Legal.{Legal};
@@ -12,8 +11,8 @@ ghost use Rattle.pb_poly.specs.Code.{HasCode};
 ghost use Rattle.pb_poly.specs.Found.{Found};
 ghost use Rattle.pb_poly.specs.declared.entry.Entry.{Entry as BookEntry};
 ghost use Rattle.pb_poly.specs.Key.{key as key_by};
-ghost use Rattle.pb_export.specs.Setups.{HasMoves, InFieldOrder, ListsSetups, all_setups};
-ghost use Rattle.pb_export.specs.Setups.{moves_of, setups_before};
+ghost use Rattle.pb_export.specs.Setups.{AddsSetups, HasMoves, InFieldOrder, ListsSetups};
+ghost use Rattle.pb_export.specs.Setups.{all_setups, moves_of, setups_before};
 ghost use Rattle.pb_export.specs.declared.setups.ListedSetup.{ListedSetup};
 
 use crate::indexed_book::IndexedBook;
@@ -28,7 +27,8 @@ use std::alloc::{AllocError, Global};
 /// How many recent setups are noted.
 const RECENT: usize = 16_384;
 
-/// The four fields of a setup.
+/// The four fields of a setup: the text of a record without its clocks, which take four bytes at
+/// least.
 type SetupText = Text<89>;
 
 /// A setup, and where its moves stand among those of all.
@@ -95,10 +95,8 @@ impl Listing {
         game: &Game,
     ) -> Result<(), AllocError>
         requires { IsLegalGame game.now }
-        ensures { OnOk result ((known : List Position)
-            → ListsSetups table.now book.now known self.old.moves.items self.old.setups.items
-            → ListsSetups table.now book.now (known ++ setups_before game.now) self.new.moves.items
-            self.new.setups.items) }
+        ensures { OnOk result
+            (AddsSetups table.now book.now (setups_before game.now) self.old self.new) }
     {
         let KeyedSetups { keys, setups } = keyed_setups(alloc, table, game)?;
         let firsts = book.firsts_under(alloc, &keys)?;
@@ -120,11 +118,9 @@ impl Listing {
         played: Move,
     ) -> Result<(), AllocError>
         requires { Legal setup.now played }
-        ensures { OnOk result ((words : List ℕ) (book : List BookEntry) (known : List Position)
+        ensures { OnOk result ((words : List ℕ) (book : List BookEntry)
             → key ≡ key_by words setup.now → entries.now ≡ filter (λ e. e.key == key) book
-            → ListsSetups words book known self.old.moves.items self.old.setups.items
-            → ListsSetups words book (known ++ setup.now ∷ []) self.new.moves.items
-            self.new.setups.items) }
+            → AddsSetups words book (setup.now ∷ []) self.old self.new) }
     {
         // The reader tells that the setup meets its rules.
         let _turn = setup.turn();
@@ -136,27 +132,6 @@ impl Listing {
             return Ok(());
         }
         self.note_recent(key);
-        self.add_new(fields, entries, setup, played)
-    }
-
-    /// Adds a setup that isn't known to be listed, where an entry is for it.
-    fn add_new(
-        &mut self,
-        fields: SetupText,
-        entries: &[Entry],
-        setup: &Setup,
-        played: Move,
-    ) -> Result<(), AllocError>
-        requires fields { fields ≡ setup_text setup.now }
-        requires legal { Legal setup.now played }
-        ensures { OnOk result ((words : List ℕ) (book : List BookEntry) (known : List Position)
-            (key : ℕ) → key ≡ key_by words setup.now → entries.now ≡ filter (λ e. e.key == key) book
-            → ListsSetups words book known self.old.moves.items self.old.setups.items
-            → ListsSetups words book (known ++ setup.now ∷ []) self.new.moves.items
-            self.new.setups.items) }
-    {
-        // The reader tells that the setup meets its rules.
-        let _turn = setup.turn();
         let first = in_32_bits(self.moves.len())?;
         add_moves(&mut self.moves, entries, setup, played)?;
         let end = in_32_bits(self.moves.len())?;
@@ -199,7 +174,7 @@ impl Listing {
 fn fields_of(setup: &Setup) -> SetupText
     ensures { result ≡ setup_text setup.now }
 {
-    // They stand in front of the clocks.
+    // In the record they stand in front of ` 0 1`.
     let record = Fen::with_clocks(*setup, 0, 1).text();
     let bytes = record.as_bytes();
     Text::of(&bytes[..bytes.len() - 4])

@@ -24,7 +24,7 @@ loop-index-preserved c = λ known lists.
     let key_is : k ≡ key words s = get_or_read keys i k (omega (arith, lt, many)) c.index-key.ensures 0 ∙ ap (λ (ks : List ℕ). get_or ks i 0) keys_are ∙ get_or-map (key words) setups i s 0 lt ∙ ap (key words) (sym here) in
     let more : take (i + 1) setups ≡ take i setups ++ s ∷ [] = take_more setups i s lt ∙ ap (λ (p : Position). take i setups ++ p ∷ []) (sym here) in
     subst (λ (xs : List Position). ListsSetups words book xs c.add_setup.new.self.moves.items c.add_setup.new.self.setups.items) (append_assoc known (take i setups) (s ∷ []) ∙ ap (λ xs. known ++ xs) (sym more))
-    (c.in_ok-add_setup.ensures words book (known ++ take i setups) key_is c.under-entries.ensures (c.loop-index.invariant known lists))
+    (c.in_ok-add_setup.ensures words book key_is c.under-entries.ensures (known ++ take i setups) (c.loop-index.invariant known lists))
 
 pub bounds-moves-index : goal.bounds-moves-index
 bounds-moves-index c =
