@@ -1,5 +1,5 @@
 -- The setups of games, listed with their moves.
-use Rattle.std.proofs.Common.{suc, zero, ◌≡◌, ℕ, ◌+◌, ◌-◌, ◌*◌, ◌^◌, ◌<◌, ◌≤◌, List, [], ◌∷◌, ◌++◌, Some, slice_get, append-nil, append_assoc, length, take, drop, get_or, sym, ap, subst, ◌∙◌, inl, inr, arith}
+use Rattle.std.proofs.Common.{suc, ◌≡◌, ℕ, ◌+◌, ◌-◌, ◌*◌, ◌^◌, ◌<◌, ◌≤◌, List, [], ◌∷◌, ◌++◌, Some, slice_get, append-nil, append_assoc, length, take, drop, get_or, sym, ap, subst, ◌∙◌, inl, inr, arith}
 use Rattle.std.specs.Prelude.{All, Contains, map}
 use Rattle.std.proofs.Math.ListN.{drop_of_length-le}
 use Rattle.std.proofs.lemmas.List.{drop-append-le, drop_more, flat_map_more, length-append, length-drop, take-append-le, take_all, length-map, length_push, take_more}
@@ -175,18 +175,9 @@ module _ (g : Game) (done : List Position) (s : Position) (ms : List Moved) (i :
       let none : setups_from s (drop i ms) ≡ [] = ap (setups_from s) (drop_of_length-le ms past) in
       sym (append-nil done) ∙ ap (λ xs. done ++ xs) (sym none) ∙ h.all
 
-legal_from : (s : Position) (ms : List Moved) (i : ℕ) (p : Position) (d : Moved) → AreLegal s ms → i < length ms → Legal (get_or (setups_from s ms) i p) (get_or ms i d)
-legal_from s [] i p d h lt = absurd (omega (arith, lt))
-legal_from s (m ∷ ms) zero p d h lt = h.0
-legal_from s (m ∷ ms) (suc i) p d h lt = legal_from (after s m) ms i p d h.1 (omega (arith, lt))
-
 -- as many as moves
 pub length-setups_before : (g : Game) → length (setups_before g) ≡ length g.moves
 length-setups_before g = length-map (plies g) (λ (p : Ply). p.0) ∙ length-plies_from g.start.setup g.moves
-
--- each before its move
-pub legal_at : (g : Game) (i : ℕ) (p : Position) (d : Moved) → IsLegalGame g → i < length g.moves → Legal (get_or (setups_before g) i p) (get_or g.moves i d)
-legal_at g i p d h lt = legal_from g.start.setup g.moves i p d h.legal lt
 
 -- ---- the setups of all games
 

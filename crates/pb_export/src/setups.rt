@@ -1,13 +1,11 @@
 //! The setups that stand before the moves of games and for which a book has moves.
 
 ghost use Rattle.std.specs.Prelude.{◌≡◌, ◌≤◌, ◌<◌, ◌^◌, ◌==◌, ◌++◌, ◌∷◌, [], ℕ, All};
-ghost use Rattle.std.specs.Prelude.{Contains, IfOk, IsTrue, MatchOption, filter, List, OnOk};
+ghost use Rattle.std.specs.Prelude.{Contains, IfOk, IsTrue, filter, List, OnOk};
 ghost use Rattle.std.specs.Prelude.{length, map};
 ghost use Rattle.pb_board.specs.Text.{setup_text};
 ghost use Rattle.pb_games.specs.Submissions.{IsLegalGame};
-ghost use Rattle.pb_moves.specs.Legal.{Legal};
 ghost use Rattle.pb_moves.specs.Moved.{Moved};
-ghost use Rattle.pb_poly.specs.Code.{HasCode};
 ghost use Rattle.pb_poly.specs.Found.{Found};
 ghost use Rattle.pb_poly.specs.declared.entry.Entry.{Entry as BookEntry};
 ghost use Rattle.pb_poly.specs.Key.{key as key_by};
@@ -21,7 +19,7 @@ use pb_board::{Fen, Setup, Text};
 use pb_games::Game;
 use pb_moves::{Move, effect_of};
 use pb_points::Tally;
-use pb_poly::{Entry, Table, code_of, key_next, key_of, move_of};
+use pb_poly::{Entry, Table, key_next, key_of, move_of};
 use std::alloc::{AllocError, Global};
 
 /// How many recent setups are noted.
@@ -100,24 +98,15 @@ impl Listing {
     {
         let KeyedSetups { keys, setups } = keyed_setups(alloc, table, game)?;
         let firsts = book.firsts_under(alloc, &keys)?;
-        let moves = game.moves.as_slice();
         for index in 0..setups.len() {
             let key = keys[index];
-            let entries = book.under(firsts[index], key);
-            self.add_setup(entries, &setups[index], key, moves[index])?;
+            self.add_setup(book.under(firsts[index], key), &setups[index], key)?;
         }
         Ok(())
     }
 
     /// Adds the setup of a key, where one of the entries of the key is for it.
-    fn add_setup(
-        &mut self,
-        entries: &[Entry],
-        setup: &Setup,
-        key: u64,
-        played: Move,
-    ) -> Result<(), AllocError>
-        requires { Legal setup.now played }
+    fn add_setup(&mut self, entries: &[Entry], setup: &Setup, key: u64) -> Result<(), AllocError>
         ensures { OnOk result ((words : List ℕ) (book : List BookEntry)
             → key ≡ key_by words setup.now → entries.now ≡ filter (λ e. e.key == key) book
             → AddsSetups words book (setup.now ∷ []) self.old self.new) }
@@ -133,7 +122,7 @@ impl Listing {
         }
         self.note_recent(key);
         let first = in_32_bits(self.moves.len())?;
-        add_moves(&mut self.moves, entries, setup, played)?;
+        add_moves(&mut self.moves, entries, setup)?;
         let end = in_32_bits(self.moves.len())?;
         if first < end {
             self.setups.push(ListedSetup { fields, first, end })?;
@@ -217,38 +206,22 @@ fn in_32_bits(count: usize) -> Result<u32, AllocError>
     }
 }
 
-/// Adds the moves of the entries. The one that a game plays is known, and isn't looked for.
+/// Adds the moves of the entries.
 fn add_moves(
     moves: &mut Vec<(Move, u16)>,
     entries: &[Entry],
     setup: &Setup,
-    played: Move,
 ) -> Result<(), AllocError>
-    requires { Legal setup.now played }
     ensures { OnOk result ((words : List ℕ) → All (λ e. e.key ≡ key_by words setup.now) entries.now
         → (found : List (Moved × ℕ)) × Found entries.now words setup.now found
         × (moves.new.items ≡ moves.old.items ++ found)) }
 {
-    let played_code = code_of(setup, played);
     for entry in entries {
-        if let Some(m) = move_by(setup, entry.code, played, played_code) {
+        if let Some(m) = move_of(setup, entry.code) {
             moves.push((m, entry.weight))?;
         }
     }
     Ok(())
-}
-
-#[inline(always)]
-fn move_by(setup: &Setup, code: u16, known: Move, known_code: u16) -> Option<Move>
-    requires { HasCode setup.now known known_code }
-    ensures { MatchOption result ((m : Moved) → ¬ HasCode setup.now m code)
-        (λ m. HasCode setup.now m code) }
-{
-    if code == known_code {
-        Some(known)
-    } else {
-        move_of(setup, code)
-    }
 }
 
 fn put_in_order(setups: &mut Vec<ListedSetup>)
