@@ -1,13 +1,16 @@
 -- The export of games: what was put at its end, and what at a fault.
-use Rattle.std.proofs.Common.{◌≡◌, ℕ, ◌⊎◌, Err, Ok, List, [], ◌∷◌, ◌++◌, map, append-nil, append_assoc, refl, sym, ap, subst, ◌∙◌, inl, inr}
-use Rattle.std.specs.Prelude.{Contains}
+use Rattle.std.proofs.Common.{◌≡◌, ◌≢◌, ℕ, suc, ◌-◌, Err, Ok, List, [], ◌∷◌, ◌++◌, append-nil, length, map, get_or, drop, refl, sym, ap, subst, ◌∙◌, inl, inr, arith}
+use Rattle.std.specs.Prelude.{◌↔◌, All, AllPairs, Contains}
+use Rattle.std.specs.Io.KnownBytes.{Appends}
 use Rattle.std.proofs.KnownBytes.{Appends-kept}
-use Rattle.std.proofs.lemmas.List.{length-map}
-use Rattle.std.proofs.lemmas.List.Elements.{All-contains, Contains-append_cases, Contains-append_left, Contains-append_right}
+use Rattle.std.proofs.lemmas.List.{length-drop, length-map, length-take}
+use Rattle.std.proofs.lemmas.List.Elements.{All-contains, Contains-append_cases, Contains-append_left, Contains-append_right, Contains-get_or}
+use Rattle.pb_board.specs.LineEnd.{with_end}
 use Rattle.pb_board.specs.Position.{IsSetup, Position}
+use Rattle.pb_board.specs.Text.{setup_text}
 use Rattle.pb_epd.specs.ByteOrder.{IsBytesBelow}
-use Rattle.pb_epd.proofs.Lists.{contains_cases, contains_head, contains_map, contains_none, contains_there, contains_unmap, pairs_head, pairs_tail}
-use Rattle.pb_epd.proofs.Order.{below_itself, both_below}
+use Rattle.pb_epd.specs.Epd.{epd_form}
+use Rattle.pb_epd.proofs.Lists.{contains_cases, contains_head, contains_map, contains_none, contains_there, contains_unmap, pairs_cons, pairs_head, pairs_none, pairs_tail}
 use Rattle.pb_games.specs.declared.game.Game.{Game}
 use Rattle.pb_games.specs.Submissions.{Submission, plies}
 use Rattle.pb_moves.specs.Moved.{Moved}
@@ -17,18 +20,20 @@ use Rattle.pb_io.specs.Sink.{Flush, SinkState}
 use Rattle.pb_io.proofs.FlushLemmas.{not_flushed}
 use Rattle.pb_poly.specs.declared.entry.Entry.{Entry}
 use Rattle.pb_io.specs.declared.source.Failed.{Failed}
+use Rattle.pb_poly.specs.Found.{Found}
 use Rattle.pb_poly.proofs.Finding.{found_is_one}
 use Rattle.pb_accepted.specs.Basis.{Basis}
-use Rattle.pb_accepted.specs.Counting.{IsBook, counted}
-use Rattle.pb_export.specs.Exporting.{ExportText, Exports, ExportsUntil, IsListed, IsListing, Listed, StandsBefore, text_of_lines}
 use Rattle.pb_accepted.specs.Ledger.{LedgerState}
-use Rattle.pb_export.specs.Listing.{IsListedOf, IsListingOf, PutsFront, PutsListing, text_of}
-use Rattle.pb_export.specs.Setups.{HoldsSetups, InTextOrder, Spelled, all_setups, setups_before}
+use Rattle.pb_export.specs.Exporting.{ExportLines, ExportText, Exports, ExportsUntil, IsListed, Listed, StandsBefore, text_of_lines, with_book_moves}
+use Rattle.pb_export.specs.Listing.{PutsFront, PutsListing, book_line, lines_of, text_of}
+use Rattle.pb_export.specs.Setups.{HasMoves, InFieldOrder, IsListedAs, IsListingOfLedger, ListsSetups, all_setups, moves_of, setups_before}
 use Rattle.pb_export.specs.declared.exporting.ExportFault.{ExportFault}
 use Rattle.pb_export.specs.declared.exporting.ExportFault.TheVariants as fault
-use Rattle.pb_accepted.proofs.BookLaws.{one_book}
-use Rattle.pb_export.proofs.Listings.{text_of-append}
-use Rattle.pb_accepted.proofs.Members.{begins_in_order}
+use Rattle.pb_export.specs.declared.setups.Listing.{Listing}
+use Rattle.pb_export.specs.declared.setups.ListedSetup.{ListedSetup}
+use Rattle.pb_export.proofs.ExportLaws.{one_export}
+use Rattle.pb_export.proofs.ListedSetups.{setup_of_text}
+use Rattle.pb_export.proofs.MoveLines.{line_form}
 
 -- ---- the setups of the games
 
@@ -53,91 +58,145 @@ setup_is_there (x ∷ S) s h = elim (contains_cases x S h.0 h.2) [
 
 -- ---- the listing of the games
 
--- what is in order is in order across a cut
-across : (front back : List Spelled) (x y : Spelled) → InTextOrder (front ++ back) → Contains front x → Contains back y → IsBytesBelow x.0 y.0
-across [] back x y h here there = absurd (contains_none x here)
-across (z ∷ front) back x y h here there = elim (contains_cases z front x here) [
-  | inl e ↦ subst (λ (w : Spelled). IsBytesBelow w.0 y.0) e (All-contains (λ (w : Spelled). IsBytesBelow z.0 w.0) (front ++ back) y (pairs_head (λ (v w : Spelled). IsBytesBelow v.0 w.0) z (front ++ back) h) (Contains-append_right front back y there))
-  | inr later ↦ across front back x y (pairs_tail (λ (v w : Spelled). IsBytesBelow v.0 w.0) z (front ++ back) h) later there
-]
+has_some : (moves : List (Moved × ℕ)) (x : ListedSetup) → HasMoves moves x → moves_of moves x ≢ []
+has_some moves x has e = omega (arith, has.0, has.1, ap length e, length-take (x.end - x.first) (drop x.first moves), length-drop x.first moves)
 
-module _ (T : Basis) (S : List Submission) (book : List Entry) (spelled : List Spelled) (holds : HoldsSetups T.randoms book (all_setups S) spelled) where
-  listed_of : (x : Listed) → IsListedOf T.randoms book spelled x → IsListed T S book x
-  listed_of x k =
-      let is = holds.sound (x.fields, x.setup) k.0 in
-      (stands_before S x.setup is.0, is.1, k.1)
+module _ (T : Basis) (S : List Submission) (book : List Entry) (moves : List (Moved × ℕ)) where
+  -- the same setup, with what its line says
+  record Says (x : ListedSetup) (y : Listed) : Type 0 where
+    fields : x.fields ≡ y.fields
+    line : with_end y.line ≡ book_line x.fields (moves_of moves x)
+    is : IsListed T S book y
 
-  of_listed : (x : Listed) → IsListed T S book x → IsListedOf T.randoms book spelled x
-  of_listed x k =
-      let known = setup_is_there S x.setup k.0 in
-      let rules = All-contains IsSetup (all_setups S) x.setup holds.setups known in (
-        elim (holds.whole x.setup known) [
-          | inl none ↦ absurd (k.2.some (found_is_one book T.randoms x.setup x.moves [] rules k.2.found none))
-          | inr there ↦ subst (λ (t : List ℕ). Contains spelled (t, x.setup)) (sym k.1) there
-        ],
-        k.2,
+  says : (s : Position) (x : ListedSetup) → Contains (all_setups S) s → IsListedAs T.randoms book moves s x → (y : Listed) × Says x y
+  says s x known h =
+      let found = moves_of moves x in
+      let line = epd_form (with_book_moves s found) in (
+        record { setup = s; fields = setup_text s; moves = found; line = line },
+        record {
+          fields = h.fields;
+          line = sym (ap (λ w. book_line w found) h.fields ∙ line_form s found);
+          is = (stands_before S s known, refl, record { found = h.found; some = has_some moves x h.has; says = refl });
+        },
       )
 
-  pub whole_listing : (listed : List Listed) → IsListingOf T.randoms book spelled listed → IsListing (IsListed T S book) listed
-  whole_listing listed h = record { ordered = h.ordered; members = λ x. ((λ c. listed_of x ((h.members x).0 c)), (λ c. (h.members x).1 (of_listed x c))) }
+  -- one setup has one line
+  one_listed : (y z : Listed) → IsSetup y.setup → IsSetup z.setup → y.fields ≡ z.fields → IsListed T S book y → IsListed T S book z → y ≡ z
+  one_listed y z rules others e h k =
+      let setup : y.setup ≡ z.setup = setup_of_text y.setup z.setup y.fields rules others h.1 (e ∙ k.1) in
+      let found = found_is_one book T.randoms y.setup y.moves z.moves rules h.2.found (subst (λ p. Found book T.randoms p z.moves) (sym setup) k.2.found) in
+      let line : y.line ≡ z.line = h.2.says ∙ (λ i. epd_form (with_book_moves (setup i) (found i))) ∙ sym k.2.says in
+      λ i. record { setup = setup i; fields = e i; moves = found i; line = line i }
 
-  -- the listing of the first setups is the beginning of that of all
-  pub listing_begins : (front back : List Spelled) (listed all : List Listed) → spelled ≡ front ++ back → IsListingOf T.randoms book front listed → IsListing (IsListed T S book) all → (rest : List Listed) × (all ≡ listed ++ rest)
-  listing_begins front back listed all are h k =
-      begins_in_order (λ (x y : Listed). IsBytesBelow x.fields y.fields) (λ x. below_itself x.fields) (λ x y. both_below x.fields y.fields) listed all h.ordered k.ordered to from
+  record Told (xs : List ListedSetup) : Type 0 where
+    listed : List Listed
+    many : length listed ≡ length xs
+    lines : text_of_lines (map (λ y. y.line) listed) ≡ lines_of moves xs
+    back : (y : Listed) → Contains listed y → (x : ListedSetup) × Contains xs x × Says x y
+    reach : (x : ListedSetup) → Contains xs x → (y : Listed) × Contains listed y × Says x y
+    ordered : AllPairs (λ y z. IsBytesBelow y.fields z.fields) listed
+
+  told : (xs : List ListedSetup) → ((x : ListedSetup) → Contains xs x → (y : Listed) × Says x y) → InFieldOrder xs → Told xs
+  told [] f order = record {
+    listed = [];
+    many = refl;
+    lines = refl;
+    back = λ y c. absurd (contains_none y c);
+    reach = λ x c. absurd (contains_none x c);
+    ordered = pairs_none (λ (y z : Listed). IsBytesBelow y.fields z.fields);
+  }
+  told (x ∷ xs) f order =
+      let y = f x (contains_head x xs) in
+      let r = told xs (λ z c. f z (contains_there x xs z c)) (pairs_tail Below x xs order) in
+      record {
+        listed = y.0 ∷ r.listed;
+        many = ap suc r.many;
+        lines = λ i. y.1.line i ++ r.lines i;
+        back = λ z c. elim (contains_cases y.0 r.listed z c) [
+          | inl e ↦ (x, contains_head x xs, subst (Says x) e y.1)
+          | inr later ↦ let b = r.back z later in (b.0, contains_there x xs b.0 b.1, b.2)
+        ];
+        reach = λ w c. elim (contains_cases x xs w c) [
+          | inl e ↦ (y.0, contains_head y.0 r.listed, subst (λ v. Says v y.0) e y.1)
+          | inr later ↦ let b = r.reach w later in (b.0, contains_there y.0 r.listed b.0 b.1, b.2)
+        ];
+        ordered = pairs_cons (λ (y z : Listed). IsBytesBelow y.fields z.fields) y.0 r.listed (λ k d lt. above (get_or r.listed k d) (r.back (get_or r.listed k d) (Contains-get_or r.listed k d lt))) r.ordered;
+      }
     where
-      to : (x : Listed) → Contains listed x → Contains all x
-      to x c =
-          let own = (h.members x).0 c in
-          let there = subst (λ xs. Contains xs (x.fields, x.setup)) (sym are) (Contains-append_left front back (x.fields, x.setup) own.0) in
-          (k.members x).1 (listed_of x (there, own.1))
+      Below : ListedSetup → ListedSetup → Type 0
+      Below x y = IsBytesBelow x.fields y.fields
 
-      from : (x : Listed) → Contains all x → Contains listed x ⊎ ((w : Listed) → Contains listed w → IsBytesBelow w.fields x.fields)
-      from x c =
-          let own = of_listed x ((k.members x).0 c) in
-          elim (Contains-append_cases front back (x.fields, x.setup) (subst (λ xs. Contains xs (x.fields, x.setup)) are own.0)) [
-            | inl first ↦ inl ((h.members x).1 (first, own.1))
-            | inr later ↦ inr (λ w d. across front back (w.fields, w.setup) (x.fields, x.setup) (subst InTextOrder are holds.ordered) ((h.members w).0 d).0 later)
-          ]
+      above : (z : Listed) → ((w : ListedSetup) × Contains xs w × Says w z) → IsBytesBelow (f x (contains_head x xs)).0.fields z.fields
+      above z b =
+          let y = f x (contains_head x xs) in
+          let below = All-contains (Below x) xs b.0 (pairs_head Below x xs order) b.1 in
+          subst (λ t. IsBytesBelow y.0.fields t) b.2.fields (subst (λ t. IsBytesBelow t b.0.fields) y.1.fields below)
 
--- ---- what an export put
+  module _ (xs : List ListedSetup) (h : ListsSetups T.randoms book (all_setups S) moves xs) (order : InFieldOrder xs) where
+    all_told : Told xs
+    all_told = told xs (λ x c. let w = h.sound x c in says w.0 x w.1 w.2) order
 
-pub exported : (l : LedgerState) (book : List Entry) (spelled : List Spelled) (sink now new : SinkState) (count : ℕ) → IsBook (counted l.basis l.accepted) l.basis.rules.least book → HoldsSetups l.basis.randoms book (all_setups l.accepted) spelled
-    → PutsListing l.basis.randoms book spelled sink now count → Flush {E = Failed} now new (Ok tt) → Exports l sink new count
-exported l book spelled sink now new count is_book holds h flush = record {
-  lines = map (λ (x : Listed). x.line) h.listed;
-  are = record { book = book; is_book = is_book; listed = h.listed; is_listing = whole_listing l.basis l.accepted book spelled holds h.listed h.is; are = refl };
-  counted = h.counted ∙ sym (length-map h.listed (λ (x : Listed). x.line));
-  put = Appends-kept sink.bytes now.bytes new.bytes (text_of h.listed) h.put flush.bytes;
-  handed_on = (flush.failed, flush.flushed);
-  flushes = flush.flushes ∙ ap next_count (not_flushed sink now h.awaits);
-}
+    members : (y : Listed) → Contains all_told.listed y ↔ IsListed T S book y
+    members y = (
+      λ c. (all_told.back y c).2.is,
+      λ is.
+          let known = setup_is_there S y.setup is.0 in
+          let rules = All-contains IsSetup (all_setups S) y.setup h.setups known in
+          elim (h.whole y.setup known) [
+            | inl none ↦ absurd (is.2.some (found_is_one book T.randoms y.setup y.moves [] rules is.2.found none))
+            | inr w ↦
+                let z = all_told.reach w.0 w.1 in
+                let others = All-contains IsSetup (all_setups S) z.0.setup h.setups (setup_is_there S z.0.setup z.2.is.0) in
+                subst (Contains all_told.listed) (one_listed z.0 y others rules (sym z.2.fields ∙ w.2.fields ∙ sym is.1) z.2.is is) z.1
+          ],
+    )
 
--- what was put is a front of the text
-front_of_text : (T : Basis) (S : List Submission) (book : List Entry) (spelled : List Spelled) (front back : List Spelled) (listed : List Listed) (some rest : List ℕ)
-    → IsBook (counted T S) T.rules.least book → HoldsSetups T.randoms book (all_setups S) spelled → spelled ≡ front ++ back → IsListingOf T.randoms book front listed → text_of listed ≡ some ++ rest
-    → (text : List ℕ) → ExportText T S text → (later : List ℕ) × (text ≡ some ++ later)
-front_of_text T S book spelled front back listed some rest is_book holds are h cut text spelt =
-    let e = spelt.1 in
-    let same : e.book ≡ book = one_book (counted T S) T.rules.least e.book book e.is_book is_book in
-    let longer = listing_begins T S book spelled holds front back listed e.listed are h (subst (λ b. IsListing (IsListed T S b) e.listed) same e.is_listing) in
-    (rest ++ text_of longer.0, spelt.2 ∙ ap text_of_lines e.are ∙ ap text_of longer.1 ∙ text_of-append listed longer.0 ∙ ap (λ bytes. bytes ++ text_of longer.0) cut ∙ append_assoc some rest (text_of longer.0))
+module _ (l : LedgerState) (listing : Listing) (h : IsListingOfLedger l listing) where
+  abbrev is_told : Told l.basis l.accepted h.book listing.moves.items listing.setups.items
+  is_told = all_told l.basis l.accepted h.book listing.moves.items listing.setups.items h.lists h.ordered
 
-module _ (l : LedgerState) (book : List Entry) (spelled : List Spelled) (is_book : IsBook (counted l.basis l.accepted) l.basis.rules.least book) (holds : HoldsSetups l.basis.randoms book (all_setups l.accepted) spelled) where
+  pub have_moves : All (HasMoves listing.moves.items) listing.setups.items
+  have_moves i x lt = (h.lists.sound (get_or listing.setups.items i x) (Contains-get_or listing.setups.items i x lt)).2.has
+
+  its_lines : ExportLines l.basis l.accepted (map (λ (y : Listed). y.line) is_told.listed)
+  its_lines = record {
+    book = h.book;
+    is_book = h.is_book;
+    listed = is_told.listed;
+    is_listing = record { ordered = is_told.ordered; members = members l.basis l.accepted h.book listing.moves.items listing.setups.items h.lists h.ordered };
+    are = refl;
+  }
+
+  -- ---- what an export put
+
+  pub exported : (sink now new : SinkState) (count : ℕ) → PutsListing listing sink now count → Flush {E = Failed} now new (Ok tt) → Exports l sink new count
+  exported sink now new count puts flush = record {
+    lines = map (λ (y : Listed). y.line) is_told.listed;
+    are = its_lines;
+    counted = puts.counted ∙ sym is_told.many ∙ sym (length-map is_told.listed (λ (y : Listed). y.line));
+    put = subst (Appends sink.bytes new.bytes) (sym is_told.lines) (Appends-kept sink.bytes now.bytes new.bytes (text_of listing) puts.put flush.bytes);
+    handed_on = (flush.failed, flush.flushed);
+    flushes = flush.flushes ∙ ap next_count (not_flushed sink now puts.awaits);
+  }
+
+  -- what was put is a front of the text
+  whole : (text : List ℕ) → ExportText l.basis l.accepted text → text ≡ text_of listing
+  whole text spelt = one_export l.basis l.accepted text (text_of listing) spelt (map (λ (y : Listed). y.line) is_told.listed, its_lines, sym is_told.lines)
+
   -- a fault at a line
-  pub stopped_at : (sink new : SinkState) (x : ExportFault) → PutsFront l.basis.randoms book spelled sink new x → ExportsUntil l sink new x
-  stopped_at sink new x h = record {
-    some = h.some;
-    put = h.put;
-    front = front_of_text l.basis l.accepted book spelled h.front h.back h.listed h.some h.rest is_book holds h.are h.is h.text;
-    cause = h.cause;
+  pub stopped_at : (sink new : SinkState) (x : ExportFault) → PutsFront listing sink new x → ExportsUntil l sink new x
+  stopped_at sink new x puts = record {
+    some = puts.some;
+    put = puts.put;
+    front = λ text spelt. (puts.rest, whole text spelt ∙ puts.text);
+    cause = puts.cause;
   }
 
   -- a fault of the flush
-  pub unflushed : (sink now new : SinkState) (count : ℕ) (e : Failed) → PutsListing l.basis.randoms book spelled sink now count → Flush {E = Failed} now new (Err e) → ExportsUntil l sink new fault.Write
-  unflushed sink now new count e h flush = record {
-    some = text_of h.listed;
-    put = Appends-kept sink.bytes now.bytes new.bytes (text_of h.listed) h.put flush.bytes;
-    front = front_of_text l.basis l.accepted book spelled spelled [] h.listed (text_of h.listed) [] is_book holds (sym (append-nil spelled)) h.is (sym (append-nil (text_of h.listed)));
-    cause = (flush.failed, flush.flushed, flush.flushes ∙ not_flushed sink now h.awaits);
+  pub unflushed : (sink now new : SinkState) (count : ℕ) (e : Failed) → PutsListing listing sink now count → Flush {E = Failed} now new (Err e) → ExportsUntil l sink new fault.Write
+  unflushed sink now new count e puts flush = record {
+    some = text_of listing;
+    put = Appends-kept sink.bytes now.bytes new.bytes (text_of listing) puts.put flush.bytes;
+    front = λ text spelt. ([], whole text spelt ∙ sym (append-nil (text_of listing)));
+    cause = (flush.failed, flush.flushed, flush.flushes ∙ not_flushed sink now puts.awaits);
   }

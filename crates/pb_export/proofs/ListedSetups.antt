@@ -1,5 +1,5 @@
 -- The setups of games, listed with their moves.
-use Rattle.std.proofs.Common.{suc, zero, ◌≡◌, ℕ, ◌+◌, ◌-◌, ◌*◌, ◌^◌, ◌<◌, ◌≤◌, List, [], ◌∷◌, ◌++◌, Some, slice_get, append-nil, append_assoc, length, take, drop, get_or, refl, sym, ap, subst, ◌∙◌, inl, inr, arith}
+use Rattle.std.proofs.Common.{suc, ◌≡◌, ℕ, ◌+◌, ◌-◌, ◌*◌, ◌^◌, ◌<◌, ◌≤◌, List, [], ◌∷◌, ◌++◌, Some, slice_get, append-nil, append_assoc, length, take, drop, get_or, sym, ap, subst, ◌∙◌, inl, inr, arith}
 use Rattle.std.specs.Prelude.{All, Contains, map}
 use Rattle.std.proofs.Math.ListN.{drop_of_length-le}
 use Rattle.std.proofs.lemmas.List.{drop-append-le, drop_more, flat_map_more, length-append, length-drop, take-append-le, take_all, length-map, length_push, take_more}
@@ -22,12 +22,8 @@ use Rattle.pb_games.specs.Submissions.{IsLegalGame, IsSubmission, Submission, pl
 use Rattle.pb_accepted.specs.Replying.{IsNumber}
 use Rattle.pb_poly.specs.declared.entry.Entry.{Entry}
 use Rattle.pb_poly.specs.Found.{Found}
-use Rattle.pb_export.specs.Packed.{IsPacked}
-use Rattle.pb_export.specs.Setups.{IsListedAs, ListsSetups, SameSetup, all_setups, moves_of, setups_before}
-use Rattle.pb_export.specs.declared.packed.PackedSetup.{PackedSetup}
+use Rattle.pb_export.specs.Setups.{HasMoves, IsListedAs, ListsSetups, all_setups, moves_of, setups_before}
 use Rattle.pb_export.specs.declared.setups.ListedSetup.{ListedSetup}
-use Rattle.pb_export.proofs.PackedOrder.{same_text}
-use Rattle.pb_export.proofs.StateOrder.{state_same}
 use Rattle.pb_accepted.specs.Holding.{IsLedger}
 use Rattle.pb_accepted.specs.Ledger.{LedgerState}
 use Rattle.pb_accepted.proofs.GivenPoints.{length-plies_from}
@@ -46,18 +42,12 @@ bare_text p t rules h = subst (EpdText (bare p)) (append-nil (setup_text p) ∙ 
 pub setup_of_text : (p q : Position) (t : List ℕ) → IsSetup p → IsSetup q → t ≡ setup_text p → t ≡ setup_text q → p ≡ q
 setup_of_text p q t hp hq ht hu = ap (λ (e : EpdRecord). e.setup) (record_is_one (bare p) (bare q) t (is_epd p hp) (is_epd q hq) (bare_text p t hp ht) (bare_text q t hq hu))
 
--- packed alike, they are one
-pub one_setup : (s t : Position) (x y : PackedSetup) → IsSetup s → IsSetup t → IsPacked x s → IsPacked y t → x.ranks ≡ y.ranks → x.state ≡ y.state → s ≡ t
-one_setup s t x y hs ht px py ranks state =
-    let texts = state_same s t px.ep py.ep (sym px.state ∙ state ∙ py.state) in
-    setup_of_text s t (setup_text s) hs ht refl (same_text s t (hs.places ∙ sym ht.places) (sym px.ranks ∙ ranks ∙ py.ranks) texts)
-
 -- ---- ranges of moves
 
-same_range : (moves more : List (Moved × ℕ)) (x : ListedSetup) → x.first < x.end → x.end ≤ length moves → moves_of (moves ++ more) x ≡ moves_of moves x
-same_range moves more x some within =
-    ap (take (x.end - x.first)) (drop-append-le x.first moves more (omega (arith, some, within)))
-    ∙ take-append-le (x.end - x.first) (drop x.first moves) more (omega (arith, length-drop x.first moves, some, within))
+same_range : (moves more : List (Moved × ℕ)) (x : ListedSetup) → HasMoves moves x → moves_of (moves ++ more) x ≡ moves_of moves x
+same_range moves more x has =
+    ap (take (x.end - x.first)) (drop-append-le x.first moves more (omega (arith, has.0, has.1)))
+    ∙ take-append-le (x.end - x.first) (drop x.first moves) more (omega (arith, length-drop x.first moves, has.0, has.1))
 
 last_range : (moves found : List (Moved × ℕ)) (x : ListedSetup) → x.first ≡ length moves → x.end ≡ length (moves ++ found) → moves_of (moves ++ found) x ≡ found
 last_range moves found x first end =
@@ -78,10 +68,9 @@ module _ (words : List ℕ) (book : List Entry) where
 
   grown : (moves more : List (Moved × ℕ)) (s : Position) (x : ListedSetup) → IsListedAs words book moves s x → IsListedAs words book (moves ++ more) s x
   grown moves more s x h = record {
-    packed = h.packed;
-    some = h.some;
-    within = omega (arith, h.within, length-append moves more);
-    found = subst (Found book words s) (sym (same_range moves more x h.some h.within)) h.found;
+    fields = h.fields;
+    has = (h.has.0, omega (arith, h.has.1, length-append moves more));
+    found = subst (Found book words s) (sym (same_range moves more x h.has)) h.found;
   }
 
   module _ (known : List Position) (moves : List (Moved × ℕ)) (listed : List ListedSetup) (h : ListsSetups words book known moves listed) (s : Position) (rules : IsSetup s) where
@@ -98,10 +87,10 @@ module _ (words : List ℕ) (book : List Entry) where
     })
 
     -- one that is listed
-    pub listed_before : (x : ListedSetup) (packed : PackedSetup) → Contains listed x → x.setup.ranks ≡ packed.ranks → x.setup.state ≡ packed.state → IsPacked packed s → ListsSetups words book (known ++ s ∷ []) moves listed
-    listed_before x packed c ranks state is =
+    pub listed_before : (x : ListedSetup) → Contains listed x → x.fields ≡ setup_text s → ListsSetups words book (known ++ s ∷ []) moves listed
+    listed_before x c fields =
         let w = h.sound x c in
-        let same : w.0 ≡ s = one_setup w.0 s x.setup packed (All-contains IsSetup known w.0 h.setups w.1) rules w.2.packed is ranks state in
+        let same : w.0 ≡ s = setup_of_text w.0 s x.fields (All-contains IsSetup known w.0 h.setups w.1) rules w.2.fields fields in
         record {
           setups = All-push IsSetup known s h.setups rules;
           sound = λ y k. let v = h.sound y k in (v.0, Contains-append_left known (s ∷ []) v.0 v.1, v.2);
@@ -113,14 +102,13 @@ module _ (words : List ℕ) (book : List Entry) where
         }
 
     -- one for which it has moves
-    pub one_listed : (found new : List (Moved × ℕ)) (x : ListedSetup) → new ≡ moves ++ found → Found book words s found → IsPacked x.setup s → x.first ≡ length moves → x.end ≡ length new → x.first < x.end
+    pub one_listed : (found new : List (Moved × ℕ)) (x : ListedSetup) → new ≡ moves ++ found → Found book words s found → x.fields ≡ setup_text s → x.first ≡ length moves → x.end ≡ length new → x.first < x.end
         → ListsSetups words book (known ++ s ∷ []) new (listed ++ x ∷ [])
-    one_listed found new x is has packed first end some =
+    one_listed found new x is has fields first end some =
         let within : x.end ≡ length (moves ++ found) = end ∙ ap length is in
         let here : IsListedAs words book (moves ++ found) s x = record {
-          packed = packed;
-          some = some;
-          within = omega (arith, within);
+          fields = fields;
+          has = (some, omega (arith, within));
           found = subst (Found book words s) (sym (last_range moves found x first within)) has;
         } in
         subst (λ (ms : List (Moved × ℕ)). ListsSetups words book (known ++ s ∷ []) ms (listed ++ x ∷ [])) (sym is) (record {
@@ -141,7 +129,7 @@ module _ (words : List ℕ) (book : List Entry) where
 
   -- in another order and without repeats
   pub each_once : (known : List Position) (moves : List (Moved × ℕ)) (old new : List ListedSetup) → ListsSetups words book known moves old → ((x : ListedSetup) → Contains new x → Contains old x)
-      → ((x : ListedSetup) → Contains old x → (y : ListedSetup) × Contains new y × SameSetup y x) → length new ≤ length old → ListsSetups words book known moves new
+      → ((x : ListedSetup) → Contains old x → (y : ListedSetup) × Contains new y × (y.fields ≡ x.fields)) → length new ≤ length old → ListsSetups words book known moves new
   each_once known moves old new h sound whole few = record {
     setups = h.setups;
     sound = λ x c. h.sound x (sound x c);
@@ -150,7 +138,7 @@ module _ (words : List ℕ) (book : List Entry) where
       | inr w ↦
           let y = whole w.0 w.1 in
           let v = h.sound y.0 (sound y.0 y.1) in
-          let is : v.0 ≡ s = one_setup v.0 s y.0.setup w.0.setup (All-contains IsSetup known v.0 h.setups v.1) (All-contains IsSetup known s h.setups c) v.2.packed w.2.packed y.2.ranks y.2.state in
+          let is : v.0 ≡ s = setup_of_text v.0 s y.0.fields (All-contains IsSetup known v.0 h.setups v.1) (All-contains IsSetup known s h.setups c) v.2.fields (y.2 ∙ w.2.fields) in
           inr (y.0, y.1, subst (λ (p : Position). IsListedAs words book moves p y.0) is v.2)
     ];
     few = omega (arith, h.few, few);
@@ -187,18 +175,9 @@ module _ (g : Game) (done : List Position) (s : Position) (ms : List Moved) (i :
       let none : setups_from s (drop i ms) ≡ [] = ap (setups_from s) (drop_of_length-le ms past) in
       sym (append-nil done) ∙ ap (λ xs. done ++ xs) (sym none) ∙ h.all
 
-legal_from : (s : Position) (ms : List Moved) (i : ℕ) (p : Position) (d : Moved) → AreLegal s ms → i < length ms → Legal (get_or (setups_from s ms) i p) (get_or ms i d)
-legal_from s [] i p d h lt = absurd (omega (arith, lt))
-legal_from s (m ∷ ms) zero p d h lt = h.0
-legal_from s (m ∷ ms) (suc i) p d h lt = legal_from (after s m) ms i p d h.1 (omega (arith, lt))
-
 -- as many as moves
 pub length-setups_before : (g : Game) → length (setups_before g) ≡ length g.moves
 length-setups_before g = length-map (plies g) (λ (p : Ply). p.0) ∙ length-plies_from g.start.setup g.moves
-
--- each before its move
-pub legal_at : (g : Game) (i : ℕ) (p : Position) (d : Moved) → IsLegalGame g → i < length g.moves → Legal (get_or (setups_before g) i p) (get_or g.moves i d)
-legal_at g i p d h lt = legal_from g.start.setup g.moves i p d h.legal lt
 
 -- ---- the setups of all games
 

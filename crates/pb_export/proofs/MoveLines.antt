@@ -2,15 +2,16 @@
 use Rattle.std.proofs.Common.{◌≡◌, ℕ, ◌+◌, ◌<◌, List, [], ◌∷◌, ◌++◌, Err, Ok, Result, append_assoc, append-nil, decimal, get_or, length, take, sym, ap, ◌∙◌}
 use Rattle.std.specs.Prelude.{OnOk, codes, flat_map, is_ok, if◌then◌else◌}
 use Rattle.std.proofs.lemmas.List.{flat_map_more, take_more}
+use Rattle.pb_board.specs.LineEnd.{with_end}
 use Rattle.pb_board.specs.Text.{setup_text}
 use Rattle.pb_board.specs.Position.{Position}
-use Rattle.pb_epd.proofs.Writing.{operation_put, operations_text, spaced}
+use Rattle.pb_epd.proofs.Writing.{operation_put, spaced}
 use Rattle.pb_epd.specs.Epd.{epd_form}
 use Rattle.pb_epd.specs.Operation.{operation_text}
 use Rattle.pb_moves.specs.Moved.{Moved}
 use Rattle.pb_moves.specs.Spelling.{spelling}
 use Rattle.pb_export.specs.Exporting.{move_and_weight, with_book_moves}
-use Rattle.pb_export.specs.Listing.{spaced_move}
+use Rattle.pb_export.specs.Listing.{book_line, spaced_move}
 
 -- what is written of one move more
 pub moves_more : (moves : List (Moved × ℕ)) (i : ℕ) (p : Moved × ℕ) (out half new : List ℕ) → i < length moves → p ≡ get_or moves i p
@@ -27,19 +28,12 @@ are_operands : (moves : List (Moved × ℕ)) → flat_map spaced_move moves ≡ 
 are_operands [] = λ i. []
 are_operands (p ∷ moves) = ap (λ xs. 32 ∷ xs) (append_assoc (spelling p.0) (32 ∷ decimal p.1) (flat_map spaced_move moves) ∙ ap (λ xs. spelling p.0 ++ 32 ∷ (decimal p.1 ++ xs)) (are_operands moves))
 
--- the line without its LF
-abbrev pub line_text : Position → List ℕ → List (Moved × ℕ) → List ℕ
-line_text s fields moves = fields ++ operations_text (with_book_moves s moves).operations
-
-pub line_form : (s : Position) (fields : List ℕ) (moves : List (Moved × ℕ)) → fields ≡ setup_text s → line_text s fields moves ≡ epd_form (with_book_moves s moves)
-line_form s fields moves spells = ap (λ w. line_text s w moves) spells
-
--- the fields, the opcode, the moves and the end are it
-pub line_written : (s : Position) (fields : List ℕ) (moves : List (Moved × ℕ)) → ((fields ++ codes " bkm") ++ flat_map spaced_move moves) ++ codes ";\n" ≡ line_text s fields moves ++ 10 ∷ []
-line_written s fields moves =
-    let said = flat_map spaced_move moves in
+-- the fields, the opcode, the moves and the end are the form of the record
+pub line_form : (s : Position) (moves : List (Moved × ℕ)) → book_line (setup_text s) moves ≡ with_end (epd_form (with_book_moves s moves))
+line_form s moves =
+    let fields = setup_text s in
     let operands = flat_map move_and_weight moves in
-    sym (append_assoc ((fields ++ codes " bkm") ++ said) (59 ∷ []) (10 ∷ []))
+    sym (append_assoc ((fields ++ codes " bkm") ++ flat_map spaced_move moves) (59 ∷ []) (10 ∷ []))
     ∙ ap (λ w. w ++ 10 ∷ []) (
     (λ i. (sym (append_assoc fields (32 ∷ []) (codes "bkm")) i ++ are_operands moves i) ++ 59 ∷ [])
     ∙ operation_put fields (codes "bkm") operands

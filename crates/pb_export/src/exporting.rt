@@ -1,10 +1,9 @@
 //! The book of a ledger as EPD lines.
 
-ghost use Rattle.std.specs.Prelude.{◌≡◌, ◌<◌, ◌^◌, ℕ, IfErr, IfOk, List, length};
-ghost use Rattle.pb_poly.specs.declared.entry.Entry.{Entry};
+ghost use Rattle.std.specs.Prelude.{◌≡◌, ◌<◌, ◌^◌, All, IfErr, IfOk, length};
 ghost use Rattle.pb_export.specs.Exporting.{Exports, ExportsUntil, fault_of_export};
 ghost use Rattle.pb_export.specs.Listing.{PutsFront, PutsListing};
-ghost use Rattle.pb_export.specs.Setups.{AreListed, CanBeSpelled, IsListingOfLedger, Spelled};
+ghost use Rattle.pb_export.specs.Setups.{HasMoves, IsListingOfLedger};
 ghost use Rattle.pb_export.specs.declared.exporting.ExportFault.TheVariants as fault;
 
 use crate::book_moves::put_line;
@@ -85,18 +84,20 @@ fn list_setups<T: Tally>(alloc: Global, ledger: &Ledger<T>) -> Result<Listing, A
 }
 
 fn put_lines<K: Sink>(alloc: Global, listing: &Listing, sink: &mut K) -> Result<u32, ExportFault>
-    requires listed { CanBeSpelled listing.now }
+    requires moves { All (HasMoves listing.now.moves.items) listing.now.setups.items }
     requires few { length listing.now.setups.items < 2 ^ 32 }
-    ensures ok { IfOk result (λ count. (words : List ℕ) (book : List Entry) (spelled : List Spelled)
-        → AreListed words book spelled listing.now
-        → PutsListing words book spelled (K.state sink.old) (K.state sink.new) count) }
-    ensures fault { IfErr result (λ e. (words : List ℕ) (book : List Entry) (spelled : List Spelled)
-        → AreListed words book spelled listing.now
-        → PutsFront words book spelled (K.state sink.old) (K.state sink.new) e) }
+    ensures ok { IfOk result
+        (PutsListing listing.now (K.state sink.old) (K.state sink.new)) }
+    ensures fault { IfErr result
+        (PutsFront listing.now (K.state sink.old) (K.state sink.new)) }
 {
     let mut line = Vec::new(alloc);
     for listed in listing.setups.as_slice() {
-        put_line(&mut line, &listed.setup, listing.moves_of(listed))?;
+        put_line(
+            &mut line,
+            listed.fields.as_bytes(),
+            listing.moves_of(listed),
+        )?;
         sink.put(line.as_slice())?;
     }
     Ok(listing.setups.len() as u32)

@@ -1,43 +1,39 @@
 //! The setups that stand before the moves of games and for which a book has moves.
 
-ghost use Rattle.std.specs.Prelude.{◌≡◌, ◌≤◌, ◌<◌, ◌^◌, ◌==◌, ◌++◌, ◌∷◌, [], ℕ, All, AllPairs};
-ghost use Rattle.std.specs.Prelude.{Contains, IfOk, IsTrue, MatchOption, filter, List, OnOk};
+ghost use Rattle.std.specs.Prelude.{◌≡◌, ◌≤◌, ◌<◌, ◌^◌, ◌==◌, ◌++◌, ◌∷◌, [], ℕ, All};
+ghost use Rattle.std.specs.Prelude.{Contains, IfOk, IsTrue, filter, List, OnOk};
 ghost use Rattle.std.specs.Prelude.{length, map};
-ghost use Rattle.pb_board.specs.Position.{Position};
+ghost use Rattle.pb_board.specs.Text.{setup_text};
 ghost use Rattle.pb_games.specs.Submissions.{IsLegalGame};
-ghost use Rattle.pb_moves.specs.Legal.{Legal};
 ghost use Rattle.pb_moves.specs.Moved.{Moved};
-ghost use Rattle.pb_poly.specs.Code.{HasCode};
 ghost use Rattle.pb_poly.specs.Found.{Found};
 ghost use Rattle.pb_poly.specs.declared.entry.Entry.{Entry as BookEntry};
-ghost use Rattle.pb_export.specs.Packed.{IsPacked};
 ghost use Rattle.pb_poly.specs.Key.{key as key_by};
-ghost use Rattle.pb_export.specs.Setups.{ListsSetups, SameSetup, TextBelow, all_setups, moves_of};
-ghost use Rattle.pb_export.specs.Setups.{setups_before};
+ghost use Rattle.pb_export.specs.Setups.{AddsSetups, HasMoves, InFieldOrder, ListsSetups};
+ghost use Rattle.pb_export.specs.Setups.{all_setups, moves_of, setups_before};
 ghost use Rattle.pb_export.specs.declared.setups.ListedSetup.{ListedSetup};
 
 use crate::indexed_book::IndexedBook;
-use crate::packed::PackedSetup;
 use pb_accepted::Ledger;
-use pb_board::Setup;
+use pb_board::{Fen, Setup, Text};
 use pb_games::Game;
 use pb_moves::{Move, effect_of};
 use pb_points::Tally;
-use pb_poly::{Entry, Table, code_of, key_next, key_of, move_of};
+use pb_poly::{Entry, Table, key_next, key_of, move_of};
 use std::alloc::{AllocError, Global};
 
 /// How many recent setups are noted.
 const RECENT: usize = 16_384;
 
+/// The four fields of a setup: the text of a record without its clocks, which take four bytes at
+/// least.
+type SetupText = Text<89>;
+
 /// A setup, and where its moves stand among those of all.
 #[derive(Clone, Copy)]
-#[derive_where(PartialEq, Eq)]
 pub(crate) struct ListedSetup {
-    pub(crate) setup: PackedSetup,
-    // The moves follow from the setup.
-    #[derive_where(skip)]
+    pub(crate) fields: SetupText,
     first: u32,
-    #[derive_where(skip)]
     end: u32,
 }
 
@@ -66,7 +62,7 @@ impl Listing {
     ) -> Result<Listing, AllocError>
         ensures setups { IfOk result (λ l. ListsSetups ledger.now.basis.randoms book.now
             (all_setups ledger.now.accepted) l.moves.items l.setups.items) }
-        ensures ordered { IfOk result (λ l. AllPairs TextBelow l.setups.items) }
+        ensures ordered { IfOk result (λ l. InFieldOrder l.setups.items) }
         ensures few { IfOk result (λ l. length l.setups.items < 2 ^ 32) }
     {
         let mut listing = Listing {
@@ -83,8 +79,7 @@ impl Listing {
     }
 
     pub(crate) fn moves_of(&self, listed: &ListedSetup) -> &[(Move, u16)]
-        requires some { listed.now.first < listed.now.end }
-        requires within { listed.now.end ≤ length self.now.moves.items }
+        requires { HasMoves self.now.moves.items listed.now }
         ensures { result.now ≡ moves_of self.now.moves.items listed.now }
     {
         &self.moves[listed.first as usize..listed.end as usize]
@@ -98,77 +93,39 @@ impl Listing {
         game: &Game,
     ) -> Result<(), AllocError>
         requires { IsLegalGame game.now }
-        ensures { OnOk result ((known : List Position)
-            → ListsSetups table.now book.now known self.old.moves.items self.old.setups.items
-            → ListsSetups table.now book.now (known ++ setups_before game.now) self.new.moves.items
-            self.new.setups.items) }
+        ensures { OnOk result
+            (AddsSetups table.now book.now (setups_before game.now) self.old self.new) }
     {
         let KeyedSetups { keys, setups } = keyed_setups(alloc, table, game)?;
         let firsts = book.firsts_under(alloc, &keys)?;
-        let moves = game.moves.as_slice();
         for index in 0..setups.len() {
             let key = keys[index];
-            let entries = book.under(firsts[index], key);
-            self.add_setup(entries, &setups[index], key, moves[index])?;
+            self.add_setup(book.under(firsts[index], key), &setups[index], key)?;
         }
         Ok(())
     }
 
     /// Adds the setup of a key, where one of the entries of the key is for it.
-    fn add_setup(
-        &mut self,
-        entries: &[Entry],
-        setup: &Setup,
-        key: u64,
-        played: Move,
-    ) -> Result<(), AllocError>
-        requires { Legal setup.now played }
-        ensures { OnOk result ((words : List ℕ) (book : List BookEntry) (known : List Position)
+    fn add_setup(&mut self, entries: &[Entry], setup: &Setup, key: u64) -> Result<(), AllocError>
+        ensures { OnOk result ((words : List ℕ) (book : List BookEntry)
             → key ≡ key_by words setup.now → entries.now ≡ filter (λ e. e.key == key) book
-            → ListsSetups words book known self.old.moves.items self.old.setups.items
-            → ListsSetups words book (known ++ setup.now ∷ []) self.new.moves.items
-            self.new.setups.items) }
+            → AddsSetups words book (setup.now ∷ []) self.old self.new) }
     {
         // The reader tells that the setup meets its rules.
         let _turn = setup.turn();
         if entries.is_empty() {
             return Ok(());
         }
-        let packed = PackedSetup::of(setup);
-        if self.is_recent(key, &packed) {
+        let fields = fields_of(setup);
+        if self.is_recent(key, fields.as_bytes()) {
             return Ok(());
         }
         self.note_recent(key);
-        self.add_new(packed, entries, setup, played)
-    }
-
-    /// Adds a setup that isn't known to be listed, where an entry is for it.
-    fn add_new(
-        &mut self,
-        packed: PackedSetup,
-        entries: &[Entry],
-        setup: &Setup,
-        played: Move,
-    ) -> Result<(), AllocError>
-        requires packed { IsPacked packed setup.now }
-        requires legal { Legal setup.now played }
-        ensures { OnOk result ((words : List ℕ) (book : List BookEntry) (known : List Position)
-            (key : ℕ) → key ≡ key_by words setup.now → entries.now ≡ filter (λ e. e.key == key) book
-            → ListsSetups words book known self.old.moves.items self.old.setups.items
-            → ListsSetups words book (known ++ setup.now ∷ []) self.new.moves.items
-            self.new.setups.items) }
-    {
-        // The reader tells that the setup meets its rules.
-        let _turn = setup.turn();
         let first = in_32_bits(self.moves.len())?;
-        add_moves(&mut self.moves, entries, setup, played)?;
+        add_moves(&mut self.moves, entries, setup)?;
         let end = in_32_bits(self.moves.len())?;
         if first < end {
-            self.setups.push(ListedSetup {
-                setup: packed,
-                first,
-                end,
-            })?;
+            self.setups.push(ListedSetup { fields, first, end })?;
         }
         Ok(())
     }
@@ -186,9 +143,9 @@ impl Listing {
 
     /// Whether this setup is the last noted of its key, so that one that many games meet is mostly
     /// listed once.
-    fn is_recent(&self, key: u64, packed: &PackedSetup) -> bool
+    fn is_recent(&self, key: u64, fields: &[u8]) -> bool
         ensures { IsTrue result → (x : ListedSetup) × Contains self.now.setups.items x
-            × (x.setup.ranks ≡ packed.now.ranks) × (x.setup.state ≡ packed.now.state) }
+            × (x.fields ≡ fields.now) }
     {
         let Some((noted, index)) = self.recent.get((key % RECENT as u64) as usize) else {
             return false;
@@ -197,10 +154,19 @@ impl Listing {
             return false;
         }
         match self.setups.get(*index as usize) {
-            Some(listed) => listed.setup == *packed,
+            Some(listed) => listed.fields.as_bytes() == fields,
             None => false,
         }
     }
+}
+
+fn fields_of(setup: &Setup) -> SetupText
+    ensures { result ≡ setup_text setup.now }
+{
+    // In the record they stand in front of ` 0 1`.
+    let record = Fen::with_clocks(*setup, 0, 1).text();
+    let bytes = record.as_bytes();
+    Text::of(&bytes[..bytes.len() - 4])
 }
 
 fn keyed_setups(alloc: Global, table: &Table, game: &Game) -> Result<KeyedSetups, AllocError>
@@ -240,47 +206,31 @@ fn in_32_bits(count: usize) -> Result<u32, AllocError>
     }
 }
 
-/// Adds the moves of the entries. The one that a game plays is known, and isn't looked for.
+/// Adds the moves of the entries.
 fn add_moves(
     moves: &mut Vec<(Move, u16)>,
     entries: &[Entry],
     setup: &Setup,
-    played: Move,
 ) -> Result<(), AllocError>
-    requires { Legal setup.now played }
     ensures { OnOk result ((words : List ℕ) → All (λ e. e.key ≡ key_by words setup.now) entries.now
         → (found : List (Moved × ℕ)) × Found entries.now words setup.now found
         × (moves.new.items ≡ moves.old.items ++ found)) }
 {
-    let played_code = code_of(setup, played);
     for entry in entries {
-        if let Some(m) = move_by(setup, entry.code, played, played_code) {
+        if let Some(m) = move_of(setup, entry.code) {
             moves.push((m, entry.weight))?;
         }
     }
     Ok(())
 }
 
-#[inline(always)]
-fn move_by(setup: &Setup, code: u16, known: Move, known_code: u16) -> Option<Move>
-    requires { HasCode setup.now known known_code }
-    ensures { MatchOption result ((m : Moved) → ¬ HasCode setup.now m code)
-        (λ m. HasCode setup.now m code) }
-{
-    if code == known_code {
-        Some(known)
-    } else {
-        move_of(setup, code)
-    }
-}
-
 fn put_in_order(setups: &mut Vec<ListedSetup>)
-    ensures ordered { AllPairs TextBelow setups.new.items }
+    ensures ordered { InFieldOrder setups.new.items }
     ensures sound { (x : ListedSetup) → Contains setups.new.items x → Contains setups.old.items x }
     ensures whole { (x : ListedSetup) → Contains setups.old.items x
-        → (y : ListedSetup) × Contains setups.new.items y × SameSetup y x }
+        → (y : ListedSetup) × Contains setups.new.items y × (y.fields ≡ x.fields) }
     ensures few { length setups.new.items ≤ length setups.old.items }
 {
-    setups.sort_unstable_by(|one, other| one.setup.order(&other.setup));
-    setups.dedup();
+    setups.sort_unstable_by(|one, other| one.fields.as_bytes().cmp(other.fields.as_bytes()));
+    setups.dedup_by(|next, one| next.fields.as_bytes() == one.fields.as_bytes());
 }

@@ -25,10 +25,10 @@ loop-entry-preserved c =
     let entries : List Entry = c.args.entries.now in
     let i = c.loop-entry.entry-index in
     let old = c.args.moves.now.items in
-    elim c.match-move_by.branch [
+    elim c.match-move_of.branch [
       | in-Some+in_ok-push w ↦ λ words all.
           one_more words s entries i _ old c.loop-entry.moves.items _ c.loop-entry-test.true (c.loop-entry.invariant words all) _
-          (Found-here words s _ w.in-Some.m (record { key_is = all i _ c.loop-entry-test.true; has_code = w.in-Some.ensures }))
+          (Found-here words s _ w.in-Some.m (record { key_is = all i _ c.loop-entry-test.true; has_code = w.in-Some.ensures.0 }))
           (ap (λ v. v.items) w.moves-is ∙ w.in_ok-push.ensures.items)
       | in_default w ↦ λ words all.
           no_more words s entries i _ old c.loop-entry.moves.items _ c.loop-entry-test.true (c.loop-entry.invariant words all)

@@ -2,10 +2,7 @@ use Rattle.std.proofs.Common.{◌≡◌, ℕ, ◌<◌, List, ◌++◌, ◌∷◌
 use Rattle.std.proofs.lemmas.List.{get_or-map, get_or_read, length-map, take_all, take_more}
 use Rattle.pb_board.specs.Position.{Position}
 use Rattle.pb_poly.specs.Key.{key}
-use Rattle.pb_moves.specs.Legal.{Legal}
-use Rattle.pb_moves.specs.Moved.{Moved}
-use Rattle.pb_export.specs.Setups.{ListsSetups, setups_before}
-use Rattle.pb_export.proofs.ListedSetups.{legal_at, length-setups_before}
+use Rattle.pb_export.specs.Setups.{ListsSetups}
 use Rattle.pb_export.proofs.setups.Listing.add_game.Goals as goal
 
 pub loop-index-preserved : goal.loop-index-preserved
@@ -24,24 +21,7 @@ loop-index-preserved c = λ known lists.
     let key_is : k ≡ key words s = get_or_read keys i k (omega (arith, lt, many)) c.index-key.ensures 0 ∙ ap (λ (ks : List ℕ). get_or ks i 0) keys_are ∙ get_or-map (key words) setups i s 0 lt ∙ ap (key words) (sym here) in
     let more : take (i + 1) setups ≡ take i setups ++ s ∷ [] = take_more setups i s lt ∙ ap (λ (p : Position). take i setups ++ p ∷ []) (sym here) in
     subst (λ (xs : List Position). ListsSetups words book xs c.add_setup.new.self.moves.items c.add_setup.new.self.setups.items) (append_assoc known (take i setups) (s ∷ []) ∙ ap (λ xs. known ++ xs) (sym more))
-    (c.in_ok-add_setup.ensures words book (known ++ take i setups) key_is c.under-entries.ensures (c.loop-index.invariant known lists))
-
-pub bounds-moves-index : goal.bounds-moves-index
-bounds-moves-index c =
-    omega (arith, c.loop-index-test.true, c.len-index-end.ensures, ap length c.in_ok-keys.ensures.setups, length-setups_before c.args.game.now, ap length c.as_slice-moves.ensures)
-
-pub add_setup-requires : goal.add_setup-requires
-add_setup-requires c =
-    let game = c.args.game.now in
-    let setups : List Position = c.in_ok-keys.field-0.setups.items in
-    let i = c.loop-index.index in
-    let s = c.index-in-loop-index.result.now in
-    let m = c.index-moves-index.result in
-    let lt : i < length setups = omega (arith, c.loop-index-test.true, c.len-index-end.ensures) in
-    let before : s ≡ get_or (setups_before game) i s = get_or_read setups i s lt c.index-in-loop-index.ensures s ∙ ap (λ (xs : List Position). get_or xs i s) c.in_ok-keys.ensures.setups in
-    let played : m ≡ get_or game.moves i m = c.index-moves-index.is ∙ ap (λ (ms : List Moved). get_or ms i m) c.as_slice-moves.ensures in
-    let legal = legal_at game i s m c.requires (omega (arith, lt, ap length c.in_ok-keys.ensures.setups, length-setups_before game)) in
-    subst (Legal s) (sym played) (subst (λ (p : Position). Legal p (get_or game.moves i m)) (sym before) legal)
+    (c.in_ok-add_setup.ensures words book key_is c.under.ensures (known ++ take i setups) (c.loop-index.invariant known lists))
 
 pub returns : goal.returns
 returns c = λ known lists.
