@@ -4,9 +4,8 @@ ghost use Rattle.std.specs.Prelude.{◌≡◌, ◌≢◌, ℕ, ◌<◌, ◌↔�
 ghost use Rattle.pb_board.specs.declared.piece.Kind.TheVariants.{Pawn, Bishop, Rook};
 ghost use Rattle.pb_board.specs.Board.{Board};
 ghost use Rattle.pb_moves.specs.Attackers.{In};
-ghost use Rattle.pb_moves.specs.Attacks.{Pattern, files_apart, ranks_apart};
+ghost use Rattle.pb_moves.specs.Attacks.{Attacks, Pattern, files_apart, ranks_apart};
 ghost use Rattle.pb_moves.specs.Candidate.{GoesTo, MayTarget, row_of};
-ghost use Rattle.pb_moves.specs.Reach.{Reaches};
 
 use crate::board::is_empty;
 use crate::rays::{between, has};
@@ -77,7 +76,7 @@ pub(crate) fn reaches(piece: Piece, setup: &Setup, from: Square, to: Square) -> 
 #[inline(always)]
 pub(crate) fn pawn_takes(pawn: Piece, from: Square, to: Square) -> bool
     requires { pawn.kind ≡ Pawn }
-    ensures { (b : Board) → IsTrue result ↔ Reaches pawn b from to }
+    ensures { (b : Board) → IsTrue result ↔ Attacks pawn.colour pawn.kind b from to }
 {
     has(targets(pawn, from) & pattern(Kind::Bishop, from), to)
 }

@@ -9,7 +9,7 @@ use Rattle.pb_board.specs.Board.{Place, Holds, at}
 use Rattle.pb_board.specs.Piece.{king_of, opponent, piece_of}
 use Rattle.pb_moves.specs.Attackers.{In}
 use Rattle.pb_moves.proofs.Changing.{own_differs}
-use Rattle.pb_moves.proofs.SameAttacks.{untold}
+use Rattle.pb_moves.proofs.Lines.{untold}
 use Rattle.pb_moves.proofs.Sets.{in_first, in_or, in_second}
 use Rattle.pb_moves.proofs.board.is_target.Goals as goal
 
