@@ -26,8 +26,8 @@ fn row(piece: Piece) -> usize
     }
 }
 
-/// Where the piece may go from the square on an empty board, and a pawn also by a capture. Which kind
-/// it is can't be foretold, so no branch is made of it.
+/// Where the piece may go from the square on an empty board, and a pawn also by a capture. Which
+/// kind it is can't be foretold, so no branch is made of it.
 #[inline(always)]
 pub(crate) fn targets(piece: Piece, from: Square) -> u64
     ensures squares { (to : ℕ) → to < 64

@@ -62,8 +62,8 @@ fn may_promote(kind: Kind, to: Square) -> bool
 
 impl<'a> Lister<'a> {
     fn push_from(&self, from: Square, moves: &mut Vec<Move>) -> Result<(), AllocError>
-        requires seen { IsSight self.now.setup.now.board self.now.setup.now.board (opponent self.now.setup.now.turn)
-            self.now.enemy }
+        requires seen { IsSight self.now.setup.now.board self.now.setup.now.board
+            (opponent self.now.setup.now.turn) self.now.enemy }
         requires own { AreOwn self.now.own self.now.setup.now }
         requires before { ListsBelow self.now.setup.now moves.old.items (320 * from) }
         ensures { OnOk result (ListsBelow self.now.setup.now moves.new.items (320 * from + 320)) }
