@@ -12,9 +12,8 @@ ghost use Rattle.pb_moves.specs.Attacks.{IsAttacked};
 ghost use Rattle.pb_moves.specs.Attackers.{In, IsSight};
 ghost use Rattle.pb_moves.specs.Candidate.{Points};
 
-use crate::attack::{pattern, targets};
+use crate::attack::{between, pattern, targets};
 use crate::board::square_at;
-use crate::rays::between;
 use pb_board::{Colour, Kind, Piece, Setup, Square};
 
 /// The squares of all pieces and those of the attackers, on a setup's board or after a move of the

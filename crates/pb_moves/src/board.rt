@@ -3,11 +3,19 @@
 ghost use Rattle.std.specs.Prelude.{◌≡◌, ◌<◌, ◌⊎◌, ◌↔◌, IsTrue};
 ghost use Rattle.pb_board.specs.Board.{Holds, IsEmpty};
 ghost use Rattle.pb_board.specs.Position.{IsSetup};
+ghost use Rattle.pb_moves.specs.Attackers.{In};
 ghost use Rattle.pb_moves.specs.Candidate.{AreOwn};
 ghost use Rattle.pb_moves.specs.Cases.{IsCapturable};
 
-use crate::rays::has;
 use pb_board::{Colour, Kind, Piece, Setup, Square};
+
+#[inline(always)]
+pub(crate) fn has(set: u64, square: Square) -> bool
+    ensures inside { IsTrue result ↔ In set square }
+    ensures on_board { square < 64 }
+{
+    set >> square.index() & 1 == 1
+}
 
 #[inline(always)]
 pub(crate) fn square_at(index: u8) -> Square

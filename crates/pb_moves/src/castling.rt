@@ -12,11 +12,11 @@ ghost use Rattle.pb_moves.specs.Cases.{Castles};
 ghost use Rattle.pb_moves.specs.Candidate.{HoldsOwn};
 ghost use Rattle.pb_moves.specs.MoveKind.{Finds};
 
+use crate::attack::between;
 use crate::board::holds;
 use crate::check::attacked;
 use crate::move_kind::MoveKind;
 use crate::moves::Move;
-use crate::rays::between;
 use pb_board::{Castling, Kind, MovedPiece, Piece, Setup};
 
 fn way_is_clear(castling: Castling, setup: &Setup) -> bool

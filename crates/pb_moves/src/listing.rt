@@ -9,12 +9,11 @@ ghost use Rattle.pb_moves.specs.Unpinned.{IsUnpinned};
 ghost use Rattle.pb_moves.specs.Attackers.{IsSight};
 ghost use Rattle.pb_moves.specs.Candidate.{AreOwn, HoldsOwn, MayPromote, ListsBelow};
 
+use crate::attack::candidates;
 use crate::attackers::{Sight, sight_of};
-use crate::board::{own_squares, square_at};
-use crate::candidates::candidates;
+use crate::board::{has, own_squares, square_at};
 use crate::legal::{is_legal_for, is_unpinned, own_piece};
 use crate::moves::Move;
-use crate::rays::has;
 use pb_board::{Kind, Piece, Setup, Square};
 use std::alloc::{AllocError, Global};
 
