@@ -9,7 +9,6 @@ ghost use Rattle.pb_board.specs.Position.{IsOnlyKing, IsSetup};
 ghost use Rattle.pb_moves.specs.Candidate.{HoldsOwn};
 ghost use Rattle.pb_moves.specs.Cases.{CaseOf, SafeCase, UnusualMove};
 ghost use Rattle.pb_moves.specs.MoveKind.{Finds, Fits, LeadsTo, board_by};
-ghost use Rattle.pb_moves.specs.Moved.{Moved};
 ghost use Rattle.pb_moves.specs.Attackers.{IsSight};
 ghost use Rattle.pb_moves.specs.Unpinned.{IsUnpinned};
 
