@@ -6,8 +6,7 @@ use Rattle.pb_board.specs.declared.piece.Kind.{Kind}
 use Rattle.pb_board.specs.declared.piece.Kind.TheVariants.{Bishop, Rook, Queen}
 use Rattle.pb_moves.specs.Attackers.{In}
 use Rattle.pb_moves.specs.Attacks.{IsBetween, Pattern, files_apart, ranks_apart}
-use Rattle.pb_moves.specs.Reach.{LiesBetween, IsDiagonal, IsOrthogonal}
-use Rattle.pb_moves.proofs.SameAttacks.{between_from, between_to, queen_from, straight_from, straight_to}
+use Rattle.pb_moves.proofs.Lines.{IsDiagonal, IsOrthogonal, LiesBetween, between_from, between_to, queen_from, straight_from, straight_to}
 use Rattle.pb_moves.proofs.Sets.{in_and, in_both, in_first, in_one, in_or, in_second, of_one}
 use Rattle.pb_moves.proofs.Targets.{up_from, up_tells}
 

@@ -15,7 +15,7 @@ use Rattle.pb_board.specs.MovedPiece.{with_moved, with_two_moved}
 use Rattle.pb_board.specs.Position.{Position, IsSetup, beyond, with_piece_moved}
 use Rattle.pb_board.specs.declared.castling.Castling.{Castling}
 use Rattle.pb_board.specs.Castling.{castling_row}
-use Rattle.pb_moves.specs.Attacks.{files_apart, ranks_apart}
+use Rattle.pb_moves.specs.Attacks.{Attacks, files_apart, ranks_apart}
 use Rattle.pb_moves.specs.Candidate.{HoldsOwn}
 use Rattle.pb_moves.specs.Castling.{RowAllows, rook_goes}
 use Rattle.pb_moves.specs.Cases.{Becomes, Castles, EnPassant, Goes, last_rank}
@@ -23,7 +23,6 @@ use Rattle.pb_moves.specs.Successor.{Differs}
 use Rattle.pb_moves.specs.declared.move_kind.MoveKind.TheVariants.{Two}
 use Rattle.pb_moves.specs.MoveKind.{LeadsTo}
 use Rattle.pb_moves.specs.Moved.{Moved, IsMove}
-use Rattle.pb_moves.specs.Reach.{Reaches}
 use Rattle.pb_moves.proofs.MovedPiece.{put}
 use Rattle.pb_moves.proofs.Castlings.{rows}
 use Rattle.pb_moves.proofs.Differing.{All-two, at_put_other, at_put_same, carried_put, differs_put, length_put, lifted_put, off_one, off_two}
@@ -93,7 +92,7 @@ passes_unpromoted s m pawn new ok x =
     ]
 
 pub takes_past : (s : Position) (m : Moved) (pawn : Piece) (from to gone : ℕ) → IsSetup s → IsMove m → HoldsOwn s m.from pawn → pawn.kind ≡ Pawn
-    → m.promo ≡ None → s.ep ≡ Some m.to → Reaches pawn s.board m.from m.to → from ≡ m.from → to ≡ m.to → gone ≡ 8 * rank m.from + file m.to
+    → m.promo ≡ None → s.ep ≡ Some m.to → Attacks pawn.colour pawn.kind s.board m.from m.to → from ≡ m.from → to ≡ m.to → gone ≡ 8 * rank m.from + file m.to
     → LeadsTo (EnPassant s m pawn) s m (Two (going from gone pawn) (going gone to pawn))
 takes_past s m pawn from to gone ok is own is_pawn none square reaches from_is to_is gone_is =
     let side = s.turn in

@@ -7,10 +7,10 @@ use Rattle.pb_board.specs.declared.piece.Colour.TheVariants.{White, Black}
 use Rattle.pb_board.specs.declared.castling.Castling.{Castling}
 use Rattle.pb_board.specs.declared.castling.Castling.TheVariants.{WhiteShort, WhiteLong, BlackShort, BlackLong}
 use Rattle.pb_board.specs.Castling.{CastlingRow, castling_from_home, castling_of, castling_row, castlings}
-use Rattle.pb_moves.specs.Attacks.{files_apart}
+use Rattle.pb_moves.specs.Attacks.{IsBetween, Pattern, files_apart, ranks_apart}
 use Rattle.pb_moves.specs.Moved.{Moved, moved_of}
 use Rattle.pb_moves.specs.Successor.{is_castling, rook_home}
-use Rattle.pb_moves.specs.Reach.{LiesBetween, IsOrthogonal}
+use Rattle.pb_board.specs.declared.piece.Kind.TheVariants.{Rook}
 
 -- the four squares of a row lie on the board and differ, and king and rook go between where they
 -- began
@@ -25,9 +25,9 @@ pub record IsRow (row : CastlingRow) : Type 0 where
   pub to_rook : row.king_to ≢ row.rook_from
   pub to_rook_to : row.king_to ≢ row.rook_to
   pub rook_moves : row.rook_from ≢ row.rook_to
-  pub orthogonal : IsOrthogonal row.rook_from row.king_from
-  pub king_crosses : LiesBetween row.king_from row.king_to row.rook_from
-  pub rook_crosses : LiesBetween row.king_from row.rook_to row.rook_from
+  pub line : Pattern Rook (files_apart row.king_from row.rook_from) (ranks_apart row.king_from row.rook_from)
+  pub king_crosses : IsBetween row.king_from row.king_to row.rook_from
+  pub rook_crosses : IsBetween row.king_from row.rook_to row.rook_from
 
 pub rows : (c : Castling) → IsRow (castling_row c)
 rows WhiteShort = record {
@@ -41,11 +41,11 @@ rows WhiteShort = record {
   to_rook = λ e. omega arith;
   to_rook_to = λ e. omega arith;
   rook_moves = λ e. omega arith;
-  orthogonal = inr (omega arith, omega arith);
-  king_crosses = record { not_first = λ e. omega arith; not_last = λ e. omega arith; files = refl; ranks = refl; on_diagonal = λ d. absurd (omega arith) };
-  rook_crosses = record { not_first = λ e. omega arith; not_last = λ e. omega arith; files = refl; ranks = refl; on_diagonal = λ d. absurd (omega arith) };
+  line = (refl, omega arith);
+  king_crosses = ((λ e. omega arith), (λ e. omega arith), refl, refl, refl);
+  rook_crosses = ((λ e. omega arith), (λ e. omega arith), refl, refl, refl);
 }
-rows c = record {
+rows WhiteLong = record {
   king_from = omega arith;
   king_to = omega arith;
   rook_from = omega arith;
@@ -56,9 +56,39 @@ rows c = record {
   to_rook = λ e. omega arith;
   to_rook_to = λ e. omega arith;
   rook_moves = λ e. omega arith;
-  orthogonal = inr (omega arith, omega arith);
-  king_crosses = record { not_first = λ e. omega arith; not_last = λ e. omega arith; files = refl; ranks = refl; on_diagonal = λ d. absurd (omega arith) };
-  rook_crosses = record { not_first = λ e. omega arith; not_last = λ e. omega arith; files = refl; ranks = refl; on_diagonal = λ d. absurd (omega arith) };
+  line = (refl, omega arith);
+  king_crosses = ((λ e. omega arith), (λ e. omega arith), refl, refl, refl);
+  rook_crosses = ((λ e. omega arith), (λ e. omega arith), refl, refl, refl);
+}
+rows BlackShort = record {
+  king_from = omega arith;
+  king_to = omega arith;
+  rook_from = omega arith;
+  rook_to = omega arith;
+  king_moves = λ e. omega arith;
+  from_rook = λ e. omega arith;
+  from_rook_to = λ e. omega arith;
+  to_rook = λ e. omega arith;
+  to_rook_to = λ e. omega arith;
+  rook_moves = λ e. omega arith;
+  line = (refl, omega arith);
+  king_crosses = ((λ e. omega arith), (λ e. omega arith), refl, refl, refl);
+  rook_crosses = ((λ e. omega arith), (λ e. omega arith), refl, refl, refl);
+}
+rows BlackLong = record {
+  king_from = omega arith;
+  king_to = omega arith;
+  rook_from = omega arith;
+  rook_to = omega arith;
+  king_moves = λ e. omega arith;
+  from_rook = λ e. omega arith;
+  from_rook_to = λ e. omega arith;
+  to_rook = λ e. omega arith;
+  to_rook_to = λ e. omega arith;
+  rook_moves = λ e. omega arith;
+  line = (refl, omega arith);
+  king_crosses = ((λ e. omega arith), (λ e. omega arith), refl, refl, refl);
+  rook_crosses = ((λ e. omega arith), (λ e. omega arith), refl, refl, refl);
 }
 
 pub class_of_castling : (c : Castling) (f t : ℕ) → f ≡ (castling_row c).king_from → t ≡ (castling_row c).king_to → files_apart f t ≡ 2

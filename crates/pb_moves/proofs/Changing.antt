@@ -13,8 +13,7 @@ use Rattle.pb_moves.specs.declared.move_kind.MoveKind.TheVariants.{Two}
 use Rattle.pb_moves.specs.declared.attackers.Sight.{Sight}
 use Rattle.pb_moves.specs.Moved.{Moved, IsMove}
 use Rattle.pb_moves.specs.MoveKind.{CanGo, Fits, LeadsTo, board_by}
-use Rattle.pb_moves.specs.Attacks.{IsAttacked}
-use Rattle.pb_moves.specs.Reach.{IsReached, KingInReach}
+use Rattle.pb_moves.specs.Attacks.{InCheck, IsAttacked}
 use Rattle.pb_moves.specs.Candidate.{HoldsOwn}
 use Rattle.pb_moves.specs.Cases.{CaseOf, SafeCase}
 use Rattle.pb_moves.specs.Successor.{Differs}
@@ -22,7 +21,6 @@ use Rattle.pb_moves.specs.Attackers.{IsSight}
 use Rattle.pb_moves.proofs.Differing.{carried_put, holds_on_board, length_put}
 use Rattle.pb_moves.proofs.Legality.{not_legal_in_check, legal_out_of_check}
 use Rattle.pb_moves.proofs.Pins.{differ}
-use Rattle.pb_moves.proofs.SameAttacks.{attacked_from, attacked_to}
 
 pub own_differs : (side enemy colour : Colour) → enemy ≡ opponent side → colour ≡ side → colour ≢ enemy
 own_differs side enemy colour e c same =
@@ -62,20 +60,20 @@ sees_two s first second seen one two ok fits sees there on =
     sees_going s between second one two full fits.1 (sees_going s s.board first seen one ok.places fits.0 sees there) on
 
 -- the king's square is attacked just where the side is in check
-check_by_attack : (new : Board) (side enemy : Colour) (king : ℕ) → enemy ≡ opponent side → IsOnlyKing new side king → IsReached new enemy king → KingInReach new side
+check_by_attack : (new : Board) (side enemy : Colour) (king : ℕ) → enemy ≡ opponent side → IsOnlyKing new side king → IsAttacked new enemy king → InCheck new side
 check_by_attack new side enemy king e only attack =
-    let P : Colour → Type 0 = λ x. IsReached new x king in
-    (king, record { stands = (only king).1 refl; attacked = subst P e attack })
+    let P : Colour → Type 0 = λ x. IsAttacked new x king in
+    (king, (only king).1 refl, subst P e attack)
 
-attack_by_check : (new : Board) (side enemy : Colour) (king : ℕ) → enemy ≡ opponent side → IsOnlyKing new side king → KingInReach new side → IsReached new enemy king
+attack_by_check : (new : Board) (side enemy : Colour) (king : ℕ) → enemy ≡ opponent side → IsOnlyKing new side king → InCheck new side → IsAttacked new enemy king
 attack_by_check new side enemy king e only check =
-    let P : Colour → Type 0 = λ x. IsReached new x king in
-    let K : ℕ → Type 0 = λ x. IsReached new (opponent side) x in
-    subst P (sym e) (subst K ((only check.0).0 check.1.stands) check.1.attacked)
+    let P : Colour → Type 0 = λ x. IsAttacked new x king in
+    let K : ℕ → Type 0 = λ x. IsAttacked new (opponent side) x in
+    subst P (sym e) (subst K ((only check.0).0 check.1) check.2)
 
 -- the mover is safe, and the move legal, just where the test finds no attack on its king
 test_tells : (s : Position) (m : Moved) (piece : Piece) (new : Board) (enemy : Colour) (king : ℕ) (hit : Bool) → IsSetup s → HoldsOwn s m.from piece → CaseOf s m piece new
-    → enemy ≡ opponent s.turn → IsOnlyKing new s.turn king → (IsTrue hit ↔ IsReached new enemy king) → (IsTrue (not hit) ↔ SafeCase s m)
+    → enemy ≡ opponent s.turn → IsOnlyKing new s.turn king → (IsTrue hit ↔ IsAttacked new enemy king) → (IsTrue (not hit) ↔ SafeCase s m)
 test_tells s m piece new enemy king true ok own case e only tells = (
   λ h. absurd (false≢true h),
   λ legal. absurd (not_legal_in_check s m new piece ok own case (check_by_attack new s.turn enemy king e only (tells.0 refl)) legal),
@@ -93,6 +91,4 @@ safe_test s m piece kind side enemy king sight hit ok own leads same e only sees
     let new = board_by kind m s.board in
     let other : enemy ≡ opponent s.turn = e ∙ ap opponent same in
     let S : Colour → Type 0 = λ x. IsSight s.board new x sight in
-    let told = tells new (subst S (sym other) sees) in
-    test_tells s m piece new enemy king hit ok own leads.1 other (only new leads.1)
-    ((λ h. attacked_from new enemy king (told.0 h)), λ reached. told.1 (attacked_to new enemy king reached))
+    test_tells s m piece new enemy king hit ok own leads.1 other (only new leads.1) (tells new (subst S (sym other) sees))

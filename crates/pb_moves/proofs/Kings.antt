@@ -12,7 +12,7 @@ use Rattle.pb_board.specs.Board.{Board, Place, file, rank, Holds, IsEmpty, IsFor
 use Rattle.pb_board.specs.Position.{Position, IsSetup, IsOnlyKing, HasKings, beyond}
 use Rattle.pb_board.specs.declared.castling.Castling.{Castling}
 use Rattle.pb_board.proofs.Kings.{both_kings, only_king}
-use Rattle.pb_moves.specs.Reach.{ReachesBy}
+use Rattle.pb_moves.specs.Attacks.{Attacks}
 use Rattle.pb_moves.specs.Moved.{Moved}
 use Rattle.pb_board.specs.Castling.{CastlingRow, castling_row}
 use Rattle.pb_moves.specs.Castling.{rook_goes, RowAllows}
@@ -104,9 +104,8 @@ some_one p q e = cc
 pub empty_at : (board : Board) (q r : ℕ) → q ≡ r → IsEmpty board q → IsEmpty board r
 empty_at board q r e empty = let P : ℕ → Type 0 = λ k. IsEmpty board k in subst P e empty
 
-pub pawn_reach : (colour : Colour) (kind : Kind) (board : Board) (a b : ℕ) → ReachesBy colour kind board a b → kind ≡ Pawn → IsForward colour 1 a b
-pawn_reach colour Pawn board a b r e = r.1
-pawn_reach colour k board a b r e = absurd (cc)
+pub pawn_reach : (colour : Colour) (kind : Kind) (board : Board) (a b : ℕ) → Attacks colour kind board a b → kind ≡ Pawn → IsForward colour 1 a b
+pawn_reach _ _ board a b r e = r.1 e
 
 -- the pawn that is taken en passant stands beyond the square that it stepped over
 pub gone_is_beyond : (side : Colour) (from to gone : ℕ) → IsForward side 1 from to → file gone ≡ file to → rank gone ≡ rank from → gone ≡ beyond side to

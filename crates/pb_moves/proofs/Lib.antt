@@ -13,7 +13,7 @@ pub mod Kept
 pub mod Legality
 pub mod LegalMoves
 pub mod Successors
-pub mod SameAttacks
+pub mod Lines
 pub mod SameCastling
 pub mod SameMoves
 pub mod Aiming

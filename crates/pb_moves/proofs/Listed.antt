@@ -17,7 +17,6 @@ use Rattle.std.specs.Int.{bit_at, trailing_zeros}
 use Rattle.pb_moves.proofs.Pins.{differ}
 use Rattle.pb_moves.proofs.Kings.{castling_unpinned, holds_one}
 use Rattle.pb_moves.proofs.Legality.{case_at}
-use Rattle.pb_moves.proofs.SameAttacks.{attacks_to}
 use Rattle.pb_moves.proofs.SameMoves.{first_rank, legal_from, legal_to}
 use Rattle.pb_moves.specs.Legal.{Legal}
 use Rattle.pb_moves.proofs.Unique.{goes_of}
@@ -124,9 +123,9 @@ castling_goes c colour a b _ e f g = inr (e, omega arith, omega arith)
 -- a piece goes only where its kind may
 pub case_goes : (s : Position) (m : Moved) (p : Piece) (b : Board) → p.colour ≡ s.turn → CaseOf s m p b → MayGo p.colour p.kind m.from m.to
 case_goes s m p b own (castles c x) = castling_goes c p.colour m.from m.to p.kind x.king x.from_home x.to_table
-case_goes s m p b own (en_passant x) = let h = attacks_to p.colour p.kind s.board m.from m.to x.reaches in inl (inl (h.0, h.1))
-case_goes s m p b own (piece_move x) = let h = attacks_to p.colour p.kind s.board m.from m.to x.reaches in inl (inl (h.0, h.1))
-case_goes s m p b own (pawn_capture x) = let h = attacks_to p.colour p.kind s.board m.from m.to x.reaches in inl (inl (h.0, h.1))
+case_goes s m p b own (en_passant x) = inl (inl (x.reaches.0, x.reaches.1))
+case_goes s m p b own (piece_move x) = inl (inl (x.reaches.0, x.reaches.1))
+case_goes s m p b own (pawn_capture x) = inl (inl (x.reaches.0, x.reaches.1))
 case_goes s m p b own (pawn_step x) = inl (inr (x.pawn, subst (λ (side : Colour). Steps side m.from m.to) (sym own) (x.same_file, inl x.forward)))
 case_goes s m p b own (pawn_double x) = inl (inr (x.pawn, subst (λ (side : Colour). Steps side m.from m.to) (sym own) (x.same_file, inr (first_rank s.turn m.from x.begins, x.forward))))
 

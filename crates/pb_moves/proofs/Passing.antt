@@ -1,11 +1,11 @@
 -- The square that a double step crosses, told by the case.
-use Rattle.std.proofs.Common.{◌≡◌, ℕ, ◌+◌, ◌/◌, ◌<◌, arith, Option, Some, None}
+use Rattle.std.proofs.Common.{◌≡◌, ℕ, ◌+◌, ◌*◌, ◌/◌, ◌<◌, arith, Option, Some, None}
 use Rattle.pb_board.specs.declared.piece.Colour.{Colour}
 use Rattle.pb_board.specs.declared.piece.Colour.TheVariants.{White, Black}
 use Rattle.pb_board.specs.declared.piece.Piece.{Piece}
 use Rattle.pb_board.specs.Board.{Board, file, IsEmpty, IsForward}
 use Rattle.pb_board.specs.Position.{Position}
-use Rattle.pb_moves.specs.Reach.{WayIsClear, LiesBetween}
+use Rattle.pb_moves.specs.Attacks.{Clear, IsBetween, files_apart, ranks_apart}
 use Rattle.pb_moves.specs.Moved.{Moved}
 use Rattle.pb_moves.specs.Cases.{CaseOf, pawn_double}
 
@@ -14,20 +14,23 @@ abbrev pub crossed : (s : Position) (m : Moved) (piece : Piece) (new : Board) �
 crossed s m piece new (pawn_double x) = Some ((m.from + m.to) / 2)
 crossed s m piece new _ = None
 
+none_aside : (f m r n : ℕ) → f ≡ 0 → n ≡ 0 → f * m ≡ r * n
+none_aside f m r n e k = rw (e, k) (omega arith)
+
 -- half way of two ranks lies between, and nothing else does
 pub halfway_between : (side : Colour) (from to : ℕ) → file to ≡ file from → IsForward side 2 from to
-    → LiesBetween from ((from + to) / 2) to × (file ((from + to) / 2) ≡ file from) × IsForward side 1 from ((from + to) / 2)
+    → IsBetween from ((from + to) / 2) to × (file ((from + to) / 2) ≡ file from) × IsForward side 1 from ((from + to) / 2)
 halfway_between White from to same forward = (
-  record { not_first = λ e. omega arith; not_last = λ e. omega arith; files = omega arith; ranks = omega arith; on_diagonal = λ d. absurd (omega arith) },
+  ((λ e. omega arith), (λ e. omega arith), omega arith, omega arith, none_aside (files_apart from ((from + to) / 2)) (ranks_apart from to) (ranks_apart from ((from + to) / 2)) (files_apart from to) (omega arith) (omega arith)),
   omega arith,
   omega arith,
 )
 halfway_between Black from to same forward = (
-  record { not_first = λ e. omega arith; not_last = λ e. omega arith; files = omega arith; ranks = omega arith; on_diagonal = λ d. absurd (omega arith) },
+  ((λ e. omega arith), (λ e. omega arith), omega arith, omega arith, none_aside (files_apart from ((from + to) / 2)) (ranks_apart from to) (ranks_apart from ((from + to) / 2)) (files_apart from to) (omega arith) (omega arith)),
   omega arith,
   omega arith,
 )
 
 -- the square that a pawn crosses is empty where the way is clear
-pub halfway_empty : (s : Position) (from to : ℕ) → from < 64 → to < 64 → LiesBetween from ((from + to) / 2) to → WayIsClear s.board from to → IsEmpty s.board ((from + to) / 2)
+pub halfway_empty : (s : Position) (from to : ℕ) → from < 64 → to < 64 → IsBetween from ((from + to) / 2) to → Clear s.board from to → IsEmpty s.board ((from + to) / 2)
 halfway_empty s from to on_from on_to between way = way ((from + to) / 2) (omega arith) between

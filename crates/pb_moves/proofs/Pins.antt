@@ -3,12 +3,11 @@ use Rattle.std.proofs.Common.{◌≡◌, ◌≢◌, ℕ, arith, inl, inr, Some, 
 use Rattle.pb_board.specs.declared.piece.Colour.{Colour}
 use Rattle.pb_board.specs.declared.piece.Colour.TheVariants.{White, Black}
 use Rattle.pb_board.specs.declared.piece.Kind.{Kind}
-use Rattle.pb_board.specs.declared.piece.Kind.TheVariants.{Pawn, Knight, Bishop, Rook, Queen, King}
 use Rattle.pb_board.specs.declared.piece.Piece.{Piece}
-use Rattle.pb_board.specs.Piece.{opponent}
+use Rattle.pb_board.specs.Piece.{opponent, piece_of}
 use Rattle.pb_board.specs.Board.{Board, IsEmpty}
 use Rattle.pb_board.specs.Position.{Position}
-use Rattle.pb_moves.specs.Reach.{WayIsClear, ReachesBy, IsReached}
+use Rattle.pb_moves.specs.Attacks.{Attacks, Clear, IsAttacked}
 use Rattle.pb_moves.specs.Moved.{Moved, IsMove}
 use Rattle.pb_moves.specs.Candidate.{HoldsOwn}
 use Rattle.pb_moves.specs.Unpinned.{IsUnpinned}
@@ -22,7 +21,7 @@ use Rattle.pb_moves.proofs.Kings.{holds_one, holds_at, empty_holds, king_stays, 
 use Rattle.pb_moves.proofs.Legality.{legal_out_of_check}
 
 -- what is clear after a piece has gone elsewhere is clear where the piece is gone for good
-pub clear_lifted : (old new lifted : Board) (from to a b : ℕ) (p : Piece) → Differs old new ((from, None) ∷ (to, Some p) ∷ []) → Differs old lifted ((from, None) ∷ []) → WayIsClear new a b → WayIsClear lifted a b
+pub clear_lifted : (old new lifted : Board) (from to a b : ℕ) (p : Piece) → Differs old new ((from, None) ∷ (to, Some p) ∷ []) → Differs old lifted ((from, None) ∷ []) → Clear new a b → Clear lifted a b
 clear_lifted old new lifted from to a b p moved gone clear q on between =
     let empty = clear q on between in
     let E : ℕ → Type 0 = λ r. IsEmpty lifted r in
@@ -33,14 +32,9 @@ clear_lifted old new lifted from to a b p moved gone clear q on between =
           gone.others q (off_one q (from, None) off) ∙ (sym (moved.others q (off_two q (from, None) (to, Some p) off off_to)) ∙ empty))
     ]
 
-pub reaches_lifted : (colour : Colour) (kind : Kind) (old new lifted : Board) (from to a b : ℕ) (p : Piece) → Differs old new ((from, None) ∷ (to, Some p) ∷ []) → Differs old lifted ((from, None) ∷ [])
-    → ReachesBy colour kind new a b → ReachesBy colour kind lifted a b
-reaches_lifted colour Pawn old new lifted from to a b p moved gone r = r
-reaches_lifted colour Knight old new lifted from to a b p moved gone r = r
-reaches_lifted colour King old new lifted from to a b p moved gone r = r
-reaches_lifted colour Bishop old new lifted from to a b p moved gone r = (r.0, clear_lifted old new lifted from to a b p moved gone r.1)
-reaches_lifted colour Rook old new lifted from to a b p moved gone r = (r.0, clear_lifted old new lifted from to a b p moved gone r.1)
-reaches_lifted colour Queen old new lifted from to a b p moved gone r = (r.0, clear_lifted old new lifted from to a b p moved gone r.1)
+pub attacks_lifted : (colour : Colour) (kind : Kind) (old new lifted : Board) (from to a b : ℕ) (p : Piece) → Differs old new ((from, None) ∷ (to, Some p) ∷ []) → Differs old lifted ((from, None) ∷ [])
+    → Attacks colour kind new a b → Attacks colour kind lifted a b
+attacks_lifted _ _ old new lifted from to a b p moved gone r = (r.0, r.1, clear_lifted old new lifted from to a b p moved gone r.2)
 
 pub differ : (side : Colour) → opponent side ≢ side
 differ White same = cc
@@ -48,22 +42,18 @@ differ Black same = cc
 
 -- an attack on the king after the move is there where the piece is gone for good
 pub attacked_lifted : (old new lifted : Board) (side : Colour) (from to king : ℕ) (p : Piece) → Differs old new ((from, None) ∷ (to, Some p) ∷ []) → Differs old lifted ((from, None) ∷ []) → p.colour ≡ side
-    → IsReached new (opponent side) king → IsReached lifted (opponent side) king
-attacked_lifted old new lifted side from to king p moved gone own attack =
-    let a = attack.0 in
-    let q = attack.1.piece in
-    let off_from : a ≢ from = λ same. empty_holds new a from q (left old new from to p [] moved) same attack.1.stands in
+    → IsAttacked new (opponent side) king → IsAttacked lifted (opponent side) king
+attacked_lifted old new lifted side from to king p moved gone own (a, kind, stands, attacks) =
+    let q = piece_of (opponent side) kind in
+    let off_from : a ≢ from = λ same. empty_holds new a from q (left old new from to p [] moved) same stands in
     let off_to : a ≢ to = λ same. (
-    let here : q ≡ p = holds_one new to q p (holds_at new a to q same attack.1.stands) (arrived old new from to p [] moved) in
+    let here : q ≡ p = holds_one new to q p (holds_at new a to q same stands) (arrived old new from to p [] moved) in
     let F : Piece → Colour = λ x. x.colour in
-    differ side (sym attack.1.of_side ∙ (ap F here ∙ own))) in (
+    differ side (ap F here ∙ own)) in (
       a,
-      record {
-        piece = q;
-        stands = gone.others a (off_one a (from, None) off_from) ∙ (sym (moved.others a (off_two a (from, None) (to, Some p) off_from off_to)) ∙ attack.1.stands);
-        of_side = attack.1.of_side;
-        reaches = reaches_lifted q.colour q.kind old new lifted from to a king p moved gone attack.1.reaches;
-      },
+      kind,
+      gone.others a (off_one a (from, None) off_from) ∙ (sym (moved.others a (off_two a (from, None) (to, Some p) off_from off_to)) ∙ stands),
+      attacks_lifted (opponent side) kind old new lifted from to a king p moved gone attacks,
     )
 
 -- so the move of a piece that its king doesn't need is legal
@@ -76,6 +66,6 @@ legal_unpinned s m p arriving is own leads unpinned =
     let gone = lifted_put s.board m.from unpinned.rules.places is.from_on_board in
     let stays = king_stays s m p new s.turn unpinned.king unpinned.rules own.stands own.own (no_king p s.turn unpinned.no_king) unpinned.only leads.1 in
     legal_out_of_check s m new p own leads.1 (λ check.
-    let here : check.0 ≡ unpinned.king = (stays check.0).0 check.1.stands in
-    let P : ℕ → Type 0 = λ k. IsReached new (opponent s.turn) k in
-    unpinned.covered lifted gone (attacked_lifted s.board new lifted s.turn m.from m.to unpinned.king arriving moved gone leads.0 (subst P here check.1.attacked)))
+    let here : check.0 ≡ unpinned.king = (stays check.0).0 check.1 in
+    let P : ℕ → Type 0 = λ k. IsAttacked new (opponent s.turn) k in
+    unpinned.covered lifted gone (attacked_lifted s.board new lifted s.turn m.from m.to unpinned.king arriving moved gone leads.0 (subst P here check.2)))

@@ -1,5 +1,5 @@
 -- Castling by the table is the king's move of two files.
-use Rattle.std.proofs.Common.{◌≡◌, ◌<◌, ◌^◌, ◌↔◌, ℕ, arith, inl, inr, sym, subst, None, eqb, bit_and}
+use Rattle.std.proofs.Common.{◌≡◌, ◌<◌, ◌^◌, ◌↔◌, ℕ, inr, sym, subst, None, eqb, bit_and}
 use Rattle.std.proofs.lemmas.Bool.{eq-eqb, eqb-true}
 use Rattle.std.specs.Prelude.{IsTrue, nat_lt}
 use Rattle.pb_board.specs.declared.piece.Colour.{Colour}
@@ -10,15 +10,13 @@ use Rattle.pb_board.specs.Board.{Board, Holds}
 use Rattle.pb_board.specs.Position.{Position}
 use Rattle.pb_board.specs.Castling.{CastlingRow, castling_row}
 use Rattle.pb_moves.specs.Attackers.{IsTaken}
-use Rattle.pb_moves.specs.Attacks.{Clear, IsAttacked, files_apart, ranks_apart}
-use Rattle.pb_moves.specs.Reach.{IsOrthogonal, WayIsClear}
+use Rattle.pb_moves.specs.Attacks.{Clear, IsAttacked}
 use Rattle.pb_moves.specs.Moved.{Moved, moved_of}
 use Rattle.pb_moves.specs.Castling as table
 use Rattle.pb_moves.specs.Legal as chess
 use Rattle.pb_moves.specs.Legal.{has_right}
 use Rattle.pb_moves.specs.Successor.{is_castling, middle, rook_home}
 use Rattle.pb_moves.proofs.Castlings.{IsByRow, castling_goes, rows}
-use Rattle.pb_moves.proofs.SameAttacks.{attacked_from, attacked_to, clear_from, clear_to, straight_to}
 use Rattle.pb_moves.proofs.Seen.{HasBetween, clear_if_open, open_if_clear, open_told}
 
 -- what castling asks of the right, the rook and the squares, by the row
@@ -48,13 +46,7 @@ along : (P : Colour → ℕ → ℕ → Type 0) (c d : Colour) (a b x y : ℕ) �
 along P c d a b x y e f g h = subst (λ (z : Colour). P z x y) e (subst (λ (z : ℕ). P c z y) f (subst (λ (z : ℕ). P c a z) g h))
 
 row_asks : (row : CastlingRow) (s : Position) → table.RowAllows row s → RowAsks row s
-row_asks row s h = (
-  h.flag,
-  h.rook,
-  clear_to s.board row.king_from row.rook_from h.way,
-  (λ x. h.unchecked (attacked_from s.board (opponent row.colour) row.king_from x)),
-  λ x. h.crosses (attacked_from s.board (opponent row.colour) row.rook_to x),
-)
+row_asks row s h = (h.flag, h.rook, h.way, h.unchecked, h.crosses)
 
 pub castles_to : (c : Castling) (s : Position) (m : Moved) → m.from ≡ (castling_row c).king_from → m.to ≡ (castling_row c).king_to
     → table.RowAllows (castling_row c) s → chess.Castles s m
@@ -71,10 +63,6 @@ castles_to c s m from to h =
       crosses = asks.4;
     }
 
-straight_back : (a b : ℕ) → IsOrthogonal a b → IsOrthogonal b a
-straight_back a b (inl h) = inl (omega (arith, h.0), omega (arith, h.1))
-straight_back a b (inr h) = inr (omega (arith, h.0), omega (arith, h.1))
-
 pub allows : (s : Position) (m : Moved) (c : Castling) → IsByRow s.turn m.from m.to c → chess.Castles s m → table.RowAllows (castling_row c) s
 allows s m c is h =
     let row = castling_row c in
@@ -83,20 +71,19 @@ allows s m c is h =
       side = is.side_is;
       flag = asks.0;
       rook = asks.1;
-      way = clear_from s.board row.king_from row.rook_from (inr (straight_back row.rook_from row.king_from (rows c).orthogonal)) asks.2;
-      unchecked = λ x. asks.3 (attacked_to s.board (opponent row.colour) row.king_from x);
-      crosses = λ x. asks.4 (attacked_to s.board (opponent row.colour) row.rook_to x);
+      way = asks.2;
+      unchecked = asks.3;
+      crosses = asks.4;
     }
 
 -- the way between king and rook is clear just where nothing of what is taken lies there
 pub row_way : (c : Castling) (board : Board) (occ set king rook : ℕ) → IsTaken occ board → occ < 2 ^ 64 → king ≡ (castling_row c).king_from → rook ≡ (castling_row c).rook_from
-    → HasBetween set king rook → IsTrue (eqb (bit_and set occ) 0) ↔ WayIsClear board (castling_row c).king_from (castling_row c).rook_from
+    → HasBetween set king rook → IsTrue (eqb (bit_and set occ) 0) ↔ Clear board (castling_row c).king_from (castling_row c).rook_from
 row_way c board occ set king rook taken small king_is rook_is has =
     let row = castling_row c in
-    let line = straight_back row.rook_from row.king_from (rows c).orthogonal in
-    let queen = straight_to (files_apart row.king_from row.rook_from) (ranks_apart row.king_from row.rook_from) line in
+    let line = (rows c).line in
     let between = subst (λ (q : ℕ). HasBetween set q row.rook_from) king_is (subst (λ (q : ℕ). HasBetween set king q) rook_is has) in
     let told = open_told occ set row.king_from row.rook_from small between in (
-      λ h. clear_from board row.king_from row.rook_from (inr line) (clear_if_open board occ row.king_from row.rook_from taken (told.0 (eqb-true _ _ h)) (inr queen.0, queen.1)),
-      λ way. eq-eqb _ _ (told.1 (open_if_clear board occ row.king_from row.rook_from taken (clear_to board row.king_from row.rook_from way))),
+      λ h. clear_if_open board occ row.king_from row.rook_from taken (told.0 (eqb-true _ _ h)) (inr line.0, line.1),
+      λ way. eq-eqb _ _ (told.1 (open_if_clear board occ row.king_from row.rook_from taken way)),
     )

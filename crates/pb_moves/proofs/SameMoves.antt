@@ -13,8 +13,7 @@ use Rattle.pb_board.specs.declared.setup.Rights.{Rights}
 use Rattle.pb_board.specs.Board.{Board, Place, file, rank, rank_for, Holds, IsEmpty}
 use Rattle.pb_board.specs.Position.{Position, IsSetup, beyond, position_of}
 use Rattle.pb_board.specs.Castling.{castling_row}
-use Rattle.pb_moves.specs.Attacks.{Attacks, files_apart, ranks_apart}
-use Rattle.pb_moves.specs.Reach.{KingInReach, Reaches, ReachesBy}
+use Rattle.pb_moves.specs.Attacks.{Attacks, InCheck, files_apart, ranks_apart}
 use Rattle.pb_moves.specs.Moved.{Moved, IsMove, IsPromotion}
 use Rattle.pb_moves.specs.Castling.{rook_goes}
 use Rattle.pb_moves.specs.Cases as lower
@@ -23,7 +22,7 @@ use Rattle.pb_moves.specs.Legal.{Legal, PseudoLegal}
 use Rattle.pb_moves.specs.Successor.{Differs, IsAfter, after, besides, changes, en_passant_after, middle, rights_after}
 use Rattle.pb_moves.proofs.MovedPiece.{puts, carried, ep_of_kind}
 use Rattle.pb_moves.proofs.Castlings.{by_row, rows}
-use Rattle.pb_moves.proofs.SameAttacks.{attacks_to, attacks_from, clear_to, clear_from, no_near, check_to, check_from}
+use Rattle.pb_moves.proofs.Lines.{no_near}
 use Rattle.pb_moves.proofs.SameCastling.{allows, castles_to}
 use Rattle.pb_moves.proofs.Differing.{carried_put, carried_past_put, differs_one}
 use Rattle.pb_moves.proofs.Kings.{pawn_reach, gone_is_beyond}
@@ -119,8 +118,8 @@ pub pawn_or_not : (k : Kind) → (k ≡ Pawn) ⊎ (k ≢ Pawn)
 pawn_or_not Pawn = inl refl
 pawn_or_not k = inr (λ e. cc)
 
-own_reach : (p : Piece) (side : Colour) (board : Board) (a b : ℕ) → p.colour ≡ side → Reaches p board a b → Attacks side p.kind board a b
-own_reach p side board a b own h = let R : Colour → Type 0 = λ c. Attacks c p.kind board a b in subst R own (attacks_to p.colour p.kind board a b h)
+own_reach : (p : Piece) (side : Colour) (board : Board) (a b : ℕ) → p.colour ≡ side → Attacks p.colour p.kind board a b → Attacks side p.kind board a b
+own_reach p side board a b own h = let R : Colour → Type 0 = λ c. Attacks c p.kind board a b in subst R own h
 
 case_to : (s : Position) (m : Moved) (p : Piece) (new : Board) → p.colour ≡ s.turn → lower.CaseOf s m p new → chess.MayGo s m p.kind
 case_to s m p new own (lower.piece_move x) =
@@ -135,7 +134,7 @@ case_to s m p new own (lower.pawn_step x) =
     let ranks : ranks_apart m.from m.to ≡ 1 = step_ranks s.turn 1 m.from m.to x.forward in
     inr (inl (x.pawn, record { same_file = x.same_file; forward = inl x.forward; way = no_near s.board m.from m.to (inl (omega arith, omega arith)); empty = x.empty }))
 case_to s m p new own (lower.pawn_double x) =
-    inr (inl (x.pawn, record { same_file = x.same_file; forward = inr (first_rank s.turn m.from x.begins, x.forward); way = clear_to s.board m.from m.to x.way; empty = x.empty }))
+    inr (inl (x.pawn, record { same_file = x.same_file; forward = inr (first_rank s.turn m.from x.begins, x.forward); way = x.way; empty = x.empty }))
 case_to s m p new own (lower.pawn_capture x) = inl (own_reach p s.turn s.board m.from m.to own x.reaches, lands_taking s p.kind m.to (x.target.kind, x.target.no_king, x.target.stands))
 case_to s m p new own (lower.en_passant x) = inl (own_reach p s.turn s.board m.from m.to own x.reaches, lands_passing s p.kind m.to x.pawn x.square)
 case_to s m p new own (lower.castles c x) = inr (inr (x.king, castles_to c s m x.from_home x.to_table x.allowed))
@@ -194,10 +193,10 @@ module _ (s : Position) (m : Moved) (kind : Kind) (ok : IsSetup s) (is : IsMove 
   going : besides s.board m s.turn kind ≡ [] → lower.Goes s m piece [] new_board
   going e = goes_by [] e (carried_put s.board m.from m.to becoming ok.places is.from_on_board is.to_on_board is.moves)
 
-  piece_goes : kind ≢ Pawn → ReachesBy s.turn kind s.board m.from m.to → lower.Goes s m piece [] new_board
+  piece_goes : kind ≢ Pawn → Attacks s.turn kind s.board m.from m.to → lower.Goes s m piece [] new_board
   piece_goes no_pawn reaches = going (beside_piece s.turn kind s.board m no_pawn (king_near s.turn kind s.board m.from m.to reaches))
 
-  takes : ReachesBy s.turn kind s.board m.from m.to → chess.IsCapturable s m.to → lower.CaseOf s m piece new_board
+  takes : Attacks s.turn kind s.board m.from m.to → chess.IsCapturable s m.to → lower.CaseOf s m piece new_board
   takes reaches enemy =
       let target : lower.IsCapturable s.board s.turn m.to = record { kind = enemy.0; no_king = enemy.1; stands = enemy.2 } in
       elim (pawn_or_not kind) [
@@ -205,7 +204,7 @@ module _ (s : Position) (m : Moved) (kind : Kind) (ok : IsSetup s) (is : IsMove 
         | inr other ↦ lower.piece_move (record { no_pawn = other; reaches = reaches; target = inr target; after = piece_goes other reaches })
       ]
 
-  passes : kind ≡ Pawn → ReachesBy s.turn kind s.board m.from m.to → s.ep ≡ Some m.to → lower.CaseOf s m piece new_board
+  passes : kind ≡ Pawn → Attacks s.turn kind s.board m.from m.to → s.ep ≡ Some m.to → lower.CaseOf s m piece new_board
   passes pawn reaches square =
       let gone = 8 * rank m.from + file m.to in
       let files : files_apart m.from m.to ≡ 1 = pawn_files s.turn kind s.board m.from m.to reaches pawn in
@@ -222,7 +221,7 @@ module _ (s : Position) (m : Moved) (kind : Kind) (ok : IsSetup s) (is : IsMove 
             (subst D same (carried_past_put s.board m.from m.to gone becoming ok.places on_from is.to_on_board (omega arith) is.moves (λ e. omega arith) (λ e. omega arith)));
       })
 
-  quiet : kind ≢ Pawn → ReachesBy s.turn kind s.board m.from m.to → IsEmpty s.board m.to → lower.CaseOf s m piece new_board
+  quiet : kind ≢ Pawn → Attacks s.turn kind s.board m.from m.to → IsEmpty s.board m.to → lower.CaseOf s m piece new_board
   quiet no_pawn reaches empty = lower.piece_move (record { no_pawn = no_pawn; reaches = reaches; target = inl empty; after = piece_goes no_pawn reaches })
 
   pushes : kind ≡ Pawn → chess.Pushes s m → lower.CaseOf s m piece new_board
@@ -231,13 +230,12 @@ module _ (s : Position) (m : Moved) (kind : Kind) (ok : IsSetup s) (is : IsMove 
       elim x.forward [
         | inl one ↦ lower.pawn_step (record { pawn = pawn; same_file = x.same_file; forward = one; empty = x.empty; after = after })
         | inr two ↦
-            let ranks : ranks_apart m.from m.to ≡ 2 = step_ranks s.turn 2 m.from m.to two.1 in
             lower.pawn_double (record {
               pawn = pawn;
               begins = first_rank_from s.turn m.from two.0;
               same_file = x.same_file;
               forward = two.1;
-              way = clear_from s.board m.from m.to (inr (inl (omega arith, omega arith))) x.way;
+              way = x.way;
               empty = x.empty;
               after = after;
             })
@@ -267,8 +265,7 @@ module _ (s : Position) (m : Moved) (kind : Kind) (ok : IsSetup s) (is : IsMove 
       })
 
   case_from : chess.MayGo s m kind → lower.CaseOf s m piece new_board
-  case_from (inl (attacks, lands)) =
-      let reaches = attacks_from s.turn kind s.board m.from m.to attacks in
+  case_from (inl (reaches, lands)) =
       elim (lands_as s kind m.to lands) [
         | inl enemy ↦ takes reaches enemy
         | inr (inl (pawn, square)) ↦ passes pawn reaches square
@@ -345,14 +342,14 @@ after_is s t m ok h =
 -- the legal moves are those of the cases that leave the mover out of check
 pub legal_to : (s : Position) (m : Moved) → IsSetup s → lower.SafeCase s m → Legal s m
 legal_to s m ok h =
-    let C : Board → Type 0 = λ b. KingInReach b s.turn in
+    let C : Board → Type 0 = λ b. InCheck b s.turn in
     record {
       moves = case_moves s m h.new ok h.moves;
-      safe = λ check. h.safe (subst C (board_after_case s m h.new ok h.moves) (check_from (after s m).board s.turn check));
+      safe = λ check. h.safe (subst C (board_after_case s m h.new ok h.moves) check);
     }
 
 pub legal_from : (s : Position) (m : Moved) → IsSetup s → Legal s m → lower.SafeCase s m
-legal_from s m ok h = record { new = (after s m).board; moves = moves_case s m ok h.moves; safe = λ check. h.safe (check_to (after s m).board s.turn check) }
+legal_from s m ok h = record { new = (after s m).board; moves = moves_case s m ok h.moves; safe = h.safe }
 
 -- as a test tells it
 pub told : (s : Position) (m : Moved) (P : Type 0) → IsSetup s → (P ↔ lower.SafeCase s m) → (P ↔ Legal s m)

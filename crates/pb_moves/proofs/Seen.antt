@@ -22,7 +22,7 @@ use Rattle.pb_moves.specs.Successor.{Differs}
 use Rattle.pb_moves.proofs.Differing.{All-two, each_place, holds_on_board, same_or_not}
 use Rattle.pb_moves.proofs.Kings.{holds_one}
 use Rattle.pb_moves.proofs.Rising.{low_bit, without, without_other, without_same}
-use Rattle.pb_moves.proofs.SameAttacks.{knight_from, no_near, straight_from, straight_to}
+use Rattle.pb_moves.proofs.Lines.{knight_from, no_near, straight_from, straight_to}
 use Rattle.pb_moves.proofs.Sets.{in_and, in_both, in_none, in_some}
 
 empty_or_not : (x : Option Piece) → (x ≡ None) ⊎ ¬ (x ≡ None)

@@ -9,8 +9,7 @@ use Rattle.pb_board.specs.declared.piece.Piece.{Piece}
 use Rattle.pb_board.specs.Piece.{opponent}
 use Rattle.pb_board.specs.Board.{Board, Place, at, IsForward}
 use Rattle.pb_board.specs.Position.{Position, IsSetup, EnPassantHolds, beyond}
-use Rattle.pb_moves.specs.Attacks.{files_apart, ranks_apart}
-use Rattle.pb_moves.specs.Reach.{ReachesBy}
+use Rattle.pb_moves.specs.Attacks.{Attacks, files_apart, ranks_apart}
 use Rattle.pb_board.specs.declared.castling.Castling.{Castling}
 use Rattle.pb_moves.specs.Moved.{Moved}
 use Rattle.pb_board.specs.Castling.{castling_row}
@@ -86,12 +85,12 @@ pick_piece Bishop f r taken other_kind near = refl
 pick_piece Rook f r taken other_kind near = refl
 pick_piece Queen f r taken other_kind near = refl
 
-pub king_near : (colour : Colour) (kind : Kind) (board : Board) (a b : ℕ) → ReachesBy colour kind board a b → kind ≡ King → files_apart a b ≤ 1
-king_near colour King board a b r e = omega arith
+pub king_near : (colour : Colour) (kind : Kind) (board : Board) (a b : ℕ) → Attacks colour kind board a b → kind ≡ King → files_apart a b ≤ 1
+king_near colour King board a b r e = omega (arith, r.0)
 king_near colour k board a b r e = absurd (cc)
 
-pub pawn_files : (colour : Colour) (kind : Kind) (board : Board) (a b : ℕ) → ReachesBy colour kind board a b → kind ≡ Pawn → files_apart a b ≡ 1
-pawn_files colour Pawn board a b r e = r.0
+pub pawn_files : (colour : Colour) (kind : Kind) (board : Board) (a b : ℕ) → Attacks colour kind board a b → kind ≡ Pawn → files_apart a b ≡ 1
+pawn_files colour Pawn board a b r e = r.0.0
 pawn_files colour k board a b r e = absurd (cc)
 
 abbrev pub tag : (s : Position) (m : Moved) (piece : Piece) (new : Board) → CaseOf s m piece new → ℕ

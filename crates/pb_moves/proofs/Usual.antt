@@ -18,14 +18,13 @@ use Rattle.pb_moves.specs.Cases.{piece_move, pawn_step, pawn_double, pawn_captur
 use Rattle.pb_moves.specs.MoveKind.{Finds, LeadsTo}
 use Rattle.pb_moves.specs.Moved.{Moved, IsMove}
 use Rattle.pb_moves.proofs.Carrying.{goes_normal}
-use Rattle.pb_moves.proofs.SameAttacks.{attacks_from, attacks_to, clear_from, clear_to, no_near}
+use Rattle.pb_moves.proofs.Lines.{no_near}
 use Rattle.pb_moves.proofs.SameMoves.{first_rank, first_rank_from, pawn_or_not}
 use Rattle.pb_moves.proofs.Unique.{step_ranks}
 
 pub usual_to : (s : Position) (m : Moved) (p : Piece) (new : Board) → p.colour ≡ s.turn → IsEmpty s.board m.to ⊎ IsCapturable s.board s.turn m.to
     → GoesTo p s.board m.from m.to → Goes s m p [] new → UsualMove s m p new
-usual_to s m p new own target (inl (attacks, takes)) after =
-    let reaches = attacks_from p.colour p.kind s.board m.from m.to attacks in
+usual_to s m p new own target (inl (reaches, takes)) after =
     elim (pawn_or_not p.kind) [
       | inl pawn ↦ inl (inr (record { pawn = pawn; reaches = reaches; target = elim target [ inl empty ↦ absurd (takes pawn empty) | inr prey ↦ prey ]; after = after }))
       | inr other ↦ inl (inl (record { no_pawn = other; reaches = reaches; target = target; after = after }))
@@ -35,14 +34,13 @@ usual_to s m p new own target (inr (pawn, goes, way, empty)) after =
     elim steps.1 [
       | inl one ↦ inr (inl (record { pawn = pawn; same_file = steps.0; forward = one; empty = empty; after = after }))
       | inr two ↦
-          (let ranks : ranks_apart m.from m.to ≡ 2 = step_ranks s.turn 2 m.from m.to two.1 in
-          let same = steps.0 in
+          (let same = steps.0 in
           inr (inr (record {
             pawn = pawn;
             begins = first_rank_from s.turn m.from two.0;
             same_file = steps.0;
             forward = two.1;
-            way = clear_from s.board m.from m.to (inr (inl (omega arith, omega arith))) way;
+            way = way;
             empty = empty;
             after = after;
           })))
@@ -50,9 +48,9 @@ usual_to s m p new own target (inr (pawn, goes, way, empty)) after =
 
 pub usual_from : (s : Position) (m : Moved) (p : Piece) (new : Board) → p.colour ≡ s.turn → UsualMove s m p new
     → (IsEmpty s.board m.to ⊎ IsCapturable s.board s.turn m.to) × GoesTo p s.board m.from m.to × Goes s m p [] new
-usual_from s m p new own (inl (inl x)) = (x.target, inl (attacks_to p.colour p.kind s.board m.from m.to x.reaches, λ pawn. absurd (x.no_pawn pawn)), x.after)
+usual_from s m p new own (inl (inl x)) = (x.target, inl (x.reaches, λ pawn. absurd (x.no_pawn pawn)), x.after)
 usual_from s m p new own (inl (inr x)) =
-    (inr x.target, inl (attacks_to p.colour p.kind s.board m.from m.to x.reaches, λ pawn empty. let stands = x.target.stands in cc), x.after)
+    (inr x.target, inl (x.reaches, λ pawn empty. let stands = x.target.stands in cc), x.after)
 usual_from s m p new own (inr (inl x)) =
     let ranks : ranks_apart m.from m.to ≡ 1 = step_ranks s.turn 1 m.from m.to x.forward in
     let same = x.same_file in
@@ -60,7 +58,7 @@ usual_from s m p new own (inr (inl x)) =
     (inl x.empty, inr (x.pawn, steps, no_near s.board m.from m.to (inl (omega arith, omega arith)), x.empty), x.after)
 usual_from s m p new own (inr (inr x)) =
     let steps = subst (λ (side : Colour). Steps side m.from m.to) (sym own) (x.same_file, inr (first_rank s.turn m.from x.begins, x.forward)) in
-    (inl x.empty, inr (x.pawn, steps, clear_to s.board m.from m.to x.way, x.empty), x.after)
+    (inl x.empty, inr (x.pawn, steps, x.way, x.empty), x.after)
 
 -- the same, as tests tell it
 module _ (s : Position) (m : Moved) (p : Piece) (from to : ℕ) (target goes : Bool) (own : p.colour ≡ s.turn) (from_is : from ≡ m.from) (to_is : to ≡ m.to)

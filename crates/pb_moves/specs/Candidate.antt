@@ -47,7 +47,7 @@ abbrev pub MayGo : Colour → Kind → ℕ → ℕ → Type 0
 MayGo side kind a b = MayTarget side kind a b
     ⊎ ((kind ≡ King) × (files_apart a b ≡ 2) × (ranks_apart a b ≡ 0))
 
--- the piece attacks b, a pawn where something stands; or a pawn steps to b, as nothing is in its way
+-- the piece attacks b, a pawn where something stands; or a pawn steps to b, with nothing in its way
 abbrev pub GoesTo : Piece → Board → ℕ → ℕ → Type 0
 GoesTo p board a b =
     (Attacks p.colour p.kind board a b × (p.kind ≡ Pawn → ¬ IsEmpty board b))

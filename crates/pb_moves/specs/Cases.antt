@@ -23,7 +23,7 @@ use Rattle.pb_board.specs.Position.{Position, beyond}
 use Rattle.pb_board.specs.Piece.{opponent}
 use Rattle.pb_board.specs.Board.{Board, Place, file, rank, Holds, IsEmpty, IsForward}
 use Rattle.pb_board.specs.declared.castling.Castling.{Castling}
-use Rattle.pb_moves.specs.Reach.{WayIsClear, Reaches, KingInReach}
+use Rattle.pb_moves.specs.Attacks.{Attacks, Clear, InCheck}
 use Rattle.pb_board.specs.Castling.{CastlingRow, castling_row}
 use Rattle.pb_moves.specs.Castling.{rook_goes, RowAllows}
 use Rattle.pb_moves.specs.Moved.{Moved, IsPromotion}
@@ -63,7 +63,7 @@ pub record Goes (s : Position) (m : Moved) (piece : Piece) (besides : List (ℕ 
 -- a knight, bishop, rook, queen or king goes where it attacks
 pub record PieceMove (s : Position) (m : Moved) (piece : Piece) (new : Board) : Type 0 where
   pub no_pawn : piece.kind ≢ Pawn
-  pub reaches : Reaches piece s.board m.from m.to
+  pub reaches : Attacks piece.colour piece.kind s.board m.from m.to
   pub target : IsEmpty s.board m.to ⊎ IsCapturable s.board s.turn m.to
   pub after : Goes s m piece [] new
 
@@ -81,21 +81,21 @@ pub record PawnDouble (s : Position) (m : Moved) (piece : Piece) (new : Board) :
   pub begins : rank m.from ≡ pawn_rank s.turn
   pub same_file : file m.to ≡ file m.from
   pub forward : IsForward s.turn 2 m.from m.to
-  pub way : WayIsClear s.board m.from m.to
+  pub way : Clear s.board m.from m.to
   pub empty : IsEmpty s.board m.to
   pub after : Goes s m piece [] new
 
 -- a pawn takes what it attacks
 pub record PawnCapture (s : Position) (m : Moved) (piece : Piece) (new : Board) : Type 0 where
   pub pawn : piece.kind ≡ Pawn
-  pub reaches : Reaches piece s.board m.from m.to
+  pub reaches : Attacks piece.colour piece.kind s.board m.from m.to
   pub target : IsCapturable s.board s.turn m.to
   pub after : Goes s m piece [] new
 
 -- a pawn goes to the en passant square that it attacks, and takes the pawn beyond it
 pub record EnPassant (s : Position) (m : Moved) (piece : Piece) (new : Board) : Type 0 where
   pub pawn : piece.kind ≡ Pawn
-  pub reaches : Reaches piece s.board m.from m.to
+  pub reaches : Attacks piece.colour piece.kind s.board m.from m.to
   pub square : s.ep ≡ Some m.to
   pub after : Goes s m piece ((beyond s.turn m.to, None) ∷ []) new
 
@@ -139,4 +139,4 @@ pub record Case (s : Position) (m : Moved) (new : Board) : Type 0 where
 pub record SafeCase (s : Position) (m : Moved) : Type 0 where
   pub new : Board
   pub moves : Case s m new
-  pub safe : ¬ KingInReach new s.turn
+  pub safe : ¬ InCheck new s.turn

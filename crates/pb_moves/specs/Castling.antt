@@ -6,7 +6,7 @@ use Rattle.pb_board.specs.Piece.{opponent, rook_of}
 use Rattle.pb_board.specs.Board.{Place, Holds}
 use Rattle.pb_board.specs.Position.{Position}
 use Rattle.pb_board.specs.Castling.{CastlingRow}
-use Rattle.pb_moves.specs.Reach.{WayIsClear, IsReached}
+use Rattle.pb_moves.specs.Attacks.{Clear, IsAttacked}
 
 -- what castling changes besides the king's two squares: the rook goes too
 abbrev pub rook_goes : CastlingRow → List (ℕ × Place)
@@ -19,6 +19,6 @@ pub record RowAllows (row : CastlingRow) (s : Position) : Type 0 where
   pub side : s.turn ≡ row.colour
   pub flag : IsTrue (row.right s.rights)
   pub rook : Holds s.board row.rook_from (rook_of row.colour)
-  pub way : WayIsClear s.board row.king_from row.rook_from
-  pub unchecked : ¬ IsReached s.board (opponent row.colour) row.king_from
-  pub crosses : ¬ IsReached s.board (opponent row.colour) row.rook_to
+  pub way : Clear s.board row.king_from row.rook_from
+  pub unchecked : ¬ IsAttacked s.board (opponent row.colour) row.king_from
+  pub crosses : ¬ IsAttacked s.board (opponent row.colour) row.rook_to

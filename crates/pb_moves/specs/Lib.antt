@@ -7,7 +7,6 @@ pub mod Spelling
 pub mod Listing
 pub mod Played
 pub mod Packed
-pub mod Reach
 pub mod Castling
 pub mod Cases
 pub mod Attackers

@@ -1,15 +1,13 @@
-//! Which squares a piece attacks and reaches.
+//! Which squares a piece attacks and reaches, and those on the way.
 
 ghost use Rattle.std.specs.Prelude.{◌≡◌, ◌≢◌, ℕ, ◌<◌, ◌↔◌, IsTrue, if◌then◌else◌};
-ghost use Rattle.pb_board.specs.declared.piece.Kind.TheVariants.{Pawn, Bishop, Rook};
+ghost use Rattle.pb_board.specs.declared.piece.Kind.TheVariants.{Pawn, Bishop, Rook, Queen};
 ghost use Rattle.pb_board.specs.Board.{Board};
 ghost use Rattle.pb_moves.specs.Attackers.{In};
-ghost use Rattle.pb_moves.specs.Attacks.{Pattern, files_apart, ranks_apart};
-ghost use Rattle.pb_moves.specs.Candidate.{GoesTo, MayTarget, row_of};
-ghost use Rattle.pb_moves.specs.Reach.{Reaches};
+ghost use Rattle.pb_moves.specs.Attacks.{Attacks, IsBetween, Pattern, files_apart, ranks_apart};
+ghost use Rattle.pb_moves.specs.Candidate.{GoesTo, MayGo, MayTarget, row_of};
 
-use crate::board::is_empty;
-use crate::rays::{between, has};
+use crate::board::{has, is_empty};
 use crate::target_tables::{BLACK_PAWN, TARGETS};
 use pb_board::{Colour, Kind, Piece, Setup, Square};
 
@@ -27,8 +25,8 @@ fn row(piece: Piece) -> usize
     }
 }
 
-/// Where the piece may go from the square on an empty board, and a pawn also by a capture. Which kind
-/// it is can't be foretold, so no branch is made of it.
+/// Where the piece may go from the square on an empty board, and a pawn also by a capture. Which
+/// kind it is can't be foretold, so no branch is made of it.
 #[inline(always)]
 pub(crate) fn targets(piece: Piece, from: Square) -> u64
     ensures squares { (to : ℕ) → to < 64
@@ -48,6 +46,30 @@ pub(crate) fn pattern(kind: Kind, from: Square) -> u64
 {
     let colour = Colour::White;
     targets(Piece { colour, kind }, from)
+}
+
+/// The squares that lines of this kind through both squares cross, where one leads from one to the
+/// other.
+#[inline(always)]
+fn line(kind: Kind, a: Square, b: Square) -> u64
+    requires { kind ≢ Pawn }
+    ensures { (q : ℕ) → q < 64 → (In result q ↔ Pattern kind (files_apart a b) (ranks_apart a b)
+        × Pattern kind (files_apart a q) (ranks_apart a q)
+        × Pattern kind (files_apart b q) (ranks_apart b q)) }
+{
+    let rays = pattern(kind, a);
+    let line = rays & pattern(kind, b);
+    if has(rays, b) { line } else { 0 }
+}
+
+/// The squares between two on one line. No branch is made of where they stand.
+#[inline(always)]
+pub(crate) fn between(a: Square, b: Square) -> u64
+    ensures { (q : ℕ) → q < 64 → (In result q
+        ↔ Pattern Queen (files_apart a b) (ranks_apart a b) × IsBetween a q b) }
+{
+    let up_to_one = (!0u64 << a.index()) ^ (!0u64 << b.index());
+    (line(Kind::Rook, a, b) | line(Kind::Bishop, a, b)) & up_to_one
 }
 
 /// A pawn takes on the diagonals and steps along its file.
@@ -77,7 +99,31 @@ pub(crate) fn reaches(piece: Piece, setup: &Setup, from: Square, to: Square) -> 
 #[inline(always)]
 pub(crate) fn pawn_takes(pawn: Piece, from: Square, to: Square) -> bool
     requires { pawn.kind ≡ Pawn }
-    ensures { (b : Board) → IsTrue result ↔ Reaches pawn b from to }
+    ensures { (b : Board) → IsTrue result ↔ Attacks pawn.colour pawn.kind b from to }
 {
     has(targets(pawn, from) & pattern(Kind::Bishop, from), to)
+}
+
+/// The squares to one of which each legal move of the piece goes.
+#[inline(always)]
+pub(crate) fn candidates(piece: Piece, from: Square) -> u64
+    ensures { (to : ℕ) → to < 64 → (In result to ↔ MayGo piece.colour piece.kind from to) }
+{
+    let squares = targets(piece, from);
+    if piece.kind == Kind::King {
+        squares | two_aside(from)
+    } else {
+        squares
+    }
+}
+
+/// The squares two files aside, to which a king castles.
+#[inline(always)]
+fn two_aside(from: Square) -> u64
+    ensures { (to : ℕ) → to < 64
+        → (In result to ↔ ((files_apart from to ≡ 2) × (ranks_apart from to ≡ 0))) }
+{
+    let index = from.index();
+    let rank = 0xffu64 << (index & 56);
+    (1u64 << index << 2 | 1u64 << index >> 2) & rank
 }

@@ -12,17 +12,16 @@ ghost use Rattle.pb_moves.specs.Attacks.{IsAttacked};
 ghost use Rattle.pb_moves.specs.Attackers.{In, IsSight};
 ghost use Rattle.pb_moves.specs.Candidate.{Points};
 
-use crate::attack::{pattern, targets};
+use crate::attack::{between, pattern, targets};
 use crate::board::square_at;
-use crate::rays::between;
 use pb_board::{Colour, Kind, Piece, Setup, Square};
 
 /// The squares of all pieces and those of the attackers, on a setup's board or after a move of the
 /// other side.
 #[derive(Clone, Copy)]
 pub(crate) struct Sight {
-    pub(crate) occupied: u64,
-    pub(crate) attackers: u64,
+    occupied: u64,
+    attackers: u64,
 }
 
 #[inline(always)]
@@ -48,8 +47,8 @@ fn pawns_from(colour: Colour, square: Square) -> u64
     targets(pawn, square) & pattern(Kind::Bishop, square)
 }
 
-/// The squares of the pieces, of either side, that would attack the square on an empty board if they
-/// were of this one.
+/// The squares of the pieces of either side that, were they of this one, would attack the square on
+/// an empty board.
 #[inline(always)]
 fn pieces_from(setup: &Setup, by: Colour, square: Square) -> u64
     ensures { (a : ℕ) → a < 64 → (In result a ↔ ((colour : Colour) × (kind : Kind)

@@ -1,15 +1,21 @@
 //! What stands on the squares of a setup.
 
-ghost use Rattle.std.specs.Prelude.{◌≡◌, ◌<◌, ◌⊎◌, ◌↔◌, ℕ, IsTrue};
+ghost use Rattle.std.specs.Prelude.{◌≡◌, ◌<◌, ◌⊎◌, ◌↔◌, IsTrue};
 ghost use Rattle.pb_board.specs.Board.{Holds, IsEmpty};
-ghost use Rattle.pb_board.specs.Piece.{piece_of};
 ghost use Rattle.pb_board.specs.Position.{IsSetup};
 ghost use Rattle.pb_moves.specs.Attackers.{In};
 ghost use Rattle.pb_moves.specs.Candidate.{AreOwn};
 ghost use Rattle.pb_moves.specs.Cases.{IsCapturable};
 
-use crate::rays::has;
 use pb_board::{Colour, Kind, Piece, Setup, Square};
+
+#[inline(always)]
+pub(crate) fn has(set: u64, square: Square) -> bool
+    ensures inside { IsTrue result ↔ In set square }
+    ensures on_board { square < 64 }
+{
+    set >> square.index() & 1 == 1
+}
 
 #[inline(always)]
 pub(crate) fn square_at(index: u8) -> Square
@@ -17,13 +23,6 @@ pub(crate) fn square_at(index: u8) -> Square
     ensures { result ≡ index }
 {
     Square::from_index(index).unwrap()
-}
-
-#[inline(always)]
-pub(crate) fn squares_of(setup: &Setup, colour: Colour, kind: Kind) -> u64
-    ensures { (q : ℕ) → In result q ↔ Holds setup.now.board q (piece_of colour kind) }
-{
-    setup.by_piece(Piece { colour, kind })
 }
 
 #[inline(always)]
@@ -41,7 +40,9 @@ pub(crate) fn is_target(setup: &Setup, side: Colour, square: Square) -> bool
         ⊎ IsCapturable setup.now.board side square) }
     ensures rules { IsSetup setup.now }
 {
-    let king = squares_of(setup, side.opponent(), Kind::King);
+    let colour = side.opponent();
+    let kind = Kind::King;
+    let king = setup.by_piece(Piece { colour, kind });
     !has(setup.by_colour(side) | king, square)
 }
 

@@ -30,7 +30,8 @@ fn becomes(piece: Piece, m: Move) -> Option<Kind>
     }
 }
 
-/// A move that puts the piece alone elsewhere. Most moves pass both tests, so one branch is made of them.
+/// A move that puts the piece alone elsewhere. Most moves pass both tests, so one branch is made of
+/// them.
 #[inline(always)]
 pub(crate) fn usual_move(setup: &Setup, m: Move, piece: Piece) -> Option<MoveKind>
     requires own { piece.colour ≡ setup.now.turn }

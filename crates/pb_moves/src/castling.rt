@@ -6,23 +6,22 @@ ghost use Rattle.pb_board.specs.declared.piece.Kind.TheVariants.{King};
 ghost use Rattle.pb_board.specs.Piece.{opponent};
 ghost use Rattle.pb_board.specs.Castling.{castling_row};
 ghost use Rattle.pb_board.specs.Position.{IsSetup};
-ghost use Rattle.pb_moves.specs.Attacks.{IsAttacked};
-ghost use Rattle.pb_moves.specs.Reach.{WayIsClear};
+ghost use Rattle.pb_moves.specs.Attacks.{Clear, IsAttacked};
 ghost use Rattle.pb_moves.specs.Castling.{RowAllows};
 ghost use Rattle.pb_moves.specs.Cases.{Castles};
 ghost use Rattle.pb_moves.specs.Candidate.{HoldsOwn};
 ghost use Rattle.pb_moves.specs.MoveKind.{Finds};
 
+use crate::attack::between;
 use crate::board::holds;
 use crate::check::attacked;
 use crate::move_kind::MoveKind;
 use crate::moves::Move;
-use crate::rays::between;
 use pb_board::{Castling, Kind, MovedPiece, Piece, Setup};
 
 fn way_is_clear(castling: Castling, setup: &Setup) -> bool
     ensures { let row = castling_row castling in
-        IsTrue result ↔ WayIsClear setup.now.board row.king_from row.rook_from }
+        IsTrue result ↔ Clear setup.now.board row.king_from row.rook_from }
 {
     let squares = castling.squares();
     between(squares.king_from, squares.rook_from) & setup.occupied() == 0

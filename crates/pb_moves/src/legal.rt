@@ -9,17 +9,15 @@ ghost use Rattle.pb_board.specs.Position.{IsOnlyKing, IsSetup};
 ghost use Rattle.pb_moves.specs.Candidate.{HoldsOwn};
 ghost use Rattle.pb_moves.specs.Cases.{CaseOf, SafeCase, UnusualMove};
 ghost use Rattle.pb_moves.specs.MoveKind.{Finds, Fits, LeadsTo, board_by};
-ghost use Rattle.pb_moves.specs.Moved.{Moved};
 ghost use Rattle.pb_moves.specs.Attackers.{IsSight};
 ghost use Rattle.pb_moves.specs.Unpinned.{IsUnpinned};
 
 use crate::attackers::{Sight, is_attacked, sight_of};
-use crate::board::own_squares;
+use crate::board::{has, own_squares};
 use crate::cases::{en_passant, usual_move};
 use crate::castling::castles;
 use crate::move_kind::MoveKind;
 use crate::moves::Move;
-use crate::rays::has;
 use pb_board::{Kind, Piece, Setup, Square};
 
 #[inline(always)]

@@ -10,7 +10,6 @@
 mod attack;
 mod attackers;
 mod board;
-mod candidates;
 mod cases;
 mod castling;
 mod check;
@@ -23,7 +22,6 @@ mod move_kind;
 mod moves;
 mod playing;
 mod promotion;
-mod rays;
 mod spelling;
 mod state_after;
 mod target_tables;

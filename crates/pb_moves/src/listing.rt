@@ -9,12 +9,11 @@ ghost use Rattle.pb_moves.specs.Unpinned.{IsUnpinned};
 ghost use Rattle.pb_moves.specs.Attackers.{IsSight};
 ghost use Rattle.pb_moves.specs.Candidate.{AreOwn, HoldsOwn, MayPromote, ListsBelow};
 
+use crate::attack::candidates;
 use crate::attackers::{Sight, sight_of};
-use crate::board::{own_squares, square_at};
-use crate::candidates::candidates;
+use crate::board::{has, own_squares, square_at};
 use crate::legal::{is_legal_for, is_unpinned, own_piece};
 use crate::moves::Move;
-use crate::rays::has;
 use pb_board::{Kind, Piece, Setup, Square};
 use std::alloc::{AllocError, Global};
 
@@ -62,8 +61,8 @@ fn may_promote(kind: Kind, to: Square) -> bool
 
 impl<'a> Lister<'a> {
     fn push_from(&self, from: Square, moves: &mut Vec<Move>) -> Result<(), AllocError>
-        requires seen { IsSight self.now.setup.now.board self.now.setup.now.board (opponent self.now.setup.now.turn)
-            self.now.enemy }
+        requires seen { IsSight self.now.setup.now.board self.now.setup.now.board
+            (opponent self.now.setup.now.turn) self.now.enemy }
         requires own { AreOwn self.now.own self.now.setup.now }
         requires before { ListsBelow self.now.setup.now moves.old.items (320 * from) }
         ensures { OnOk result (ListsBelow self.now.setup.now moves.new.items (320 * from + 320)) }

@@ -9,7 +9,7 @@ use Rattle.pb_board.specs.Board.{Place, Holds, at}
 use Rattle.pb_board.specs.Piece.{king_of, opponent, piece_of}
 use Rattle.pb_moves.specs.Attackers.{In}
 use Rattle.pb_moves.proofs.Changing.{own_differs}
-use Rattle.pb_moves.proofs.SameAttacks.{untold}
+use Rattle.pb_moves.proofs.Lines.{untold}
 use Rattle.pb_moves.proofs.Sets.{in_first, in_or, in_second}
 use Rattle.pb_moves.proofs.board.is_target.Goals as goal
 
@@ -37,7 +37,7 @@ returns-clause-value c =
     let q = c.args.square in
     let side = c.args.side in
     let out = untold c.has.result _ c.has.ensures.inside in
-    let king = subst (λ (enemy : Colour). In c.squares_of-king.result q ↔ Holds b q (king_of enemy)) c.opponent.ensures (c.squares_of-king.ensures q) in
+    let king = subst (λ (enemy : Colour). In c.by_piece-king.result q ↔ Holds b q (king_of enemy)) c.opponent-colour.ensures (c.by_piece-king.ensures q) in
     let own = c.by_colour.ensures.squares q in (
       λ h.
           let none = out.0 h in

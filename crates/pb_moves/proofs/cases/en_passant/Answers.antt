@@ -1,10 +1,11 @@
-use Rattle.std.proofs.Common.{◌≡◌, ◌+◌, ◌*◌, ◌∙◌, ap, sym, Option, Some, None, arith, rules}
+use Rattle.std.proofs.Common.{◌≡◌, ◌+◌, ◌*◌, ◌∙◌, ap, sym, subst, ℕ, Option, Some, None, arith, rules}
 use Rattle.std.specs.Option.{is_some}
 use Rattle.std.proofs.lemmas.Bool.{false≢true}
 use Rattle.pb_board.specs.declared.piece.Kind.{Kind}
 use Rattle.pb_board.specs.Board.{file, rank}
-use Rattle.pb_moves.specs.Reach.{Reaches}
+use Rattle.pb_moves.specs.Attacks.{Attacks}
 use Rattle.pb_moves.proofs.Carrying.{passes_unpromoted, takes_past}
+use Rattle.pb_moves.proofs.cases.en_passant.Goals.{in_default-via-in-Some+then-index+else-pawn_takes, in_default-via-in-Some+else-index, in_default-via-in_default}
 use Rattle.pb_moves.proofs.cases.en_passant.Goals as goal
 
 pub returns-then-is_some : goal.returns-then-is_some
@@ -18,7 +19,21 @@ returns-in-Some c =
     let m = c.args.m in
     let square : s.ep ≡ Some m.to = search rules in
     let none : m.promo ≡ None = search rules in
-    let reaches : Reaches c.args.pawn s.board m.from m.to = search rules in
+    let A : ℕ → ℕ → Type 0 = λ a b. Attacks c.args.pawn.colour c.args.pawn.kind s.board a b in
+    let found : A c.from-from.result c.to-to.result = (c.pawn_takes.ensures s.board).0 c.if-pawn_takes.true in
+    let reaches = subst (A m.from) c.to-to.ensures.value (subst (λ (a : ℕ). A a c.to-to.result) c.from-from.ensures.value found) in
     let taken : c.square_at-taken.result ≡ 8 * rank m.from + file m.to = omega arith in
     takes_past s m c.args.pawn c.from-from.result c.to-to.result c.square_at-taken.result c.ep-square.ensures.rules c.from-from.ensures.rules c.requires.own c.requires.pawn
     none square reaches c.from-from.ensures.value c.to-to.ensures.value taken
+
+pub returns-in_default : goal.returns-in_default
+returns-in_default c = λ b x.
+    elim c.in_default.branch [
+      | in_default-via-in-Some+then-index+else-pawn_takes w ↦
+          let s = c.args.setup.now in
+          let A : ℕ → ℕ → Type 0 = λ a b. Attacks c.args.pawn.colour c.args.pawn.kind s.board a b in
+          let here = subst (λ (a : ℕ). A a c.to-to.result) (sym c.from-from.ensures.value) (subst (A c.args.m.from) (sym c.to-to.ensures.value) x.reaches) in
+          false≢true (sym w.if-pawn_takes.false ∙ (w.pawn_takes.ensures s.board).1 here)
+      | in_default-via-in-Some+else-index w ↦ (let square = x.square in search rules)
+      | in_default-via-in_default w ↦ (let square = x.square in search rules)
+    ]

@@ -4,7 +4,6 @@ use Rattle.pb_board.specs.declared.piece.Colour.{Colour}
 use Rattle.pb_board.specs.declared.piece.Kind.TheVariants.{Rook}
 use Rattle.pb_board.specs.Castling.{castling_row}
 use Rattle.pb_board.specs.Piece.{opponent}
-use Rattle.pb_moves.proofs.SameAttacks.{attacked_from, attacked_to}
 use Rattle.pb_moves.proofs.castling.may_castle.Goals as goal
 
 pub returns-then-way_is_clear-clause-allows : goal.returns-then-way_is_clear-clause-allows
@@ -20,8 +19,8 @@ returns-then-way_is_clear-clause-allows c =
             subst (λ (x : ℕ). HasRook row.colour x) square
             (subst (λ (x : Colour). HasRook x c.squares.result.rook_from) c.colour-colour.ensures (c.holds.ensures.0 c.if-not-holds.false));
         way = c.way_is_clear.ensures.0 c.if-way_is_clear.true;
-        unchecked = λ x. (c.way_is_safe.ensures.0 safe).0 (attacked_to c.args.setup.now.board enemy row.king_from x);
-        crosses = λ x. (c.way_is_safe.ensures.0 safe).1 (attacked_to c.args.setup.now.board enemy row.rook_to x);
+        unchecked = (c.way_is_safe.ensures.0 safe).0;
+        crosses = (c.way_is_safe.ensures.0 safe).1;
       },
-      λ m. c.way_is_safe.ensures.1 ((λ x. m.unchecked (attacked_from c.args.setup.now.board enemy row.king_from x)), λ x. m.crosses (attacked_from c.args.setup.now.board enemy row.rook_to x)),
+      λ m. c.way_is_safe.ensures.1 (m.unchecked, m.crosses),
     )

@@ -2,7 +2,7 @@ use Rattle.std.proofs.Common.{◌≡◌, ap, ◌∙◌}
 use Rattle.pb_board.specs.Castling.{castling_row}
 use Rattle.pb_board.specs.Piece.{opponent}
 use Rattle.pb_moves.specs.Attacks.{IsAttacked}
-use Rattle.pb_moves.proofs.SameAttacks.{attacked_at, untold}
+use Rattle.pb_moves.proofs.Lines.{attacked_at, untold}
 use Rattle.pb_moves.proofs.castling.way_is_safe.Goals as goal
 
 pub returns-then-not-attacked : goal.returns-then-not-attacked

@@ -1,7 +1,7 @@
 use Rattle.std.proofs.Common.{ℕ, refl, subst}
 use Rattle.pb_board.specs.Piece.{opponent}
 use Rattle.pb_moves.specs.Attacks.{IsAttacked}
-use Rattle.pb_moves.proofs.SameAttacks.{attacked_at}
+use Rattle.pb_moves.proofs.Lines.{attacked_at}
 use Rattle.pb_moves.proofs.check.in_check.Goals as goal
 
 pub returns : goal.returns

@@ -2,7 +2,7 @@ use Rattle.std.proofs.Common.{◌↔◌, IsTrue, ap, ◌∙◌, subst}
 use Rattle.pb_board.specs.declared.piece.Colour.{Colour}
 use Rattle.pb_board.specs.Piece.{opponent}
 use Rattle.pb_moves.specs.Attacks.{InCheck}
-use Rattle.pb_moves.proofs.SameAttacks.{untold}
+use Rattle.pb_moves.proofs.Lines.{untold}
 use Rattle.pb_moves.proofs.check.playable.Goals as goal
 
 pub returns : goal.returns

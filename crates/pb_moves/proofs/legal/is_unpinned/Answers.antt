@@ -4,10 +4,9 @@ use Rattle.pb_board.specs.declared.piece.Colour.{Colour}
 use Rattle.pb_board.specs.declared.piece.Kind.TheVariants.{King}
 use Rattle.pb_board.specs.Piece.{opponent}
 use Rattle.pb_board.specs.Position.{IsOnlyKing}
-use Rattle.pb_moves.specs.Reach.{IsReached}
+use Rattle.pb_moves.specs.Attacks.{IsAttacked}
 use Rattle.pb_moves.specs.Attackers.{IsSight}
 use Rattle.pb_moves.proofs.Changing.{own_differs}
-use Rattle.pb_moves.proofs.SameAttacks.{attacked_to}
 use Rattle.pb_moves.proofs.legal.is_unpinned.Goals as goal
 
 pub returns : goal.returns
@@ -25,8 +24,8 @@ returns c = λ unseen.
       covered = λ b gone attack.
           (let other = own_differs s.turn enemy c.args.piece.colour refl c.requires.own.own in
           let sees = c.without.ensures s.board s.board b enemy c.args.piece c.requires.seen gone c.requires.own.stands other in
-          let A : Colour → Type 0 = λ side. IsReached b side c.king.result in
+          let A : Colour → Type 0 = λ side. IsAttacked b side c.king.result in
           let S : Colour → Type 0 = λ side. IsSight s.board b side c.without.result in
-          let found = (c.is_attacked.ensures b (subst S (sym by) sees)).1 (attacked_to b c.opponent.result c.king.result (subst A (sym by) attack)) in
+          let found = (c.is_attacked.ensures b (subst S (sym by) sees)).1 (subst A (sym by) attack) in
           false≢true (cc (unseen, found)));
     }

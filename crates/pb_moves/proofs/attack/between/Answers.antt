@@ -5,7 +5,7 @@ use Rattle.pb_moves.specs.Attackers.{In}
 use Rattle.pb_moves.specs.Attacks.{IsBetween, Pattern, files_apart, ranks_apart}
 use Rattle.pb_moves.proofs.Between.{between_told}
 use Rattle.pb_moves.proofs.Targets.{up_from}
-use Rattle.pb_moves.proofs.rays.between.Goals as goal
+use Rattle.pb_moves.proofs.attack.between.Goals as goal
 
 pub returns : goal.returns
 returns c = λ q on.

@@ -1,7 +1,7 @@
 use Rattle.std.proofs.Common.{◌≡◌, inl, inr, rules}
 use Rattle.pb_board.specs.declared.piece.Kind.TheVariants.{King}
 use Rattle.pb_moves.proofs.Sets.{in_first, in_or, in_second}
-use Rattle.pb_moves.proofs.candidates.candidates.Goals as goal
+use Rattle.pb_moves.proofs.attack.candidates.Goals as goal
 
 pub returns-then-eq : goal.returns-then-eq
 returns-then-eq c = λ to on.

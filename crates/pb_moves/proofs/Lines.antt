@@ -1,23 +1,40 @@
--- A piece attacks by `Attacks` just what it reaches by `Reach`, and a side is in check where its
--- king is in reach.
+-- Squares between two, and patterns by the differences of files and ranks.
 use Rattle.std.proofs.Common.{◌≡◌, ◌≢◌, ℕ, zero, suc, ◌+◌, ◌*◌, ◌/◌, ◌<◌, ◌≤◌, ◌⊎◌, ◌↔◌, Bool, true, false, not, IsTrue, refl, arith, inl, inr, sym, ap, subst, ◌∙◌}
 use Rattle.std.proofs.Math.Nat.{mul-div_cancel}
 use Rattle.std.proofs.lemmas.Bool.{cases_lt}
 use Rattle.pb_board.specs.declared.piece.Colour.{Colour}
-use Rattle.pb_board.specs.declared.piece.Kind.{Kind}
-use Rattle.pb_board.specs.declared.piece.Kind.TheVariants.{Pawn, Knight, Bishop, Rook, Queen, King}
-use Rattle.pb_board.specs.declared.piece.Piece.{Piece}
-use Rattle.pb_board.specs.Piece.{opponent, piece_of}
-use Rattle.pb_board.specs.Board.{Board, Holds}
-use Rattle.pb_moves.specs.Reach as lower
+use Rattle.pb_board.specs.Board.{Board}
 use Rattle.pb_moves.specs.Attacks as chess
 use Rattle.pb_moves.specs.Attacks.{files_apart, ranks_apart}
-use Rattle.pb_moves.proofs.Unique.{piece_is, step_ranks}
+
+-- the absolute differences are equal and not 0
+abbrev pub IsDiagonal : ℕ → ℕ → Type 0
+IsDiagonal a b = (files_apart a b ≡ ranks_apart a b) × (0 < files_apart a b)
+
+-- exactly one difference is 0
+abbrev pub IsOrthogonal : ℕ → ℕ → Type 0
+IsOrthogonal a b =
+    ((files_apart a b ≡ 0) × (0 < ranks_apart a b))
+    ⊎ ((0 < files_apart a b) × (ranks_apart a b ≡ 0))
+
+-- the absolute differences are 1 and 2
+abbrev IsKnightsMove : ℕ → ℕ → Type 0
+IsKnightsMove a b =
+    ((files_apart a b ≡ 1) × (ranks_apart a b ≡ 2))
+    ⊎ ((files_apart a b ≡ 2) × (ranks_apart a b ≡ 1))
+
+-- q lies strictly between a and b, which are on one file, rank or diagonal
+pub record LiesBetween (a q b : ℕ) : Type 0 where
+  pub not_first : q ≢ a
+  pub not_last : q ≢ b
+  pub files : files_apart a q + files_apart q b ≡ files_apart a b
+  pub ranks : ranks_apart a q + ranks_apart q b ≡ ranks_apart a b
+  pub on_diagonal : IsDiagonal a b → IsDiagonal a q
 
 -- ---- squares between
 
 abbrev pub IsLine : ℕ → ℕ → Type 0
-IsLine a b = lower.IsDiagonal a b ⊎ lower.IsOrthogonal a b
+IsLine a b = IsDiagonal a b ⊎ IsOrthogonal a b
 
 line_first : (f g r h n m : ℕ) → f + g ≡ n → r + h ≡ m → n ≡ 0 → f * m ≡ r * n
 line_first f g r h n m e k z = let zero_f : f ≡ 0 = omega arith in rw (zero_f, z) (omega arith)
@@ -39,7 +56,7 @@ positive n some = elim (cases_lt 0 n) [ inl l ↦ l | inr g ↦ absurd (some (om
 apart_some : (a q : ℕ) → q ≢ a → 0 < files_apart a q + ranks_apart a q
 apart_some a q ne = positive (files_apart a q + ranks_apart a q) (λ none. ne (omega arith))
 
-pub between_to : (a q b : ℕ) → IsLine a b → lower.LiesBetween a q b → chess.IsBetween a q b
+pub between_to : (a q b : ℕ) → IsLine a b → LiesBetween a q b → chess.IsBetween a q b
 between_to a q b (inl d) h =
     let slant = h.on_diagonal d in
     (h.not_first, h.not_last, h.files, h.ranks, rw (slant.0, d.0) refl)
@@ -61,7 +78,7 @@ between_to a q b (inr (inr s)) h = (
 slants : (f r n m : ℕ) → f * m ≡ r * n → (n ≡ m) × (0 < n) → 0 < f + r → (f ≡ r) × (0 < f)
 slants f r n m line d some = let same : f ≡ r = cancels f r n m line d.0 d.1 in (same, omega arith)
 
-pub between_from : (a q b : ℕ) → chess.IsBetween a q b → lower.LiesBetween a q b
+pub between_from : (a q b : ℕ) → chess.IsBetween a q b → LiesBetween a q b
 between_from a q b h = record {
   not_first = h.0;
   not_last = h.1;
@@ -69,12 +86,6 @@ between_from a q b h = record {
   ranks = h.3;
   on_diagonal = λ d. slants (files_apart a q) (ranks_apart a q) (files_apart a b) (ranks_apart a b) h.4 d (apart_some a q h.0);
 }
-
-pub clear_to : (board : Board) (a b : ℕ) → lower.WayIsClear board a b → chess.Clear board a b
-clear_to board a b clear q on h = clear q on (between_from a q b h)
-
-pub clear_from : (board : Board) (a b : ℕ) → IsLine a b → chess.Clear board a b → lower.WayIsClear board a b
-clear_from board a b line clear q on h = clear q on (between_to a q b line h)
 
 -- nothing lies between squares that are one step apart, or a knight's move
 none_between : (f g r h n m : ℕ) → f + g ≡ n → r + h ≡ m → f * m ≡ r * n → 0 < f + r → 0 < g + h → ((n ≤ 1) × (m ≤ 1)) ⊎ (((n ≡ 1) × (m ≡ 2)) ⊎ ((n ≡ 2) × (m ≡ 1))) → ⊥
@@ -89,7 +100,7 @@ none_between f g r h n m e k line some more (inr (inr two)) =
     let l : f * 1 ≡ r * 2 = ap (λ x. f * x) (sym two.1) ∙ line ∙ ap (λ x. r * x) two.0 in omega arith
 
 abbrev IsNear : ℕ → ℕ → Type 0
-IsNear a b = ((files_apart a b ≤ 1) × (ranks_apart a b ≤ 1)) ⊎ lower.IsKnightsMove a b
+IsNear a b = ((files_apart a b ≤ 1) × (ranks_apart a b ≤ 1)) ⊎ IsKnightsMove a b
 
 pub no_near : (board : Board) (a b : ℕ) → IsNear a b → chess.Clear board a b
 no_near board a b near q on h =
@@ -129,53 +140,6 @@ queen_to f r (inr h) = let x = straight_to f r h in (inr x.0, x.1)
 pub queen_from : (f r : ℕ) → (f ≡ r) ⊎ (f * r ≡ 0) → 0 < f + r → ((f ≡ r) × (0 < f)) ⊎ (((f ≡ 0) × (0 < r)) ⊎ ((0 < f) × (r ≡ 0)))
 queen_from f r (inl h) some = inl (h, omega arith)
 queen_from f r (inr h) some = inr (straight_from f r h some)
-
-pub attacks_to : (side : Colour) (kind : Kind) (board : Board) (a b : ℕ) → lower.ReachesBy side kind board a b → chess.Attacks side kind board a b
-attacks_to side Pawn board a b h =
-    let ranks : ranks_apart a b ≡ 1 = step_ranks side 1 a b h.1 in ((h.0, ranks), (λ e. h.1), no_near board a b (inl (omega arith, omega arith)))
-attacks_to side Knight board a b h = (knight_to (files_apart a b) (ranks_apart a b) h, (λ e. absurd cc), no_near board a b (inr h))
-attacks_to side Bishop board a b h = (h.0, (λ e. absurd cc), clear_to board a b h.1)
-attacks_to side Rook board a b h = (straight_to (files_apart a b) (ranks_apart a b) h.0, (λ e. absurd cc), clear_to board a b h.1)
-attacks_to side Queen board a b h = (queen_to (files_apart a b) (ranks_apart a b) h.0, (λ e. absurd cc), clear_to board a b h.1)
-attacks_to side King board a b h = (h, (λ e. absurd cc), no_near board a b (inl (omega arith, omega arith)))
-
-pub attacks_from : (side : Colour) (kind : Kind) (board : Board) (a b : ℕ) → chess.Attacks side kind board a b → lower.ReachesBy side kind board a b
-attacks_from side Pawn board a b h = (h.0.0, h.1 refl)
-attacks_from side Knight board a b h = knight_from (files_apart a b) (ranks_apart a b) h.0
-attacks_from side Bishop board a b h = (h.0, clear_from board a b (inl h.0) h.2)
-attacks_from side Rook board a b h = let x = straight_from (files_apart a b) (ranks_apart a b) h.0.0 h.0.1 in (x, clear_from board a b (inr x) h.2)
-attacks_from side Queen board a b h = let x = queen_from (files_apart a b) (ranks_apart a b) h.0.0 h.0.1 in (x, clear_from board a b x h.2)
-attacks_from side King board a b h = h.0
-
--- a piece that is no pawn attacks where it points, if nothing stands between on a line
-pub reaches_by : (side : Colour) (kind : Kind) (board : Board) (a b : ℕ) → kind ≢ Pawn → chess.Pattern kind (files_apart a b) (ranks_apart a b)
-    → (IsLine a b → lower.WayIsClear board a b) → lower.ReachesBy side kind board a b
-reaches_by side Pawn board a b no_pawn points way = absurd (no_pawn refl)
-reaches_by side Knight board a b no_pawn points way = knight_from (files_apart a b) (ranks_apart a b) points
-reaches_by side Bishop board a b no_pawn points way = (points, way (inl points))
-reaches_by side Rook board a b no_pawn points way = let x = straight_from (files_apart a b) (ranks_apart a b) points.0 points.1 in (x, way (inr x))
-reaches_by side Queen board a b no_pawn points way = let x = queen_from (files_apart a b) (ranks_apart a b) points.0 points.1 in (x, way x)
-reaches_by side King board a b no_pawn points way = points
-
--- and then nothing stands between on a line
-pub way_of : (side : Colour) (kind : Kind) (board : Board) (a b : ℕ) → lower.ReachesBy side kind board a b → IsLine a b → lower.WayIsClear board a b
-way_of side kind board a b reaches line = clear_from board a b line (attacks_to side kind board a b reaches).2
-
-pub attacked_to : (board : Board) (side : Colour) (square : ℕ) → lower.IsReached board side square → chess.IsAttacked board side square
-attacked_to board side square (a, h) =
-    let H : Piece → Type 0 = λ p. Holds board a p in
-    let R : Colour → Type 0 = λ c. lower.ReachesBy c h.piece.kind board a square in
-    (a, h.piece.kind, subst H (piece_is h.piece side h.piece.kind h.of_side refl) h.stands, attacks_to side h.piece.kind board a square (subst R h.of_side h.reaches))
-
-pub attacked_from : (board : Board) (side : Colour) (square : ℕ) → chess.IsAttacked board side square → lower.IsReached board side square
-attacked_from board side square (a, kind, stands, reaches) =
-    (a, record { piece = piece_of side kind; stands = stands; of_side = refl; reaches = attacks_from side kind board a square reaches })
-
-pub check_to : (board : Board) (side : Colour) → lower.KingInReach board side → chess.InCheck board side
-check_to board side (king, h) = (king, h.stands, attacked_to board (opponent side) king h.attacked)
-
-pub check_from : (board : Board) (side : Colour) → chess.InCheck board side → lower.KingInReach board side
-check_from board side (king, stands, attacked) = (king, record { stands = stands; attacked = attacked_from board (opponent side) king attacked })
 
 -- ---- what a test tells
 

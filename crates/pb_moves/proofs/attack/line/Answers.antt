@@ -1,5 +1,5 @@
 use Rattle.pb_moves.proofs.Sets.{in_and, in_both}
-use Rattle.pb_moves.proofs.rays.line.Goals as goal
+use Rattle.pb_moves.proofs.attack.line.Goals as goal
 
 pub returns-then-has : goal.returns-then-has
 returns-then-has c = λ q on.

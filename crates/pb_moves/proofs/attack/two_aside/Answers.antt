@@ -2,7 +2,7 @@ use Rattle.std.proofs.Common.{◌≡◌, ℕ, ◌↔◌, subst}
 use Rattle.pb_moves.specs.Attackers.{In}
 use Rattle.pb_moves.specs.Attacks.{files_apart, ranks_apart}
 use Rattle.pb_moves.proofs.Targets.{aside_tells, two_aside}
-use Rattle.pb_moves.proofs.candidates.two_aside.Goals as goal
+use Rattle.pb_moves.proofs.attack.two_aside.Goals as goal
 
 pub returns : goal.returns
 returns c = λ to on.
