@@ -2,7 +2,7 @@
 
 ghost use Rattle.std.specs.Prelude.{◌≡◌, ◌≤◌, ◌==◌, IfOk, filter, length, nat_lt, take_while};
 ghost use Rattle.pb_poly.specs.Book.{NeverFall};
-ghost use Rattle.pb_export.specs.Indexing.{AreFirsts, AreFirstsUnder, IsBefore, IsFirstUnder};
+ghost use Rattle.pb_export.specs.Indexing.{AreFirsts, AreFirstsUnder, IsFirstUnder};
 
 use pb_poly::{Book, Entry};
 use std::alloc::{AllocError, Global};
@@ -76,18 +76,10 @@ fn firsts_of(alloc: Global, entries: &[Entry]) -> Result<Vec<u32>, AllocError>
     let mut firsts = Vec::with_capacity(alloc, FRONTS as usize)?;
     let mut start = 0;
     for front in 0..FRONTS {
-        start = first_from(entries, start, front << 46);
+        start += count_below(&entries[start..], front << 46);
         firsts.push(in_32_bits(start))?;
     }
     Ok(firsts)
-}
-
-fn first_from(entries: &[Entry], start: usize, floor: u64) -> usize
-    requires rises { NeverFall entries.now }
-    requires before { IsBefore entries.now start floor }
-    ensures { IsBefore entries.now result floor }
-{
-    start + count_below(&entries[start..], floor)
 }
 
 fn in_32_bits(start: usize) -> u32

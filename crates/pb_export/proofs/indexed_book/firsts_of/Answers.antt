@@ -1,7 +1,8 @@
-use Rattle.std.proofs.Common.{◌≡◌, ◌+◌, ◌*◌, ◌%◌, ◌^◌, length, ap, subst, ◌∙◌, arith}
-use Rattle.std.proofs.lemmas.List.{length_push}
-use Rattle.pb_export.specs.Indexing.{IsBefore}
-use Rattle.pb_export.proofs.Indexes.{firsts_more, higher_floor}
+use Rattle.std.proofs.Common.{◌≡◌, ◌+◌, ◌-◌, ◌*◌, ◌%◌, ◌^◌, ltb, length, drop, take, ap, ◌∙◌, arith}
+use Rattle.std.specs.Prelude.{take_while}
+use Rattle.std.proofs.lemmas.List.{length-drop, length_push, take_all}
+use Rattle.pb_poly.specs.declared.entry.Entry.{Entry}
+use Rattle.pb_export.proofs.Indexes.{first_before, firsts_more, higher_floor}
 use Rattle.pb_export.proofs.indexed_book.firsts_of.Goals as goal
 
 pub loop-front-preserved : goal.loop-front-preserved
@@ -10,9 +11,13 @@ loop-front-preserved c =
     let front = c.loop-front.front in
     let old = c.loop-front.firsts.items in
     let put = c.in_ok-push.ensures.items in
-    let start = c.first_from-start.result in
+    let before = c.loop-front.start in
+    let count = c.count_below-start.result in
+    let start = before + count in
     let floor : (front * 70368744177664) % 18446744073709551616 ≡ front * 2 ^ 46 = omega (arith, c.loop-front-test.true) in
-    let here = subst (IsBefore entries start) floor c.first_from-start.ensures in
+    let rest : take (length entries - before) (drop before entries) ≡ drop before entries = take_all (length entries - before) (drop before entries) (omega (arith, length-drop before entries)) in
+    let counted : count ≡ length (take_while (λ (e : Entry). ltb e.key (front * 2 ^ 46)) (drop before entries)) = c.count_below-start.ensures ∙ (λ i. length (take_while (λ (e : Entry). ltb e.key (floor i)) (rest i))) in
+    let here = first_before (front * 2 ^ 46) (front * 2 ^ 46) entries before count c.requires c.loop-front.invariant.here (omega arith) counted in
     record {
       many = ap length put ∙ length_push old c.in_32_bits.result ∙ ap (λ n. n + 1) c.loop-front.invariant.many;
       each = firsts_more entries old c.push.new.self.items front start c.in_32_bits.result c.loop-front.invariant.many c.loop-front.invariant.each here c.in_32_bits.ensures put;
