@@ -19,5 +19,6 @@ trap 'exit 1' HUP INT TERM
 echo 'Building pbook without proof, with a check in the place of each: a minute or two.'
 build_unproved "$PWD" "$work/pbook" 9>&-
 [ "$("$work/pbook" fen "$start")" = "$start" ]
+{ "$work/pbook" --version || :; } | grep -q '^pbook [0-9.]*-unproved$'
 install -m 755 "$work/pbook" "$to/pbook"
 echo "$to/pbook stands, after $(($(date +%s) - begin)) seconds. Nothing was proved."

@@ -17,20 +17,6 @@ unset PROGRAM
 . tests/lib/harness.sh
 . scripts/lib/unproved.sh
 
-# copy_tree: makes $work/tree, a copy of all that the program is built from
-copy_tree() {
-    rm -rf "$work/tree"
-    mkdir "$work/tree"
-    cp crates.txt "$work/tree"
-    for folder in crates/*/; do
-        mkdir -p "$work/tree/$folder"
-        for part in "$folder"*; do
-            [ "${part##*/}" = out ] || cp -R "$part" "$work/tree/$folder"
-        done
-    done
-    [ ! -f HANDLES ] || cp HANDLES "$work/tree"
-}
-
 # has_seer FILE: whether the check, or the run of tests/io.sh, that is to see this mistake is there
 has_seer() {
     seer=$(seen_by "$1")
@@ -76,7 +62,7 @@ make_mistake() {
 
 # build PROGRAM: builds it as $work/PROGRAM with its mistakes, or `right` without one
 build() {
-    copy_tree
+    copy_tree . "$work/tree"
     for mistake in tests/wrong_programs/"$1"-*.edit; do
         [ "$1" = right ] || holds make_mistake "$mistake"
     done

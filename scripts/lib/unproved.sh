@@ -53,13 +53,30 @@ copy_built() {
     [ "$found" = true ] || { cat "$work/printed" "$work/said" && return 1; }
 }
 
-# build_unproved TREE PROGRAM: builds `pbook` of this tree so. It waits for a book.
+# copy_tree TREE COPY: copies all that programs are built from
+copy_tree() {
+    rm -rf "$2"
+    mkdir "$2"
+    cp "$1/crates.txt" "$1/HANDLES" "$2"
+    for folder in "$1"/crates/*/; do
+        made=$2/crates/$(basename "$folder")
+        mkdir -p "$made"
+        for part in "$folder"*; do
+            [ "${part##*/}" = out ] || cp -R "$part" "$made"
+        done
+    done
+}
+
+# build_unproved TREE PROGRAM: builds `pbook` of this tree so, with a version that says it. It waits
+# for a book.
 build_unproved() {
+    copy_tree "$1" "$work/unproved"
+    sed -i 's/\.version("[0-9.]*/&-unproved/' "$work/unproved/crates/pb_cli/src/grammar.rt"
     rm -rf "$work/cases"
     mkdir "$work/cases"
     : > "$work/cases/waits"
     printf 'show\n%s\n' "$work/waits" > "$work/cases/waits.args"
-    copy_built "$1/crates/pbook" "$2" --cases "$work/cases"
+    copy_built "$work/unproved/crates/pbook" "$2" --cases "$work/cases"
 }
 
 # build_unproved_examples TREE PROGRAM: builds `worked_examples` so. Its only row waits for a text.

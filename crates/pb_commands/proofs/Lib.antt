@@ -23,4 +23,5 @@ pub mod Shown
 pub mod Stopping
 pub mod Taking
 pub mod Told
+pub mod Trees
 pub mod Unread

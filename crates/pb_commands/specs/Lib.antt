@@ -34,6 +34,8 @@ pub mod Shows
 pub mod Status
 pub mod Store
 pub mod TableJudged
+pub mod Tree
+pub mod TreeRun
 pub mod WithBook
 pub use Rattle.pb_poly.specs.TableFilling
 pub use Rattle.pb_poly.specs.TableReading

@@ -26,6 +26,7 @@ pub mod run_laws;
 mod show;
 mod store;
 mod text;
+mod tree;
 
 pub use check::run_check;
 pub use collect::run_collect;
@@ -49,3 +50,4 @@ pub use run::Report;
 pub use show::{answer_show, run_show};
 pub use store::{Store, StoreError};
 pub use text::{LedgerBook, Text};
+pub use tree::answer_tree;

@@ -20,11 +20,12 @@ use pb_moves::Move;
 use pb_poly::{Book, Table, probe, read_book, take_table};
 use std::alloc::Global;
 
+/// Finds what a book has for setups.
 #[derive(Drop)]
-struct Finder<'a> {
-    alloc: Global,
-    table: &'a Table,
-    book: &'a Book,
+pub(crate) struct Finder<'a> {
+    pub(crate) alloc: Global,
+    pub(crate) table: &'a Table,
+    pub(crate) book: &'a Book,
 }
 
 impl LineAnswer for Finder<'_> {

@@ -1,0 +1,15 @@
+use Rattle.std.proofs.Common.{◌+◌, ◌-◌}
+use Rattle.pb_moves.specs.Successor.{after}
+use Rattle.pb_commands.specs.Tree.{Tree}
+use Rattle.pb_commands.proofs.Trees.{PutsBranches}
+use Rattle.pb_commands.proofs.lookup.Finder.+put_tree.Given as goal
+
+abbrev pub decreases-put_tree : goal.decreases-put_tree
+decreases-put_tree g l = l.plies
+
+-- the branches before this one have been put
+abbrev pub invariant-loop-m : goal.invariant-loop-m
+invariant-loop-m g l =
+    let state = g.K.Sink.state in
+    let f = l.fn in
+    PutsBranches (λ m. Tree f.self.table.now f.self.book.now (f.plies - 1) (f.depth + 1) (after f.setup m)) f.depth l.m-items l.m-index (state l.initial.sink) (state l.sink)
