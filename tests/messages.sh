@@ -889,6 +889,24 @@ $told lines: 0 ok (0 new, 0 again), $told refused ($told shape)" \
     done
 }
 
+# is_proved: whether the program isn't one that says that it is unproved
+is_proved() { ! "$PROGRAM" --version | grep -q unproved; }
+
+# Games that were refused through no fault of theirs are told of, beside the answers to those who sent
+# them: a run holds a million.
+lost_games() {
+    prepare
+    awk -v start="$start" 'BEGIN {
+        for (n = 1; n <= 1000003; n++) printf "%d\t1-0\t%s\t\n", n, start
+    }' > million
+    input=million
+    holds tells_of 0 'refused as full: 3 games' "$PROGRAM" collect table.txt book.bin
+    holds tells_of 0 '' "$PROGRAM" collect -q table.txt book.bin
+    sed -i '$d' million
+    sed -i '$d' million
+    holds tells_of 0 'refused as full: 1 game' "$PROGRAM" export table.txt
+}
+
 # What FILE holds is told from new games, where no new one comes too.
 terminal_again() {
     prepare
@@ -997,6 +1015,7 @@ if [ $# -eq 0 ]; then
         cut_ledger cut_input no_file reasons counted
     choose 'test -c /dev/full' '/dev/full is wanted' full_output full_book quiet_faults \
         without_errors summaries
+    choose is_proved 'a program without proof is slow' lost_games
     choose 'has gzip' 'gzip is wanted' other_input
     choose can_trace 'strace is wanted' no_more_files
     choose can_be_other 'setpriv is wanted' no_permission
