@@ -96,6 +96,16 @@ shown() {
     faulted
 }
 
+# picked: what `games` may put, which has no line for a fault
+picked() {
+    if is_same_output; then
+        came=same
+        return
+    fi
+    head -n "$(wc -l < "$work/put")" "$work/ample.put" > "$work/due"
+    faulted
+}
+
 # helped: what a command that puts all or nothing may put
 helped() {
     if is_usual; then return; fi
