@@ -9,7 +9,7 @@ set -eu
 unset PROGRAM
 . tests/lib/harness.sh
 installed=$PWD/crates/worked_examples/data/installed
-commands='check collect epd export fen games help lookup probe show'
+commands='check collect epd export fen games help lookup probe show tree'
 mkdir "$work/files"
 cd "$work/files"
 touch games.txt games.epd table.txt book.bin 'two words.epd'
@@ -35,14 +35,14 @@ offers() {
 bash_commands() {
     holds offers "$commands --help --version" pbook ''
     holds offers 'check collect' pbook c
-    holds offers "check collect epd export fen games lookup probe show" pbook help ''
+    holds offers "check collect epd export fen games lookup probe show tree" pbook help ''
     holds offers 'epd export' pbook help e
 }
 
 bash_files() {
     holds offers 'games.txt games.epd' pbook show ga
     holds offers '' pbook show book.bin ga
-    for command in collect lookup probe; do
+    for command in collect lookup probe tree; do
         holds offers table.txt pbook "$command" ta
         holds offers book.bin pbook "$command" table.txt bo
         holds offers '' pbook "$command" table.txt book.bin ga
@@ -74,6 +74,7 @@ bash_options() {
     holds offers '--ledger --journal --sync --plies --least --summary -q --quiet --help' \
         pbook collect -
     holds offers '--plies --least --summary -q --quiet --help' pbook export -
+    holds offers '--plies --help' pbook tree -
     holds offers '--sync --summary' pbook collect table.txt --s
     holds offers --summary pbook export --s
     for command in check lookup games show probe fen epd; do

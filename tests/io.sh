@@ -4,7 +4,7 @@
 # with the n-th call moving one byte alone. tests/fail_io.c says which calls count.
 # - Where a call moves one byte, output, status and files are as if it had moved all.
 # - Where a call fails, the status is 3. What is put is a front of what is put else; where a read
-#   failed, it is whole lines and then `fault read`. Only where a text is put because the words
+#   failed, it is whole lines and then `fault read`, but for `games`. Only where a text is put because the words
 #   gave no order does the status stay, and where a file that was refused, or BOOK, is looked at for
 #   what it is: then a hint is missing, and all else is as due.
 # - BOOK is the old one, or none where there was none; it is the new one only where a sync failed,
@@ -118,7 +118,7 @@ judged_as_whole() {
 judge_output() {
     [ "$status" -eq 3 ] || fails 'the status due is 3'
     cp "$work/put" "$work/front"
-    if [ "$kind" = read ]; then
+    if [ "$kind" = read ] && [ "$judge" != picked ]; then
         [ "$(tail -n 1 "$work/put")" = 'fault read' ] || fails 'a failed read is not told'
         sed '$d' "$work/put" > "$work/front"
     fi
@@ -149,6 +149,9 @@ shown() {
     is_of old book || fails 'BOOK was changed'
     is_of old file || fails 'FILE was changed'
 }
+
+# picked: the same of `games`, which puts no line for a fault
+picked() { shown; }
 
 # make_front COUNT WORD..: makes the folder $work/made-COUNT of a run over so many lines of the
 # submissions

@@ -9,8 +9,8 @@
 # - where submissions are taken: status 0, `refused <id> memory` in place of an `ok`, the other
 #   replies as they are due after that, and the files or the export of the games that were
 #   answered `ok` alone.
-# On standard error one line tells of want of memory where that ended the run, and else there is
-# what is there with ample memory, or that no game was accepted.
+# On standard error one line tells of want of memory where that ended the run. Else there is what is
+# there with ample memory, or that no game was accepted, and how many games were refused for memory.
 # The calls are as many as glibc's libmemusage.so counts, where that is there.
 # A line is printed for each command. The first run that may not be ends all; what was found is
 # shown, and the folder with it stays: the files before (old) and after (run), the output (put)
@@ -30,14 +30,28 @@ describe() {
     describe_refusals
 }
 
+# lost_told: it is told how many games were refused for memory, which the output of an export doesn't
+# say, and beside that at most that no game was accepted
+lost_told() {
+    lost='[1-9][0-9]*'
+    [ "$judge" = exported ] || lost=$(grep -c '^refused [^ ]* memory$' "$work/put") || true
+    pattern="pbook: refused for want of memory: $lost games?"
+    [ "$(grep -Ecx "$pattern" "$work/errors")" -eq 1 ] ||
+        fails "it is not told that $lost games found no memory"
+    grep -Evx "$pattern" "$work/errors" > "$work/rest" || true
+    if cmp -s "$work/ample.errors" "$work/rest"; then return; fi
+    mv "$work/rest" "$work/errors"
+    one_line_told 'pbook: no game was accepted(; book is an empty book)?'
+    if grep -q '^ok ' "$work/put"; then fails 'a game was accepted, and none is told'; fi
+}
+
 # judge_errors: want of memory that ended the run is told in one line
 judge_errors() {
     if is_same_output && is_same_told; then return; fi
     if [ "$status" -eq 3 ]; then
         one_line_told 'pbook: out of memory'
     elif [ "$status" -eq 0 ] && ! is_same_told; then
-        one_line_told 'pbook: no game was accepted(; book is an empty book)?'
-        if grep -q '^ok ' "$work/put"; then fails 'a game was accepted, and none is told'; fi
+        lost_told
     else
         is_same_told ||
             fails 'another text is on standard error' "$work/ample.errors" "$work/errors"
@@ -79,6 +93,16 @@ due_after() {
 shown() {
     if is_usual; then return; fi
     due_after "$work/ample.put"
+    faulted
+}
+
+# picked: what `games` may put, which has no line for a fault
+picked() {
+    if is_same_output; then
+        came=same
+        return
+    fi
+    head -n "$(wc -l < "$work/put")" "$work/ample.put" > "$work/due"
     faulted
 }
 

@@ -38,13 +38,20 @@ missing_files() {
     prepare
     cp games kept
     for words in 'collect no.txt book.bin' 'export no.txt' 'probe no.txt no.bin x' \
-        'lookup no.txt no.bin' 'games no.txt' 'games games no.txt' \
+        'lookup no.txt no.bin' 'tree no.txt no.bin' \
         'collect --ledger kept no.txt book.bin' 'collect --journal kept no.txt book.bin'; do
         # shellcheck disable=SC2086 # each word is one
         holds tells_of 3 'no.txt: no such file or directory' "$PROGRAM" $words
         holds says_only 'fault open'
     done
-    for words in 'show no.bin' 'probe table.txt no.bin x' 'lookup table.txt no.bin'; do
+    # The next program reads what `games` prints.
+    for words in 'games no.txt' 'games games no.txt'; do
+        # shellcheck disable=SC2086
+        holds tells_of 3 'no.txt: no such file or directory' "$PROGRAM" $words
+        holds says_only ''
+    done
+    for words in 'show no.bin' 'probe table.txt no.bin x' 'lookup table.txt no.bin' \
+        'tree table.txt no.bin'; do
         # shellcheck disable=SC2086
         holds tells_of 3 'no.bin: no such file or directory' "$PROGRAM" $words
         holds says_only 'fault open'
@@ -99,12 +106,16 @@ failed_reads() {
     prepare
     mkdir folder
     for words in 'collect folder book.bin' 'export folder' 'show folder' 'probe folder book.bin x' \
-        'games folder' 'lookup folder book.bin' 'lookup table.txt folder' \
+        'lookup folder book.bin' 'lookup table.txt folder' 'tree folder book.bin' \
         'probe table.txt folder x'; do
         # shellcheck disable=SC2086
         holds tells_of 3 'folder: is a directory' "$PROGRAM" $words
         holds says_only 'fault read'
     done
+    holds tells_of 3 'folder: is a directory' "$PROGRAM" games folder
+    holds says_only ''
+    holds tells_of 3 'folder: is a directory' "$PROGRAM" games games folder
+    holds cmp "$work/replies" games
     input=folder
     for words in epd check 'lookup table.txt book.bin' 'export table.txt' \
         'collect table.txt book.bin'; do
@@ -220,7 +231,7 @@ refused_tables() {
     head -c 20000 /dev/zero | tr '\0' '0' | fold -w 16 > longer
     others
     for words in 'collect TABLE book.bin' 'export TABLE' 'probe TABLE book.bin x' \
-        'lookup TABLE book.bin'; do
+        'lookup TABLE book.bin' 'tree TABLE book.bin'; do
         while IFS='|' read -r file text; do
             # shellcheck disable=SC2046 # each word is one
             holds tells_of 1 "$file: $text" "$PROGRAM" $(echo "$words" | sed "s/TABLE/$file/")
@@ -254,7 +265,8 @@ refused_books() {
     others
     head -c 1601 "$work/new" > cut.bin
     { tail -c 16 "$work/new" && cat "$work/new"; } > unordered.bin
-    for words in 'show BOOK' 'probe table.txt BOOK x' 'lookup table.txt BOOK'; do
+    for words in 'show BOOK' 'probe table.txt BOOK x' 'lookup table.txt BOOK' \
+        'tree table.txt BOOK'; do
         while IFS='|' read -r file text; do
             # shellcheck disable=SC2046
             holds tells_of 1 "$file: $text" "$PROGRAM" $(echo "$words" | sed "s/BOOK/$file/")
@@ -323,8 +335,10 @@ refused_words() {
     while IFS='|' read -r record reason text; do
         holds tells_of 1 "FEN: $text" "$PROGRAM" fen "$record"
         holds says_only "refused fen $reason"
-        holds tells_of 1 "FEN: $text" "$PROGRAM" probe table.txt book.bin "$record"
-        holds says_only "refused fen $reason"
+        for command in probe tree; do
+            holds tells_of 1 "FEN: $text" "$PROGRAM" "$command" table.txt book.bin "$record"
+            holds says_only "refused fen $reason"
+        done
     done << 'END'
 no record|fields|it doesn't have six fields, one space between each two
 startpos|fields|it doesn't have six fields, one space between each two
@@ -414,7 +428,7 @@ help_width() {
     input=/dev/null
     commands=$("$PROGRAM" --help | sed -n '/^Commands:/,/^$/s/^  \([a-z]*\) .*/\1/p')
     holds test "$(echo "$commands" | sort | tr '\n' ' ')" = \
-        'check collect epd export fen games help lookup probe show '
+        'check collect epd export fen games help lookup probe show tree '
     for command in '' $commands; do
         [ "$command" != help ] || continue
         # shellcheck disable=SC2086 # no command is no word
@@ -673,6 +687,31 @@ kept: line 12 can't be taken; it is skipped
 kept: its last line has no end; it is left out" "$PROGRAM" games games other kept
 }
 
+# A file that gave no line of games is refused, unless it is empty or begins as one that holds games.
+no_games() {
+    prepare
+    others
+    echo 'pbook-ledger 1' > header
+    printf 'torn\t\t\t\t\n' > sealed
+    : > empty
+    for file in header sealed empty; do
+        holds tells_of 0 '' "$PROGRAM" games "$file"
+        holds says_only ''
+    done
+    while IFS='|' read -r file text; do
+        holds tells_of 1 "$(seq -f "$file: line %g can't be taken; it is skipped" "$(wc -l < "$file")")
+$file: it holds no game$text" "$PROGRAM" games "$file"
+        holds says_only ''
+        # The other files are printed.
+        holds test "$("$PROGRAM" games games "$file" games 2> told | wc -l)" -eq 18
+        holds grep -qxF "pbook: $file: it holds no game$text" told
+    done << 'END'
+pgn|; it looks like PGN
+packed|; it is packed by gzip; zcat unpacks it
+text|
+END
+}
+
 # to_itself: prints the games behind those that are read, up to a limit
 to_itself() (
     trap '' XFSZ
@@ -717,6 +756,7 @@ each_told() {
     "$1" summary collect -q --summary table.txt book.bin
     "$1" check check
     "$1" lookup lookup table.txt book.bin
+    "$1" tree tree table.txt book.bin
     "$1" record fen startpos
     "$1" too_many epd lines
     "$1" games games rotten
@@ -889,6 +929,24 @@ $told lines: 0 ok (0 new, 0 again), $told refused ($told shape)" \
     done
 }
 
+# is_proved: whether the program isn't one that says that it is unproved
+is_proved() { ! "$PROGRAM" --version | grep -q unproved; }
+
+# Games that were refused through no fault of theirs are told of, beside the answers to those who sent
+# them: a run holds a million.
+lost_games() {
+    prepare
+    awk -v start="$start" 'BEGIN {
+        for (n = 1; n <= 1000003; n++) printf "%d\t1-0\t%s\t\n", n, start
+    }' > million
+    input=million
+    holds tells_of 0 'refused as full: 3 games' "$PROGRAM" collect table.txt book.bin
+    holds tells_of 0 '' "$PROGRAM" collect -q table.txt book.bin
+    sed -i '$d' million
+    sed -i '$d' million
+    holds tells_of 0 'refused as full: 1 game' "$PROGRAM" export table.txt
+}
+
 # What FILE holds is told from new games, where no new one comes too.
 terminal_again() {
     prepare
@@ -993,10 +1051,12 @@ if [ $# -eq 0 ]; then
     choose true '' missing_files one_file failed_reads closed_pipe refused_tables \
         refused_books refused_ledger \
         refused_words wrong_use arguments_wanted words_too_many help_width asked_help no_game \
-        bad_journal_line told_at_once other_book odd_names left_out_lines games_to_themselves \
+        bad_journal_line told_at_once other_book odd_names left_out_lines no_games \
+        games_to_themselves \
         cut_ledger cut_input no_file reasons counted
     choose 'test -c /dev/full' '/dev/full is wanted' full_output full_book quiet_faults \
         without_errors summaries
+    choose is_proved 'a program without proof is slow' lost_games
     choose 'has gzip' 'gzip is wanted' other_input
     choose can_trace 'strace is wanted' no_more_files
     choose can_be_other 'setpriv is wanted' no_permission

@@ -137,7 +137,7 @@ make_of() {
 # each_run TRY OWN: calls TRY with the name, the judge, the input and the words of each run that
 # all these scripts make, and OWN where FILE has nine games. Each script has its own judges:
 # `helped` of a text that is put though the words give no order, `shown` of a command that makes
-# no file, `collected`, and `journaled`.
+# no file, `picked` of `games`, `collected`, and `journaled`.
 each_run() {
     "$1" 'help' helped nothing --help
     "$1" 'a misspelt command' helped nothing colect table book
@@ -149,7 +149,8 @@ each_run() {
     "$1" 'show' shown nothing show ../book
     "$1" 'show, refused' shown nothing show ../cut_book
     "$1" 'probe' shown nothing probe ../table ../book "$start"
-    "$1" 'games' shown nothing games ../first ../first
+    "$1" 'tree' shown nothing tree ../table ../book
+    "$1" 'games' picked nothing games ../first ../first
     "$1" 'collect without an old BOOK' collected games collect --plies 8 --least 2 ../table book
     head -c 1600 "$work/book" > "$work/old/book"
     "$1" 'collect' collected games collect ../table book

@@ -10,6 +10,10 @@ use Rattle.clap.specs.declared.builder.value_parser.ValueParser.TheVariants.{Uns
 abbrev pub required_argument : Text → Rule
 required_argument id = record (new_rule id) { required = true; action = Some Set }
 
+-- an argument that has this value where it isn't given
+abbrev pub argument_or : Text → Text → Rule
+argument_or value id = record (new_rule id) { action = Some Set; defaults = value ∷ [] }
+
 -- arguments, so many at least
 abbrev pub arguments_from : ℕ → Text → Rule
 arguments_from least id = record (new_rule id) {
@@ -63,6 +67,13 @@ abbrev pub lookup_command : App
 lookup_command = with_rule (with_rule (new_app (codes "lookup")) (required_argument (codes "TABLE")))
     (required_argument (codes "BOOK"))
 
+-- by default it goes four plies deep from the initial array
+abbrev pub tree_command : App
+tree_command = with_rule (with_rule (with_rule (with_rule (new_app (codes "tree"))
+    (number (codes "plies") (codes "4") 1024)) (required_argument (codes "TABLE")))
+    (required_argument (codes "BOOK")))
+    (argument_or (codes "rnbqkbnr/pppppppp/8/8/8/8/PPPPPPPP/RNBQKBNR w KQkq - 0 1") (codes "FEN"))
+
 abbrev pub check_command : App
 check_command = new_app (codes "check")
 
@@ -90,6 +101,7 @@ program_alone = on_top (λ s. record s {
 -- the whole command line
 abbrev pub pbook : App
 pbook = with_subcommand (with_subcommand (with_subcommand (with_subcommand (with_subcommand
-    (with_subcommand (with_subcommand (with_subcommand (with_subcommand program_alone
-    collect_command.top) export_command.top) check_command.top) games_command.top) fen_command.top)
-    epd_command.top) show_command.top) probe_command.top) lookup_command.top
+    (with_subcommand (with_subcommand (with_subcommand (with_subcommand (with_subcommand
+    program_alone collect_command.top) export_command.top) check_command.top) games_command.top)
+    fen_command.top) epd_command.top) show_command.top) probe_command.top) lookup_command.top)
+    tree_command.top

@@ -1,5 +1,5 @@
 -- What an order has of the arguments of the command line.
-use Rattle.std.specs.Prelude.{◌≡◌, ℕ, Bool, false, List, [], Option, Some, None, codes, unwrap_or}
+use Rattle.std.specs.Prelude.{◌≡◌, ◌<◌, ◌^◌, ℕ, Bool, false, List, [], Option, Some, None, codes, unwrap_or}
 use Rattle.std.specs.Borrow.{Bor}
 use Rattle.std.specs.Str.Parse.{IsNumeral, digits_value, without_leading_plus}
 use Rattle.clap.specs.Words.{Row, Text, all_of, first_of, found_of, one_of, rows_of}
@@ -13,7 +13,7 @@ use Rattle.pb_cli.specs.declared.order.Order.{Order}
 use Rattle.pb_cli.specs.declared.order.ParseFault.{ParseFault}
 use Rattle.pb_cli.specs.declared.order.ParseFault.TheVariants.{Memory}
 use Rattle.pb_cli.specs.declared.order.Order.TheVariants.{Fen, Epd, Show, Probe, Lookup, Check}
-use Rattle.pb_cli.specs.declared.order.Order.TheVariants.{Collect, Export, Games}
+use Rattle.pb_cli.specs.declared.order.Order.TheVariants.{Collect, Export, Games, Tree}
 
 -- what the matches found, argument by argument
 abbrev pub rows_given : ArgMatches → List Row
@@ -26,6 +26,7 @@ name_of Epd = codes "epd"
 name_of (Show _) = codes "show"
 name_of (Probe _ _ _) = codes "probe"
 name_of (Lookup _ _) = codes "lookup"
+name_of (Tree _ _ _ _) = codes "tree"
 name_of Check = codes "check"
 name_of (Collect _) = codes "collect"
 name_of (Export _) = codes "export"
@@ -70,6 +71,10 @@ HasRules rules rows = (said : CountingRules) → AreRules said
     → SaysNumber (codes "plies") said.plies rows → SaysNumber (codes "least") said.least rows
     → rules ≡ said
 
+-- the number is that which the option of this name says
+abbrev pub HasNumber : Text → ℕ → List Row → Type 0
+HasNumber id number rows = (said : ℕ) → said < 2 ^ 32 → SaysNumber id said rows → number ≡ said
+
 -- the order has the arguments of these matches; the others have none
 abbrev pub HasArguments : Order → List Row → Type 0
 HasArguments (Fen fen moves) rows =
@@ -79,6 +84,9 @@ HasArguments (Probe table book fen) rows = HasArgument (codes "TABLE") table row
     × HasArgument (codes "BOOK") book rows × HasArgument (codes "FEN") fen rows
 HasArguments (Lookup table book) rows =
     HasArgument (codes "TABLE") table rows × HasArgument (codes "BOOK") book rows
+HasArguments (Tree plies table book fen) rows = HasNumber (codes "plies") plies rows
+    × HasArgument (codes "TABLE") table rows × HasArgument (codes "BOOK") book rows
+    × HasArgument (codes "FEN") fen rows
 HasArguments (Collect given) rows = HasRules given.rules rows × HasKeeping given.kept rows
     × HasArgument (codes "TABLE") given.table rows × HasArgument (codes "BOOK") given.book rows
     × HasFlag (codes "summary") given.summary rows × HasFlag (codes "quiet") given.quiet rows

@@ -15,4 +15,5 @@ pub use Rattle.pb_commands.specs.ProbeShown.{ProbesSources}
 pub use Rattle.pb_commands.specs.Refused.{StopsOrEnds}
 pub use Rattle.pb_commands.specs.Run.{Headed}
 pub use Rattle.pb_commands.specs.Runs.{CollectRun, ContinueRun, JournalRun}
+pub use Rattle.pb_commands.specs.TreeRun.{GrowsTree}
 pub use Rattle.pb_commands.specs.Games.{PicksAll, PicksUntil}

@@ -2,11 +2,12 @@
 ghost use Rattle.std.specs.Prelude.{IfOk};
 ghost use Rattle.clap.specs.Words.{App, new_app};
 ghost use Rattle.pb_cli.specs.Built.{HasRule, IsCommand};
-ghost use Rattle.pb_cli.specs.CommandLine.{check_command, collect_command, epd_command};
+ghost use Rattle.pb_cli.specs.CommandLine.{argument_or, check_command, collect_command};
+ghost use Rattle.pb_cli.specs.CommandLine.{epd_command};
 ghost use Rattle.pb_cli.specs.CommandLine.{export_command, fen_command, flag, games_command};
 ghost use Rattle.pb_cli.specs.CommandLine.{lookup_command, number, option, pbook, probe_command};
 ghost use Rattle.pb_cli.specs.CommandLine.{program_alone, required_argument, show_command};
-ghost use Rattle.pb_cli.specs.CommandLine.{with_games};
+ghost use Rattle.pb_cli.specs.CommandLine.{tree_command, with_games};
 
 use clap::builder::ValueParser;
 use clap::{Arg, ArgAction, Command};
@@ -43,7 +44,8 @@ pub(crate) fn command_line<'a>(alloc: Global) -> Result<Command<'a>, AllocError>
         .subcommand(epd(alloc))?
         .subcommand(show(alloc)?)?
         .subcommand(probe(alloc)?)?
-        .subcommand(lookup(alloc)?)
+        .subcommand(lookup(alloc)?)?
+        .subcommand(tree(alloc)?)
 }
 
 // Its name in usage lines is `pbook`, however it was called.
@@ -149,6 +151,36 @@ For example
     )
     .arg(required(alloc, "TABLE", TABLE_HELP))?
     .arg(required(alloc, "BOOK", BOOK_HELP))
+}
+
+fn tree<'a>(alloc: Global) -> Result<Command<'a>, AllocError>
+    ensures { IfOk result (IsCommand tree_command) }
+{
+    bare_command(
+        alloc,
+        "tree",
+        "Prints a book's moves from a position on, as a tree",
+        "pbook tree [OPTIONS] <TABLE> <BOOK> [FEN]",
+        "\
+Below each move, two spaces further in, are those that the book has after it.
+
+For example, two plies from the start of a game:
+  pbook tree --plies 2 table.txt book.bin
+prints lines such as
+  e2e4 287
+    e7e5 120
+    c7c5 96
+  d2d4 43",
+    )
+    .arg(number(alloc, "plies", "N", "4", MAX_PLIES, "Go N plies deep"))?
+    .arg(required(alloc, "TABLE", TABLE_HELP))?
+    .arg(required(alloc, "BOOK", BOOK_HELP))?
+    .arg(optional(
+        alloc,
+        "FEN",
+        "rnbqkbnr/pppppppp/8/8/8/8/PPPPPPPP/RNBQKBNR w KQkq - 0 1",
+        "A FEN record to begin from, in place of a game's start",
+    ))
 }
 
 fn collect<'a>(alloc: Global) -> Result<Command<'a>, AllocError>
@@ -335,6 +367,17 @@ fn flag<'a>(alloc: Global, name: &'a str, help: &'a str) -> Arg<'a>
     Arg::new(alloc, name)
         .long(name)
         .action(ArgAction::SetTrue)
+        .help(help)
+}
+
+/// Takes an argument that is `value` where it isn't given. Help doesn't show that.
+fn optional<'a>(alloc: Global, id: &'a str, value: &'a str, help: &'a str) -> Arg<'a>
+    ensures { HasRule (argument_or value.now id.now) result }
+{
+    Arg::new(alloc, id)
+        .action(ArgAction::Set)
+        .default_value(value)
+        .hide_default_value(true)
         .help(help)
 }
 

@@ -4,7 +4,7 @@ ghost use Rattle.clap.specs.Walk.{texts};
 ghost use Rattle.clap.specs.Words.{subcommand_of, subcommand_rows_of, takes};
 ghost use Rattle.pb_cli.specs.CommandLine.{pbook};
 ghost use Rattle.pb_cli.specs.Orders.{HasArgument, HasArguments, HasKeeping, HasRules, HasTexts};
-ghost use Rattle.pb_cli.specs.Orders.{IsOrderOf, RefusesRightly, rows_given};
+ghost use Rattle.pb_cli.specs.Orders.{HasNumber, IsOrderOf, RefusesRightly, rows_given};
 ghost use Rattle.pb_cli.specs.declared.order.ParseFault.TheVariants.{Memory};
 
 use crate::grammar::command_line;
@@ -62,6 +62,17 @@ pub enum Order<'a> {
         table: &'a str,
         /// The path of the book.
         book: &'a str,
+    },
+    /// Shows the moves that a book has from a FEN record on.
+    Tree {
+        /// How many plies deep.
+        plies: u32,
+        /// The path of the table.
+        table: &'a str,
+        /// The path of the book.
+        book: &'a str,
+        /// The record, its six fields as one argument.
+        record: &'a str,
     },
     /// Judges the submissions on standard input.
     Check,
@@ -164,6 +175,12 @@ fn order_of<'a>(alloc: Global, matches: &ArgMatches<'a>) -> Result<Order<'a>, Pa
             table: text(given, "TABLE"),
             book: text(given, "BOOK"),
         }),
+        Some(("tree", given)) => Ok(Order::Tree {
+            plies: number(given, "plies"),
+            table: text(given, "TABLE"),
+            book: text(given, "BOOK"),
+            record: text(given, "FEN"),
+        }),
         Some(("check", _)) => Ok(Order::Check),
         Some(("collect", given)) => Ok(Order::Collect(collect(given))),
         Some(("export", given)) => Ok(Order::Export(export(given))),
@@ -215,9 +232,13 @@ fn kept<'a>(given: &ArgMatches<'a>) -> Keeping<'a>
 fn rules(given: &ArgMatches<'_>) -> Rules
     ensures { HasRules result (rows_given given.now) }
 {
-    let plies = given.get_one("plies").unwrap_or(0);
-    let least = given.get_one("least").unwrap_or(0);
-    Rules::new(plies, least).unwrap_or(Rules::all_plies())
+    Rules::new(number(given, "plies"), number(given, "least")).unwrap_or(Rules::all_plies())
+}
+
+fn number(given: &ArgMatches<'_>, id: &str) -> u32
+    ensures { HasNumber id.now result (rows_given given.now) }
+{
+    given.get_one(id).unwrap_or(0)
 }
 
 // Clap gives matches only with what is required.

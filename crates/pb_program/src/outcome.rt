@@ -17,12 +17,16 @@ pub(crate) fn tell_refused(messages: Messages<'_>, order: &Order<'_>, why: &Refu
             Refused::Table(_),
             Order::Probe { table, .. }
             | Order::Lookup { table, .. }
+            | Order::Tree { table, .. }
             | Order::Collect(CollectOrder { table, .. })
             | Order::Export(ExportOrder { table, .. }),
         ) => tell_file(messages, Due::Table, table, why),
         (
             Refused::Book(_),
-            Order::Show { book } | Order::Probe { book, .. } | Order::Lookup { book, .. },
+            Order::Show { book }
+            | Order::Probe { book, .. }
+            | Order::Lookup { book, .. }
+            | Order::Tree { book, .. },
         ) => tell_file(messages, Due::Book, book, why),
         (Refused::Ledger(_), Order::Collect(order)) => {
             tell_file(messages, Due::Games, path_of(order.kept), why);
@@ -57,6 +61,15 @@ fn tell_file<E: Display>(messages: Messages<'_>, due: Due, name: &str, why: &E) 
         }
         (_, Some(looks)) => messages.tell(&format_args!("{name}: {why}; it {looks}")),
     }
+}
+
+/// Answers whether a file that gave no game may hold some, and tells where it can't.
+pub(crate) fn may_hold_games(messages: Messages<'_>, name: &str) -> bool {
+    let may = matches!(looks_of_file(messages.rt, name), None | Some(Looks::Games));
+    if !may {
+        tell_file(messages, Due::Games, name, &"it holds no game");
+    }
+    may
 }
 
 /// Makes sure that no book takes the place of games, as where `--ledger` was left out, and warns

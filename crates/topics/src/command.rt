@@ -6,8 +6,8 @@ use crate::collecting::{self, Passed};
 use crate::ends::{Output, fills_in, is_told, rules_in};
 use crate::game::stream_of;
 use pb_commands::{
-    Fault, Stopped, answer_lookup, pick_games, run_check, run_epd, run_export, run_fen, run_probe,
-    run_show, status,
+    Fault, Stopped, answer_lookup, answer_tree, pick_games, run_check, run_epd, run_export,
+    run_fen, run_probe, run_show, status,
 };
 use pb_poly::{FromRead, Source, ToWrite};
 use rows::book::file_of;
@@ -107,10 +107,26 @@ fn run(page: &mut Page, call: &[&str]) -> Done {
             let mut book = source_in(ends, "input", "reader:3", file.as_bytes());
             run_probe(alloc, &mut table, &mut book, fen, &mut sink, fills)
         }
+        ("tree", [table, plies, fen, entries @ ..]) => {
+            let file = file_of(alloc, entries)?;
+            let (fen, plies) = (fen.as_bytes(), count_of(plies) as u32);
+            let mut table = source_in(ends, "table", "reader:1000", table.as_bytes());
+            let mut book = source_in(ends, "input", "reader:3", file.as_bytes());
+            unless_stopped(answer_tree(alloc, &mut table, &mut book, fen, plies, &mut sink, fills))
+        }
         _ => return collecting::answer(page, call),
     };
     tell(page, ends, answer, &output);
     Ok(())
+}
+
+/// Whether the input was taken.
+fn unless_stopped(answer: Result<bool, Stopped>) -> Result<bool, Fault> {
+    match answer {
+        Ok(all_taken) => Ok(all_taken),
+        Err(Stopped::Refused(_)) => Ok(false),
+        Err(Stopped::Fault(fault)) => Err(fault),
+    }
 }
 
 /// The command `lookup` over a table, a book of these entries and lines, or `export` where there is
@@ -133,11 +149,14 @@ fn read_all(
         Some(entries) => {
             let file = file_of(alloc, entries)?;
             let mut book = source_in(ends, "book", "reader:3", file.as_bytes());
-            match answer_lookup(alloc, &mut table, &mut book, &mut source, &mut sink, fills) {
-                Ok(all_taken) => Ok(all_taken),
-                Err(Stopped::Refused(_)) => Ok(false),
-                Err(Stopped::Fault(fault)) => Err(fault),
-            }
+            unless_stopped(answer_lookup(
+                alloc,
+                &mut table,
+                &mut book,
+                &mut source,
+                &mut sink,
+                fills,
+            ))
         }
         None => run_export(alloc, rules, &mut table, &mut source, &mut sink, fills),
     };

@@ -10,7 +10,7 @@ _pbook() {
     local word=${COMP_WORDS[COMP_CWORD]} last=${COMP_WORDS[COMP_CWORD - 1]}
     COMPREPLY=()
     if [ "$COMP_CWORD" -eq 1 ]; then
-        COMPREPLY=($(compgen -W 'collect check export games show probe lookup fen epd help --help --version' -- "$word"))
+        COMPREPLY=($(compgen -W 'collect check export games show probe lookup tree fen epd help --help --version' -- "$word"))
         return
     fi
     # Bash has the `=` of `--ledger=FILE`, and the `<` of `<FILE`, as a word of its own.
@@ -31,6 +31,7 @@ _pbook() {
         case ${COMP_WORDS[1]} in
             collect) COMPREPLY=($(compgen -W '--ledger --journal --sync --plies --least --summary -q --quiet --help' -- "$word")) ;;
             export) COMPREPLY=($(compgen -W '--plies --least --summary -q --quiet --help' -- "$word")) ;;
+            tree) COMPREPLY=($(compgen -W '--plies --help' -- "$word")) ;;
             *) COMPREPLY=($(compgen -W '--help' -- "$word")) ;;
         esac
         return
@@ -50,9 +51,9 @@ _pbook() {
     done
     case ${COMP_WORDS[1]} in
         show | export) files=1 ;;
-        probe | lookup | collect) files=2 ;;
+        probe | lookup | tree | collect) files=2 ;;
         games) files=$COMP_CWORD ;;
-        help) COMPREPLY=($(compgen -W 'collect check export games show probe lookup fen epd' -- "$word")) ;;
+        help) COMPREPLY=($(compgen -W 'collect check export games show probe lookup tree fen epd' -- "$word")) ;;
     esac
     if [ "$before" -lt "$files" ]; then
         _pbook_files "$word"

@@ -12,4 +12,5 @@ returns c =
     let with_epd = IsCommand-adds _ _ _ _ _ with_fen c.epd.ensures c.in_ok-subcommand-6.ensures in
     let with_show = IsCommand-adds _ _ _ _ _ with_epd c.in_ok-show.ensures c.in_ok-subcommand-7.ensures in
     let with_probe = IsCommand-adds _ _ _ _ _ with_show c.in_ok-probe.ensures c.in_ok-subcommand-8.ensures in
-    IfOk-weaker c.subcommand-9.result _ _ (λ line adds. IsCommand-adds _ _ _ _ _ with_probe c.in_ok-lookup.ensures adds) c.subcommand-9.ensures
+    let with_lookup = IsCommand-adds _ _ _ _ _ with_probe c.in_ok-lookup.ensures c.in_ok-subcommand-9.ensures in
+    IfOk-weaker c.subcommand-10.result _ _ (λ line adds. IsCommand-adds _ _ _ _ _ with_lookup c.in_ok-tree.ensures adds) c.subcommand-10.ensures
