@@ -13,7 +13,7 @@ use pb_poly::{FromRead, Source, ToWrite};
 use rows::book::file_of;
 use rows::ends::{NamedSource, end_of, source_in};
 use rows::page::{Done, NO_ROW, Page};
-use rows::text::count_of;
+use rows::text::{count_of, small_of};
 use std::fmt::Write;
 use std::io::Cursor;
 
@@ -109,7 +109,7 @@ fn run(page: &mut Page, call: &[&str]) -> Done {
         }
         ("tree", [table, plies, fen, entries @ ..]) => {
             let file = file_of(alloc, entries)?;
-            let (fen, plies) = (fen.as_bytes(), count_of(plies) as u32);
+            let (fen, plies) = (fen.as_bytes(), small_of(plies));
             let mut table = source_in(ends, "table", "reader:1000", table.as_bytes());
             let mut book = source_in(ends, "input", "reader:3", file.as_bytes());
             unless_stopped(answer_tree(alloc, &mut table, &mut book, fen, plies, &mut sink, fills))
