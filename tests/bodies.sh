@@ -530,7 +530,10 @@ checks_nothing() {
 
 # A program that does nothing passes no part of `make check`.
 failing() {
-    mkdir -p "$work/whole/crates/pbook"
+    mkdir -p "$work/whole/crates/pbook" "$work/whole/crates/pb_cli/src"
+    for file in crates.txt HANDLES crates/pbook/stdout crates/pb_cli/src/grammar.rt; do
+        : > "$work/whole/$file"
+    done
     cp -R "$top/scripts" "$top/tests" "$top/examples" "$work/whole"
     holds checks_nothing replies
     holds checks_nothing files messages demo replies locks order
