@@ -89,7 +89,8 @@ def main():
         host, _, port = at.rpartition(":")
         with socket.create_server((host, int(port)), backlog=128) as door:
             with Collector(*names, *options, program=os.environ.get("PBOOK", "pbook")) as collector:
-                print("serve.py: at {}:{}".format(*door.getsockname()), file=sys.stderr)
+                # At once, as the collector may write there too.
+                sys.stderr.write("serve.py: at {}:{}\n".format(*door.getsockname()))
                 serve(door, collector)
     except Ended as ended:
         sys.exit(ended.status if ended.status >= 0 else 128 - ended.status)

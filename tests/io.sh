@@ -4,9 +4,9 @@
 # with the n-th call moving one byte alone. tests/fail_io.c says which calls count.
 # - Where a call moves one byte, output, status and files are as if it had moved all.
 # - Where a call fails, the status is 3. What is put is a front of what is put else; where a read
-#   failed, it is whole lines and then `fault read`, but for `games`. Only where a text is put because the words
-#   gave no order does the status stay, and where a file that was refused, or BOOK, is looked at for
-#   what it is: then a hint is missing, and all else is as due.
+#   failed, it is whole lines and then `fault read`, but for `games`. Only where a text is put
+#   because the words gave no order does the status stay, and where a file that was refused, or
+#   BOOK, is looked at for what it is: then a hint is missing, and all else is as due.
 # - BOOK is the old one, or none where there was none; it is the new one only where a sync failed,
 #   that of the folder or of a journal.
 # - The FILE of `--ledger` is the one that is made of the first lines of the submissions, at least

@@ -10,6 +10,7 @@ import contextlib
 import os
 import pathlib
 import random
+import re
 import signal
 import socket
 import subprocess
@@ -35,8 +36,9 @@ class Service:
             start_new_session=True, env={**os.environ, "PBOOK": program})
         Service.all.append(self)
         self.said = self.process.stderr.readline()
-        host, _, port = self.said.decode().partition("serve.py: at ")[2].rpartition(":")
-        self.address = host, int(port or 0)
+        # What pbook says of a wrong table may come before or behind it.
+        at = re.search(rb"serve\.py: at (\S+):(\d+)", self.said)
+        self.address = (at[1].decode(), int(at[2])) if at else None
 
     def connect(self, room=None):
         return Connection(self.address, room)
