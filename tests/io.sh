@@ -272,7 +272,7 @@ on_old_file() {
     try 'collect on an old journal, synced' journaled later \
         collect --journal file --sync ../table book
     printf 'torn\t1-0\t%s\te2' "$start" >> "$work/old/file"
-    try 'collect on a torn journal' journaled later collect --journal file ../table book
+    try 'collect on a torn journal' journaled later collect -q --journal file ../table book
 }
 
 traced=false

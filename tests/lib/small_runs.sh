@@ -63,8 +63,8 @@ prepare() {
 }
 
 # told_as_due WORD..: the undisturbed run has told what is due on standard error: the file that it
-# refused or couldn't open, the first line of an error of use, that the last line of the journal or
-# the last submission has no end, and else nothing
+# refused or couldn't open, the first line of an error of use, that the last submission has no end
+# where -q isn't there, and else nothing
 told_as_due() {
     cause=
     : > "$work/due.errors"
@@ -83,12 +83,8 @@ told_as_due() {
         return
     fi
     case "$ample_status $*" in
-        '0 collect --journal '*)
-            [ -z "$(tail -c 1 "$work/old/file")" ] ||
-                echo 'pbook: the last line of file has no end; it may be a cut game' ;;
-    esac > "$work/due.errors"
-    case "$ample_status $1" in
-        '0 collect' | '0 export' | '1 check') echo "$unended" >> "$work/due.errors" ;;
+        '0 collect -q '*) ;;
+        '0 collect '* | '0 export '* | '1 check'*) echo "$unended" > "$work/due.errors" ;;
     esac
     cmp -s "$work/due.errors" "$work/errors" ||
         fails 'another text is on standard error' "$work/due.errors" "$work/errors"
