@@ -96,12 +96,10 @@ shown() {
     faulted
 }
 
-# picked: what `games` may put, which has no line for a fault
+# picked: what `games` may put, which has no line for a fault, but where its words weren't read for
+# want of memory
 picked() {
-    if is_same_output; then
-        came=same
-        return
-    fi
+    if is_usual; then return; fi
     head -n "$(wc -l < "$work/put")" "$work/ample.put" > "$work/due"
     faulted
 }
