@@ -137,16 +137,8 @@ def EnPassantHolds(board: Board, turn: str, ep: Optional[int]) -> bool:
 
 
 def IsSetup(p: Position) -> bool:
-    return (len(p.board) == 64
-            and all(any(all(Holds(p.board, q, piece_of(side, King)) == (q == king)
-                            for q in SQUARES)
-                        for king in squares_of(p.board, piece_of(side, King)))
-                    for side in COLOURS)
-            and all(0 < rank(q) < 7 for side in COLOURS
-                    for q in squares_of(p.board, piece_of(side, Pawn)))
-            and (p.ep is None or (rank_for(p.turn, p.ep) == 5 and IsEmpty(p.board, p.ep)
-                                  and Holds(p.board, beyond(p.turn, p.ep),
-                                            piece_of(opponent(p.turn), Pawn)))))
+    return (len(p.board) == 64 and HasKings(p.board) and HasNoEdgePawn(p.board)
+            and EnPassantHolds(p.board, p.turn, p.ep))
 
 
 class Record(NamedTuple):
@@ -297,9 +289,13 @@ class Moved(NamedTuple):
     promo: Optional[str]
 
 
+def IsPromotion(kind: str) -> bool:
+    return kind != Pawn and kind != King
+
+
 def IsMove(m: Moved) -> bool:
     return (m.from_ < 64 and m.to < 64 and m.from_ != m.to
-            and (m.promo is None or (m.promo != Pawn and m.promo != King)))
+            and (m.promo is None or IsPromotion(m.promo)))
 
 
 def spelling(m: Moved) -> bytes:
