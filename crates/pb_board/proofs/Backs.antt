@@ -1,11 +1,10 @@
 -- The board comes back from its bitboards.
-use Rattle.std.proofs.Common.{◌≡◌, ◌↔◌, ◌+◌, ◌*◌, max, bit_or, ℕ, IsTrue, Bool, true, false, ◌==◌, List, [], ◌∷◌, Option, Some, None, length, cond, refl, sym, ap, ap₂, subst, ◌∙◌, arith, slice_index_or, slice_set}
+use Rattle.std.proofs.Common.{◌≡◌, ◌↔◌, ◌+◌, ◌*◌, max, bit_or, ℕ, IsTrue, Bool, true, false, ◌==◌, List, [], ◌∷◌, Option, Some, None, length, cond, refl, sym, ap, ap₂, subst, ◌∙◌, arith, slice_index_or}
 use Rattle.std.specs.Int.{bit_at}
 use Rattle.std.proofs.lemmas.Nat.Bits.{bit_at_or}
 use Rattle.std.specs.Bool.{then_some}
 use Rattle.std.specs.List.{find}
 use Rattle.std.proofs.lemmas.Bool.{false≢true}
-use Rattle.std.proofs.lemmas.List.{length-set}
 use Rattle.std.proofs.lemmas.List.FromFn.{fill_by_all}
 use Rattle.pb_board.specs.declared.piece.Colour.{Colour}
 use Rattle.pb_board.specs.declared.piece.Colour.TheVariants.{White, Black}
@@ -13,9 +12,7 @@ use Rattle.pb_board.specs.declared.piece.Kind.{Kind}
 use Rattle.pb_board.specs.declared.piece.Kind.TheVariants.{Pawn, Knight, Bishop, Rook, Queen, King}
 use Rattle.pb_board.specs.declared.piece.Piece.{Piece}
 use Rattle.pb_board.specs.declared.bitboards.Bitboards.{Bitboards}
-use Rattle.pb_board.specs.declared.setup.MovedPiece.{MovedPiece}
 use Rattle.pb_board.specs.declared.setup.Rights.{Rights}
-use Rattle.pb_board.specs.MovedPiece.{with_moved}
 use Rattle.pb_board.specs.SetupRules.{HasBitboards}
 use Rattle.pb_board.specs.Position.{IsSetup, Position, position_of}
 use Rattle.pb_board.specs.Piece.{colour_number, kind_number, piece_of}
@@ -111,6 +108,3 @@ setup_is m b turn rights ep full e = ap (λ (x : Board). position_of x turn righ
 pub opened : (m : Bitboards) (turn : Colour) (rights : Rights) (ep : Option ℕ) (s : Position) → HasBitboards (position_of (board_of m) turn rights ep) m
     → position_of (board_of m) turn rights ep ≡ s → HasBitboards s m
 opened m turn rights ep s kept is = subst (λ (p : Position). HasBitboards p m) is kept
-
-pub length-moved : (b : Board) (moved : MovedPiece) → length b ≡ 64 → length (with_moved b moved) ≡ 64
-length-moved b moved full = length-set (slice_set b moved.from None) moved.to (Some moved.piece) ∙ length-set b moved.from None ∙ full

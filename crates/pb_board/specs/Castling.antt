@@ -1,5 +1,5 @@
 -- The four castlings: who castles by which right, and between which squares king and rook go.
-use Rattle.std.specs.Prelude.{◌≡◌, ℕ, ◌⊎◌, Bool, ◌&&◌, ◌==◌, Option, List, [], ◌∷◌}
+use Rattle.std.specs.Prelude.{ℕ, Bool, ◌&&◌, ◌==◌, Option, List, [], ◌∷◌}
 use Rattle.std.specs.List.{find}
 use Rattle.pb_board.specs.declared.piece.Colour.{Colour}
 use Rattle.pb_board.specs.declared.piece.Colour.TheVariants.{White, Black}
@@ -48,8 +48,3 @@ castling_of from to =
 abbrev pub castling_from_home : ℕ → ℕ → Option Castling
 castling_from_home king rook =
     find (λ c. (castling_row c).king_from == king && (castling_row c).rook_from == rook) castlings
-
--- a king or a rook that may castle begins on the square
-abbrev pub IsHome : ℕ → Type 0
-IsHome square =
-    (c : Castling) × ((square ≡ (castling_row c).king_from) ⊎ (square ≡ (castling_row c).rook_from))

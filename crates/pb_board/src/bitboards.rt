@@ -4,7 +4,7 @@ ghost use Rattle.std.specs.Prelude.{◌≡◌, ◌<◌, ◌↔◌, ℕ, IsTrue, 
 ghost use Rattle.std.specs.Int.{bit_at};
 ghost use Rattle.pb_board.specs.Board.{Board, IsEmpty, Holds, at};
 ghost use Rattle.pb_board.specs.Initial.{initial_board};
-ghost use Rattle.pb_board.specs.MovedPiece.{with_moved};
+ghost use Rattle.pb_board.specs.MovedPiece.{with_moved, with_pieces_moved};
 ghost use Rattle.pb_board.specs.Piece.{colour_number, kind_number, piece_of};
 ghost use Rattle.pb_board.specs.Bitboards.{bitboards_of};
 ghost use Rattle.pb_board.specs.declared.piece.Colour.{Colour};
@@ -65,13 +65,24 @@ fn clear(bitboards: &mut Bitboards, index: u8)
 }
 
 #[inline(always)]
-pub(crate) fn move_piece(bitboards: &mut Bitboards, moved: MovedPiece)
+fn move_piece(bitboards: &mut Bitboards, moved: MovedPiece)
     ensures { (b : Board) → length b ≡ 64 → bitboards.old ≡ bitboards_of b
         → bitboards.new ≡ bitboards_of (with_moved b moved) }
 {
     clear(bitboards, moved.from.index());
     clear(bitboards, moved.to.index());
     set_down(bitboards, moved.to.index(), Some(moved.piece));
+}
+
+#[inline(always)]
+pub(crate) fn move_pieces(bitboards: &mut Bitboards, first: MovedPiece, second: Option<MovedPiece>)
+    ensures { (b : Board) → length b ≡ 64 → bitboards.old ≡ bitboards_of b
+        → bitboards.new ≡ bitboards_of (with_pieces_moved b first second) }
+{
+    move_piece(bitboards, first);
+    if let Some(second) = second {
+        move_piece(bitboards, second);
+    }
 }
 
 pub(crate) fn bitboards_of(board: &[Option<Piece>; 64]) -> Bitboards
@@ -161,7 +172,7 @@ fn kind_of(number: u64) -> Kind
 
 // Which kind it is can't be foretold, so it is made of the bits without a branch.
 #[inline(always)]
-fn kind_at(bitboards: &Bitboards, index: u8) -> Kind
+pub(crate) fn kind_at(bitboards: &Bitboards, index: u8) -> Kind
     requires { index < 64 }
     ensures { (b : Board) (p : Piece) → bitboards.now ≡ bitboards_of b → Holds b index p
         → result ≡ p.kind }

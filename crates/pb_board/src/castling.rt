@@ -1,7 +1,7 @@
 //! The four castlings.
 
-ghost use Rattle.std.specs.Prelude.{◌≡◌, ◌<◌, ◌↔◌, ◌||◌, ◌==◌, IsTrue};
-ghost use Rattle.pb_board.specs.Castling.{IsHome, castling_from_home, castling_of, castling_row};
+ghost use Rattle.std.specs.Prelude.{◌≡◌, ◌<◌};
+ghost use Rattle.pb_board.specs.Castling.{castling_from_home, castling_of, castling_row};
 
 use crate::piece::Colour;
 use crate::setup::Rights;
@@ -59,17 +59,6 @@ impl Castling {
         }
     }
 
-    /// Tells whether a king or a rook that may castle begins on the square.
-    #[inline(always)]
-    pub fn is_home(square: Square) -> bool
-        ensures { IsTrue result ↔ IsHome square }
-    {
-        matches!(
-            square,
-            Square::A1 | Square::E1 | Square::H1 | Square::A8 | Square::E8 | Square::H8
-        )
-    }
-
     /// Gives the side that castles so.
     #[inline(always)]
     pub fn colour(self) -> Colour
@@ -92,22 +81,6 @@ impl Castling {
             Castling::BlackShort => rights.black_short,
             Castling::BlackLong => rights.black_long,
         }
-    }
-
-    /// Tells whether a move between these squares loses the right: it leaves or reaches the king's or
-    /// the rook's first square.
-    #[inline(always)]
-    pub fn is_lost_by(self, from: Square, to: Square) -> bool
-        ensures { let row = castling_row self in
-            result ≡ (from == row.king_from || to == row.king_from
-            || (from == row.rook_from || to == row.rook_from)) }
-    {
-        let CastlingSquares {
-            king_from,
-            rook_from,
-            ..
-        } = self.squares();
-        from == king_from || to == king_from || from == rook_from || to == rook_from
     }
 
     /// Gives the squares between which king and rook go.

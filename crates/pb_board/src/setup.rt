@@ -78,8 +78,9 @@ impl Setup {
     ghost use Rattle.pb_board.specs.Piece.{opponent, piece_of};
     ghost use Rattle.pb_board.specs.declared.piece.Colour.{Colour};
     ghost use Rattle.pb_board.specs.declared.piece.Kind.{Kind};
-    ghost use Rattle.pb_board.specs.Position.{IsSetup, IsOnlyKing, position_of, with_piece_moved};
-    ghost use Rattle.pb_board.specs.MovedPiece.{with_two_moved};
+    ghost use Rattle.pb_board.specs.declared.piece.Piece.{Piece};
+    ghost use Rattle.pb_board.specs.Position.{IsSetup, IsOnlyKing, position_of};
+    ghost use Rattle.pb_board.specs.MovedPiece.{with_pieces_moved};
     ghost use Rattle.pb_board.specs.Refusal.{IsFirstFault};
 
     /// Makes a setup, of a board by square index.
@@ -117,45 +118,23 @@ impl Setup {
         })
     }
 
-    /// Moves a piece in place: the other side is then to move, with these rights and this en passant
-    /// square.
+    /// Moves a piece in place, and then another one where two go: the other side is then to move,
+    /// with these rights and this en passant square.
     #[inline(always)]
-    pub fn move_piece(
-        &mut self,
-        from: Square,
-        to: Square,
-        piece: Piece,
-        rights: Rights,
-        ep: Option<Square>,
-    )
-        requires rules { IsSetup (position_of (with_piece_moved self.old.board from to piece)
-            (opponent self.old.turn) rights ep) }
-        ensures { self.new ≡ position_of (with_piece_moved self.old.board from to piece)
-            (opponent self.old.turn) rights ep }
-    {
-        let next = self;
-        bitboards::move_piece(&mut next.bitboards, MovedPiece { from, to, piece });
-        next.turn = next.turn.opponent();
-        next.rights = rights;
-        next.ep = ep;
-    }
-
-    /// Moves two pieces, as when king and rook castle, and else does as `move_piece`.
-    pub fn move_two(
+    pub fn move_pieces(
         &mut self,
         first: MovedPiece,
-        second: MovedPiece,
+        second: Option<MovedPiece>,
         rights: Rights,
         ep: Option<Square>,
     )
-        requires rules { IsSetup (position_of (with_two_moved self.old.board first second)
+        requires rules { IsSetup (position_of (with_pieces_moved self.old.board first second)
             (opponent self.old.turn) rights ep) }
-        ensures { self.new ≡ position_of (with_two_moved self.old.board first second)
+        ensures { self.new ≡ position_of (with_pieces_moved self.old.board first second)
             (opponent self.old.turn) rights ep }
     {
         let next = self;
-        bitboards::move_piece(&mut next.bitboards, first);
-        bitboards::move_piece(&mut next.bitboards, second);
+        bitboards::move_pieces(&mut next.bitboards, first, second);
         next.turn = next.turn.opponent();
         next.rights = rights;
         next.ep = ep;
@@ -194,6 +173,14 @@ impl Setup {
         ensures rules { IsSetup self.now }
     {
         bitboards::piece_at(&self.bitboards, square.index())
+    }
+
+    /// Gives the kind of what stands on the square, where something does.
+    #[inline(always)]
+    pub fn kind_at(&self, square: Square) -> Kind
+        ensures { (piece : Piece) → Holds self.now.board square piece → result ≡ piece.kind }
+    {
+        bitboards::kind_at(&self.bitboards, square.index())
     }
 
     /// Gives the side to move.

@@ -1,6 +1,6 @@
 -- The moves of two pieces: a pawn that takes another en passant goes by way of that pawn's square,
 -- and a rook goes after its king.
-use Rattle.std.proofs.Common.{◌≡◌, ◌≢◌, ℕ, ◌+◌, ◌*◌, ◌<◌, arith, sym, ap, subst, ◌∙◌, inl, inr, Some, None, [], ◌∷◌, length}
+use Rattle.std.proofs.Common.{◌≡◌, ◌≢◌, ℕ, ◌+◌, ◌*◌, ◌<◌, arith, refl, sym, ap, subst, ◌∙◌, inl, inr, Some, None, [], ◌∷◌, length}
 use Rattle.std.proofs.lemmas.List.{set-set}
 use Rattle.std.proofs.lemmas.List.Elements.{All-nil, All-cons}
 use Rattle.pb_board.specs.declared.piece.Colour.{Colour}
@@ -11,7 +11,7 @@ use Rattle.pb_board.specs.declared.piece.Piece.{Piece}
 use Rattle.pb_board.specs.Piece.{king_of, pawn_of, piece_of, rook_of}
 use Rattle.pb_board.specs.Board.{Board, Place, at, file, rank, IsForward}
 use Rattle.pb_board.specs.declared.setup.MovedPiece.{MovedPiece}
-use Rattle.pb_board.specs.MovedPiece.{with_moved, with_two_moved}
+use Rattle.pb_board.specs.MovedPiece.{with_moved, with_pieces_moved}
 use Rattle.pb_board.specs.Position.{Position, IsSetup, beyond, with_piece_moved}
 use Rattle.pb_board.specs.declared.castling.Castling.{Castling}
 use Rattle.pb_board.specs.Castling.{castling_row}
@@ -20,14 +20,14 @@ use Rattle.pb_moves.specs.Candidate.{HoldsOwn}
 use Rattle.pb_moves.specs.Castling.{RowAllows, rook_goes}
 use Rattle.pb_moves.specs.Cases.{Becomes, Castles, EnPassant, Goes, last_rank}
 use Rattle.pb_moves.specs.Successor.{Differs}
-use Rattle.pb_moves.specs.declared.move_kind.MoveKind.TheVariants.{Two}
-use Rattle.pb_moves.specs.MoveKind.{LeadsTo}
+use Rattle.pb_moves.specs.MovedPieces.{LeadsTo}
 use Rattle.pb_moves.specs.Moved.{Moved, IsMove}
 use Rattle.pb_moves.proofs.MovedPiece.{put}
-use Rattle.pb_moves.proofs.Castlings.{rows}
+use Rattle.pb_moves.proofs.Castlings.{rook_home_is, rows}
+use Rattle.pb_moves.proofs.SameCastling.{castles_to}
 use Rattle.pb_moves.proofs.Differing.{All-two, at_put_other, at_put_same, carried_put, differs_put, length_put, lifted_put, off_one, off_two}
 use Rattle.pb_moves.proofs.Kept.{en_passant_rank_inside}
-use Rattle.pb_moves.proofs.Kings.{castling_unpinned, castling_king, gone_is_beyond, pawn_reach}
+use Rattle.pb_moves.proofs.Kings.{castling_unpinned, castling_king, gone_is_beyond, holds_one, pawn_reach}
 use Rattle.pb_moves.proofs.Successors.{castled_writes}
 use Rattle.pb_moves.proofs.Unique.{en_passant_at, pawn_files, piece_is, step_ranks}
 
@@ -67,7 +67,7 @@ past_in_order old new a b c moved =
 
 -- a pawn goes by way of the square of the pawn that it takes
 goes_past : (p : Piece) (old : Board) (from to gone : ℕ) → length old ≡ 64 → from < 64 → to < 64 → gone < 64 → from ≢ to → gone ≢ from → gone ≢ to
-    → Differs old (with_two_moved old (going from gone p) (going gone to p)) ((from, None) ∷ (to, Some p) ∷ (gone, None) ∷ [])
+    → Differs old (with_pieces_moved old (going from gone p) (Some (going gone to p))) ((from, None) ∷ (to, Some p) ∷ (gone, None) ∷ [])
 goes_past p old from to gone full on_from on_to on_gone ne apart_from apart_to =
     let a : ℕ × Place = (from, None) in
     let b : ℕ × Place = (to, Some p) in
@@ -91,9 +91,12 @@ passes_unpromoted s m pawn new ok x =
       | inr stays ↦ stays.1
     ]
 
+pawn_no_king : (p : Piece) (side : Colour) → p.kind ≡ Pawn → p ≢ king_of side
+pawn_no_king p side pawn king = let kind = ap (λ (x : Piece). x.kind) king in absurd cc
+
 pub takes_past : (s : Position) (m : Moved) (pawn : Piece) (from to gone : ℕ) → IsSetup s → IsMove m → HoldsOwn s m.from pawn → pawn.kind ≡ Pawn
     → m.promo ≡ None → s.ep ≡ Some m.to → Attacks pawn.colour pawn.kind s.board m.from m.to → from ≡ m.from → to ≡ m.to → gone ≡ 8 * rank m.from + file m.to
-    → LeadsTo (EnPassant s m pawn) s m (Two (going from gone pawn) (going gone to pawn))
+    → LeadsTo (EnPassant s m pawn) s m (going from gone pawn, Some (going gone to pawn))
 takes_past s m pawn from to gone ok is own is_pawn none square reaches from_is to_is gone_is =
     let side = s.turn in
     let rank_is = en_passant_at s m.to ok square in
@@ -112,17 +115,23 @@ takes_past s m pawn from to gone ok is own is_pawn none square reaches from_is t
     let first = going m.from gone pawn in
     let second = going gone m.to pawn in
     let piece : pawn ≡ pawn_of side = piece_is pawn side Pawn own.own is_pawn in
-    let new = with_two_moved s.board first second in
+    let new = with_pieces_moved s.board first (Some second) in
     let P : Piece → Type 0 = λ p. Differs s.board new ((m.from, None) ∷ (m.to, Some p) ∷ (gone, None) ∷ []) in
     let D : ℕ → Type 0 = λ g. Differs s.board new ((m.from, None) ∷ (m.to, Some (pawn_of side)) ∷ (g, None) ∷ []) in
     let moved = subst P piece (goes_past pawn s.board m.from m.to gone ok.places on_from on_to on_gone is.moves off_from off_to) in
-    let L : ℕ → ℕ → Type 0 = λ f t. LeadsTo (EnPassant s m pawn) s m (Two (going f gone pawn) (going gone t pawn)) in
+    let L : ℕ → ℕ → Type 0 = λ f t. LeadsTo (EnPassant s m pawn) s m (going f gone pawn, Some (going gone t pawn)) in
     let leads : L m.from m.to = (
-      (
-        record { own = own.own; stands = own.stands; on_board = on_gone; moves = λ e. off_from (sym e) },
-        record { own = own.own; stands = arrives_at s.board first ok.places on_gone; on_board = on_to; moves = off_to },
-        stays_at s.board first m.to (λ e. is.moves (sym e)) (λ e. off_to (sym e)) ∙ rank_is.1.0,
-      ),
+      record {
+        leaves = refl;
+        arrives = record { own = own.own; on_board = on_gone; moves = λ e. off_from (sym e) };
+        reaches = λ e. absurd cc;
+        follows = record {
+          arrives = record { own = own.own; on_board = on_to; moves = off_to };
+          stands = arrives_at s.board first ok.places on_gone;
+          empty = stays_at s.board first m.to (λ e. is.moves (sym e)) (λ e. off_to (sym e)) ∙ rank_is.1.0;
+        };
+        castles = λ king. absurd (pawn_no_king pawn side is_pawn (holds_one s.board m.from pawn (king_of side) own.stands king));
+      },
       record { pawn = is_pawn; reaches = reaches; square = square; after = record { kind = Pawn; becomes = pawn_stays; board = subst D beyond_is moved } },
     ) in
     subst (λ (f : ℕ). L f to) (sym from_is) (subst (L m.from) (sym to_is) leads)
@@ -130,7 +139,7 @@ takes_past s m pawn from to gone ok is own is_pawn none square reaches from_is t
 pub castles_so : (c : Castling) (s : Position) (m : Moved) (king rook : Piece) (from to rook_from rook_to : ℕ) → IsSetup s → IsMove m → HoldsOwn s m.from king → king.kind ≡ King
     → m.promo ≡ None → m.from ≡ (castling_row c).king_from → m.to ≡ (castling_row c).king_to → RowAllows (castling_row c) s
     → from ≡ m.from → to ≡ m.to → rook ≡ rook_of (castling_row c).colour → rook_from ≡ (castling_row c).rook_from → rook_to ≡ (castling_row c).rook_to
-    → LeadsTo (λ b. (d : Castling) × Castles (castling_row d) s m king b) s m (Two (going from to king) (going rook_from rook_to rook))
+    → LeadsTo (λ b. (d : Castling) × Castles (castling_row d) s m king b) s m (going from to king, Some (going rook_from rook_to rook))
 castles_so c s m king rook from to rook_from rook_to ok is own is_king none home target may from_is to_is rook_is rook_from_is rook_to_is =
     let row = castling_row c in
     let squares = rows c in
@@ -141,7 +150,7 @@ castles_so c s m king rook from to rook_from rook_to ok is own is_king none home
     let off_from : (q : ℕ) → row.king_from ≢ q → q ≢ m.from = λ q ne e. ne (sym (e ∙ home)) in
     let off_to : (q : ℕ) → row.king_to ≢ q → q ≢ m.to = λ q ne e. ne (sym (e ∙ target)) in
     let kept : (q : ℕ) → row.king_from ≢ q → row.king_to ≢ q → at (with_moved s.board first) q ≡ at s.board q = λ q f t. stays_at s.board first q (off_from q f) (off_to q t) in
-    let new = with_two_moved s.board first second in
+    let new = with_pieces_moved s.board first (Some second) in
     let after : (d : Castling) × Castles (castling_row d) s m king new = (
       c,
       record {
@@ -154,27 +163,28 @@ castles_so c s m king rook from to rook_from rook_to ok is own is_king none home
           becomes = inr ((λ pawn. absurd cc), none, sym is_king);
           board =
               (let B : ℕ → ℕ → Piece → Type 0 = λ f t p.
-              Differs s.board (with_two_moved s.board (going f t p) second) ((f, None) ∷ (t, Some (king_of s.turn)) ∷ rook_goes row) in
+              Differs s.board (with_pieces_moved s.board (going f t p) (Some second)) ((f, None) ∷ (t, Some (king_of s.turn)) ∷ rook_goes row) in
               let side : king_of row.colour ≡ king_of s.turn = ap king_of (sym may.side) in
-              let D : Piece → Type 0 = λ p. Differs s.board (with_two_moved s.board (going row.king_from row.king_to (king_of row.colour)) second) ((row.king_from, None) ∷ (row.king_to, Some p) ∷ rook_goes row) in
+              let D : Piece → Type 0 = λ p. Differs s.board (with_pieces_moved s.board (going row.king_from row.king_to (king_of row.colour)) (Some second)) ((row.king_from, None) ∷ (row.king_to, Some p) ∷ rook_goes row) in
               let made : B row.king_from row.king_to (king_of row.colour) = subst D side (castled_writes row s.board squares ok.places) in
               subst (λ (p : Piece). B m.from m.to p) (sym the_king.0)
               (subst (λ (t : ℕ). B m.from t (king_of row.colour)) (sym target) (subst (λ (f : ℕ). B f row.king_to (king_of row.colour)) (sym home) made)));
         };
       },
     ) in
-    let L : ℕ → ℕ → ℕ → ℕ → Piece → Type 0 = λ f t g u p. LeadsTo (λ b. (d : Castling) × Castles (castling_row d) s m king b) s m (Two (going f t king) (going g u p)) in
+    let L : ℕ → ℕ → ℕ → ℕ → Piece → Type 0 = λ f t g u p. LeadsTo (λ b. (d : Castling) × Castles (castling_row d) s m king b) s m (going f t king, Some (going g u p)) in
     let leads : L m.from m.to row.rook_from row.rook_to (rook_of row.colour) = (
-      (
-        record { own = own.own; stands = own.stands; on_board = is.to_on_board; moves = is.moves },
-        record {
-          own = sym may.side;
+      record {
+        leaves = refl;
+        arrives = record { own = own.own; on_board = is.to_on_board; moves = is.moves };
+        reaches = λ e. refl;
+        follows = record {
+          arrives = record { own = sym may.side; on_board = squares.rook_to; moves = squares.rook_moves };
           stands = kept row.rook_from squares.from_rook squares.to_rook ∙ may.rook;
-          on_board = squares.rook_to;
-          moves = squares.rook_moves;
-        },
-        kept row.rook_to squares.from_rook_to squares.to_rook_to ∙ unpinned.1,
-      ),
+          empty = kept row.rook_to squares.from_rook_to squares.to_rook_to ∙ unpinned.1;
+        };
+        castles = λ king. ((castles_to c s m home target may).goes, sym (rook_home_is s.turn m c (record { side_is = may.side; from_is = home; to_is = target })));
+      },
       after,
     ) in
     subst (λ (f : ℕ). L f to rook_from rook_to rook) (sym from_is) (subst (λ (t : ℕ). L m.from t rook_from rook_to rook) (sym to_is)

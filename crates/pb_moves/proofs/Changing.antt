@@ -1,18 +1,16 @@
 -- What is seen after a move, and whether its king is safe then, told from the setup before it.
-use Rattle.std.proofs.Common.{◌≡◌, ◌≢◌, ◌↔◌, ℕ, Bool, true, false, not, IsTrue, refl, sym, ap, subst, ◌∙◌, Some, None, [], ◌∷◌, length}
+use Rattle.std.proofs.Common.{◌≡◌, ◌≢◌, ◌↔◌, ℕ, Bool, true, false, not, IsTrue, refl, sym, ap, subst, ◌∙◌, Option, Some, None, [], ◌∷◌, length}
 use Rattle.std.proofs.lemmas.Bool.{false≢true}
 use Rattle.pb_board.specs.declared.piece.Colour.{Colour}
 use Rattle.pb_board.specs.declared.piece.Piece.{Piece}
 use Rattle.pb_board.specs.declared.setup.MovedPiece.{MovedPiece}
 use Rattle.pb_board.specs.Piece.{opponent}
 use Rattle.pb_board.specs.Board.{Board, Holds}
-use Rattle.pb_board.specs.MovedPiece.{with_moved, with_two_moved}
-use Rattle.pb_board.specs.Position.{Position, IsSetup, IsOnlyKing, with_piece_moved}
-use Rattle.pb_moves.specs.declared.move_kind.MoveKind.{MoveKind}
-use Rattle.pb_moves.specs.declared.move_kind.MoveKind.TheVariants.{Two}
+use Rattle.pb_board.specs.MovedPiece.{with_moved, with_pieces_moved}
+use Rattle.pb_board.specs.Position.{Position, IsSetup, IsOnlyKing}
 use Rattle.pb_moves.specs.declared.attackers.Sight.{Sight}
-use Rattle.pb_moves.specs.Moved.{Moved, IsMove}
-use Rattle.pb_moves.specs.MoveKind.{CanGo, Fits, LeadsTo, board_by}
+use Rattle.pb_moves.specs.Moved.{Moved}
+use Rattle.pb_moves.specs.MovedPieces.{Arrives, Fits, LeadsTo}
 use Rattle.pb_moves.specs.Attacks.{InCheck, IsAttacked}
 use Rattle.pb_moves.specs.Candidate.{HoldsOwn}
 use Rattle.pb_moves.specs.Cases.{CaseOf, SafeCase}
@@ -38,26 +36,25 @@ follows s seen from to after carries old new piece own sees moved arrives stands
     let other = λ (p : Piece) (e : p.colour ≡ s.turn). own_differs s.turn (opponent s.turn) p.colour refl e in
     carries s.board old new (opponent s.turn) piece own sees moved (other piece arrives) stands (other own leaves)
 
--- what is seen after each kind of move
-pub sees_normal : (s : Position) (m : Moved) (piece arriving : Piece) (seen after : Sight) → IsSetup s → IsMove m → HoldsOwn s m.from piece → arriving.colour ≡ s.turn
-    → IsSight s.board s.board (opponent s.turn) seen → Follows s seen m.from m.to after → IsSight s.board (with_piece_moved s.board m.from m.to arriving) (opponent s.turn) after
-sees_normal s m piece arriving seen after ok is own arrives sees carries =
-    carries s.board (with_piece_moved s.board m.from m.to arriving) arriving piece sees
-    (carried_put s.board m.from m.to arriving ok.places is.from_on_board is.to_on_board is.moves) arrives own.stands own.own
-
-sees_going : (s : Position) (board : Board) (c : MovedPiece) (seen after : Sight) → length board ≡ 64 → CanGo board s.turn c
+-- what is seen after a piece has gone
+sees_going : (s : Position) (board : Board) (c : MovedPiece) (own : Piece) (seen after : Sight) → length board ≡ 64 → Arrives s.turn c → Holds board c.from own → own.colour ≡ s.turn
     → IsSight s.board board (opponent s.turn) seen → Follows s seen c.from c.to after → IsSight s.board (with_moved board c) (opponent s.turn) after
-sees_going s board c seen after full can sees carries =
-    carries board (with_moved board c) c.piece c.piece sees
-    (carried_put board c.from c.to c.piece full (holds_on_board board c.from c.piece full can.stands) can.on_board can.moves) can.own can.stands can.own
+sees_going s board c own seen after full arrives stands leaves sees carries =
+    carries board (with_moved board c) c.piece own sees
+    (carried_put board c.from c.to c.piece full (holds_on_board board c.from own full stands) arrives.on_board arrives.moves) arrives.own stands leaves
 
-pub sees_two : (s : Position) (first second : MovedPiece) (seen one two : Sight) → IsSetup s → Fits (Two first second) s
-    → IsSight s.board s.board (opponent s.turn) seen → Follows s seen first.from first.to one → Follows s one second.from second.to two
-    → IsSight s.board (with_two_moved s.board first second) (opponent s.turn) two
-sees_two s first second seen one two ok fits sees there on =
-    let between = with_moved s.board first in
+pub sees_first : (s : Position) (m : Moved) (piece : Piece) (first : MovedPiece) (second : Option MovedPiece) (seen one : Sight) → IsSetup s → HoldsOwn s m.from piece → Fits s m first second
+    → IsSight s.board s.board (opponent s.turn) seen → Follows s seen first.from first.to one → IsSight s.board (with_moved s.board first) (opponent s.turn) one
+sees_first s m piece first second seen one ok own fits sees carries =
+    let H : ℕ → Type 0 = λ q. Holds s.board q piece in
+    sees_going s s.board first piece seen one ok.places fits.arrives (subst H (sym fits.leaves) own.stands) own.own sees carries
+
+pub sees_second : (s : Position) (m : Moved) (first second : MovedPiece) (one two : Sight) → IsSetup s → Fits s m first (Some second)
+    → IsSight s.board (with_moved s.board first) (opponent s.turn) one → Follows s one second.from second.to two
+    → IsSight s.board (with_pieces_moved s.board first (Some second)) (opponent s.turn) two
+sees_second s m first second one two ok fits sees carries =
     let full = length_put _ first.to (Some first.piece) (length_put s.board first.from None ok.places) in
-    sees_going s between second one two full fits.1 (sees_going s s.board first seen one ok.places fits.0 sees there) on
+    sees_going s (with_moved s.board first) second second.piece one two full fits.follows.arrives fits.follows.stands fits.follows.arrives.own sees carries
 
 -- the king's square is attacked just where the side is in check
 check_by_attack : (new : Board) (side enemy : Colour) (king : ℕ) → enemy ≡ opponent side → IsOnlyKing new side king → IsAttacked new enemy king → InCheck new side
@@ -83,12 +80,12 @@ test_tells s m piece new enemy king false ok own case e only tells = (
   λ legal. refl,
 )
 
-pub safe_test : (s : Position) (m : Moved) (piece : Piece) (kind : MoveKind) (side enemy : Colour) (king : ℕ) (sight : Sight) (hit : Bool) → IsSetup s
-    → HoldsOwn s m.from piece → LeadsTo (CaseOf s m piece) s m kind → side ≡ s.turn → enemy ≡ opponent side
-    → ((b : Board) → CaseOf s m piece b → IsOnlyKing b s.turn king) → IsSight s.board (board_by kind m s.board) (opponent s.turn) sight
+pub safe_test : (s : Position) (m : Moved) (piece : Piece) (moved : MovedPiece × Option MovedPiece) (side enemy : Colour) (king : ℕ) (sight : Sight) (hit : Bool) → IsSetup s
+    → HoldsOwn s m.from piece → LeadsTo (CaseOf s m piece) s m moved → side ≡ s.turn → enemy ≡ opponent side
+    → ((b : Board) → CaseOf s m piece b → IsOnlyKing b s.turn king) → IsSight s.board (with_pieces_moved s.board moved.0 moved.1) (opponent s.turn) sight
     → ((b : Board) → IsSight s.board b enemy sight → (IsTrue hit ↔ IsAttacked b enemy king)) → (IsTrue (not hit) ↔ SafeCase s m)
-safe_test s m piece kind side enemy king sight hit ok own leads same e only sees tells =
-    let new = board_by kind m s.board in
+safe_test s m piece moved side enemy king sight hit ok own leads same e only sees tells =
+    let new = with_pieces_moved s.board moved.0 moved.1 in
     let other : enemy ≡ opponent s.turn = e ∙ ap opponent same in
     let S : Colour → Type 0 = λ x. IsSight s.board new x sight in
     test_tells s m piece new enemy king hit ok own leads.1 other (only new leads.1) (tells new (subst S (sym other) sees))

@@ -4,13 +4,15 @@ use Rattle.std.proofs.lemmas.Bool.{eq-eqb, eqb-true}
 use Rattle.std.specs.Prelude.{IsTrue, nat_lt}
 use Rattle.pb_board.specs.declared.piece.Colour.{Colour}
 use Rattle.pb_board.specs.declared.castling.Castling.{Castling}
+use Rattle.pb_board.specs.declared.piece.Kind.{Kind}
+use Rattle.pb_board.specs.declared.piece.Kind.TheVariants.{Rook}
 use Rattle.pb_board.specs.declared.castling.Castling.TheVariants.{WhiteShort, WhiteLong, BlackShort, BlackLong}
 use Rattle.pb_board.specs.Piece.{opponent, rook_of}
 use Rattle.pb_board.specs.Board.{Board, Holds}
 use Rattle.pb_board.specs.Position.{Position}
 use Rattle.pb_board.specs.Castling.{CastlingRow, castling_row}
 use Rattle.pb_moves.specs.Attackers.{IsTaken}
-use Rattle.pb_moves.specs.Attacks.{Clear, IsAttacked}
+use Rattle.pb_moves.specs.Attacks.{Clear, IsAttacked, Pattern, files_apart, ranks_apart}
 use Rattle.pb_moves.specs.Moved.{Moved, moved_of}
 use Rattle.pb_moves.specs.Castling as table
 use Rattle.pb_moves.specs.Legal as chess
@@ -78,12 +80,13 @@ allows s m c is h =
 
 -- the way between king and rook is clear just where nothing of what is taken lies there
 pub row_way : (c : Castling) (board : Board) (occ set king rook : ℕ) → IsTaken occ board → occ < 2 ^ 64 → king ≡ (castling_row c).king_from → rook ≡ (castling_row c).rook_from
-    → HasBetween set king rook → IsTrue (eqb (bit_and set occ) 0) ↔ Clear board (castling_row c).king_from (castling_row c).rook_from
+    → ((k : Kind) → Pattern k (files_apart king rook) (ranks_apart king rook) → HasBetween set king rook) → IsTrue (eqb (bit_and set occ) 0) ↔ Clear board (castling_row c).king_from (castling_row c).rook_from
 row_way c board occ set king rook taken small king_is rook_is has =
     let row = castling_row c in
     let line = (rows c).line in
-    let between = subst (λ (q : ℕ). HasBetween set q row.rook_from) king_is (subst (λ (q : ℕ). HasBetween set king q) rook_is has) in
-    let told = open_told occ set row.king_from row.rook_from small between in (
+    let L : ℕ → ℕ → Type 0 = λ f t. (k : Kind) → Pattern k (files_apart f t) (ranks_apart f t) → HasBetween set f t in
+    let between = subst (λ (f : ℕ). L f row.rook_from) king_is (subst (λ (t : ℕ). L king t) rook_is has) in
+    let told = open_told occ set row.king_from row.rook_from small (between Rook line) in (
       λ h. clear_if_open board occ row.king_from row.rook_from taken (told.0 (eqb-true _ _ h)) (inr line.0, line.1),
       λ way. eq-eqb _ _ (told.1 (open_if_clear board occ row.king_from row.rook_from taken way)),
     )

@@ -107,11 +107,21 @@ steps_told side a b = (
   λ steps. (inr (refl, steps), straight_to (files_apart a b) (ranks_apart a b) (inl (omega (arith, steps.0), stepped side a b steps.1))),
 )
 
+-- what may be reached is reached by the pattern of some kind
+pub goes_as : (side : Colour) (kind : Kind) (a b : ℕ) → MayTarget side kind a b → (k : Kind) × Pattern k (files_apart a b) (ranks_apart a b)
+goes_as side kind a b (inl points) = (kind, points.0)
+goes_as side kind a b (inr steps) = (Rook, ((steps_told side a b).1 steps.1).1)
+
 -- ---- attackers
 
 -- the set has the squares of pieces that point at the square
 abbrev pub HasPieces : ℕ → Board → Colour → ℕ → Type 0
 HasPieces set board by square = (a : ℕ) → a < 64 → (In set a ↔ ((colour : Colour) × (kind : Kind) × Holds board a (piece_of colour kind) × Points by kind a square))
+
+-- a piece in the set points at the square by the pattern of its kind
+pub points_at : (first : Board) (by : Colour) (sight : Sight) (set square a : ℕ) → HasPieces set first by square → a < 64 → In (bit_and set sight.attackers) a
+    → (k : Kind) × Pattern k (files_apart a square) (ranks_apart a square)
+points_at first by sight set square a has on inside = let points = (has a on).0 (in_and set sight.attackers a inside).0 in (points.1, points.3.0)
 
 pub attacks_if_open : (first board : Board) (by : Colour) (sight : Sight) (set square a : ℕ) → IsSight first board by sight → HasPieces set first by square → a < 64
     → In (bit_and set sight.attackers) a → Open sight.occupied a square → IsAttacked board by square

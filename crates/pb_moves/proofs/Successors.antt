@@ -15,9 +15,10 @@ use Rattle.pb_board.specs.declared.castling.Castling.{Castling}
 use Rattle.pb_board.specs.declared.castling.Castling.TheVariants.{WhiteShort, WhiteLong, BlackShort, BlackLong}
 use Rattle.pb_moves.specs.Attacks.{files_apart, ranks_apart}
 use Rattle.pb_moves.specs.Moved.{Moved, moved_of}
-use Rattle.pb_board.specs.Castling.{CastlingRow, castling_row, IsHome}
+use Rattle.pb_board.specs.Castling.{CastlingRow, castling_row}
 use Rattle.pb_moves.specs.Castling.{rook_goes}
 use Rattle.pb_moves.specs.Cases.{Becomes, CaseOf, piece_move, pawn_step, pawn_double, pawn_capture, en_passant, castles}
+use Rattle.pb_moves.specs.Attackers.{In}
 use Rattle.pb_moves.specs.Successor.{Differs}
 use Rattle.pb_moves.specs.Successor.{besides, changes, rights_after, touches}
 use Rattle.pb_moves.proofs.MovedPiece.{put, puts, arriving, ep_of_kind}
@@ -180,19 +181,38 @@ all_but : (flag : Bool) → (flag && not (false || false || (false || false))) �
 all_but true = refl
 all_but false = refl
 
-right_elsewhere : (flag : Bool) (m : Moved) (c : Castling) → ¬ IsHome m.from → ¬ IsHome m.to
+-- a square on which no king and no rook begins that may castle
+abbrev Elsewhere : ℕ → Type 0
+Elsewhere q = (c : Castling) → (q ≢ (castling_row c).king_from) × (q ≢ (castling_row c).rook_from)
+
+-- those squares as a number
+abbrev homes : ℕ
+homes = 10448351135499550865
+
+off_home : (q home : ℕ) → ¬ In homes q → In homes home → q ≢ home
+off_home q home out is e = out (subst (λ (r : ℕ). In homes r) (sym e) is)
+
+elsewhere : (q : ℕ) → ¬ In homes q → Elsewhere q
+elsewhere q out WhiteShort = (off_home q 4 out refl, off_home q 7 out refl)
+elsewhere q out WhiteLong = (off_home q 4 out refl, off_home q 0 out refl)
+elsewhere q out BlackShort = (off_home q 60 out refl, off_home q 63 out refl)
+elsewhere q out BlackLong = (off_home q 60 out refl, off_home q 56 out refl)
+
+right_elsewhere : (flag : Bool) (m : Moved) (c : Castling) → Elsewhere m.from → Elsewhere m.to
     → (flag && not (touches m (castling_row c).king_from (castling_row c).rook_from)) ≡ flag
 right_elsewhere flag m c f t =
     let row = castling_row c in
     rw (
-      test_fails m.from row.king_from (λ e. f (c, inl e)),
-      test_fails m.to row.king_from (λ e. t (c, inl e)),
-      test_fails m.from row.rook_from (λ e. f (c, inr e)),
-      test_fails m.to row.rook_from (λ e. t (c, inr e)),
+      test_fails m.from row.king_from (f c).0,
+      test_fails m.to row.king_from (t c).0,
+      test_fails m.from row.rook_from (f c).1,
+      test_fails m.to row.rook_from (t c).1,
     ) (all_but flag)
 
-pub rights_elsewhere : (r : Rights) (m : Moved) → ¬ IsHome m.from → ¬ IsHome m.to → rights_after r m ≡ r
-rights_elsewhere r m f t =
+pub rights_elsewhere : (r : Rights) (m : Moved) → ¬ In homes m.from → ¬ In homes m.to → rights_after r m ≡ r
+rights_elsewhere r m off_from off_to =
+    let f = elsewhere m.from off_from in
+    let t = elsewhere m.to off_to in
     rw (
       right_elsewhere r.white_short m WhiteShort f t,
       right_elsewhere r.white_long m WhiteLong f t,

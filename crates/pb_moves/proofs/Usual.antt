@@ -1,23 +1,25 @@
 -- The moves by which the piece alone goes, told by where it goes to, and those by which another goes too.
-use Rattle.std.proofs.Common.{◌≡◌, ◌≢◌, ◌⊎◌, ◌↔◌, ℕ, Bool, IsTrue, arith, inl, inr, sym, subst, length, Option, Some, None, []}
+use Rattle.std.proofs.Common.{◌≡◌, ◌≢◌, ◌⊎◌, ◌↔◌, ℕ, Bool, IsTrue, arith, inl, inr, refl, sym, ap, subst, ◌∙◌, ◌≤◌, length, Option, Some, None, []}
+use Rattle.std.proofs.lemmas.Bool.{false≢true}
 use Rattle.pb_board.specs.declared.piece.Colour.{Colour}
 use Rattle.pb_board.specs.declared.piece.Kind.{Kind}
 use Rattle.pb_board.specs.declared.piece.Kind.TheVariants.{Pawn, King}
 use Rattle.pb_board.specs.declared.piece.Piece.{Piece}
 use Rattle.pb_board.specs.Board.{Board, IsEmpty}
-use Rattle.pb_board.specs.Piece.{piece_of}
+use Rattle.pb_board.specs.Piece.{king_of, piece_of}
 use Rattle.pb_board.specs.Position.{Position, with_piece_moved}
 use Rattle.pb_board.specs.declared.castling.Castling.{Castling}
 use Rattle.pb_board.specs.Castling.{castling_row}
-use Rattle.pb_moves.specs.declared.move_kind.MoveKind.{MoveKind}
-use Rattle.pb_moves.specs.declared.move_kind.MoveKind.TheVariants.{One}
-use Rattle.pb_moves.specs.Attacks.{ranks_apart}
-use Rattle.pb_moves.specs.Candidate.{GoesTo, Steps}
+use Rattle.pb_board.specs.declared.setup.MovedPiece.{MovedPiece}
+use Rattle.pb_moves.specs.Attacks.{Pattern, files_apart, ranks_apart}
+use Rattle.pb_moves.specs.Candidate.{GoesTo, HoldsOwn, Steps}
 use Rattle.pb_moves.specs.Cases.{Becomes, Castles, CaseOf, EnPassant, Goes, IsCapturable, UnusualMove, UsualMove}
 use Rattle.pb_moves.specs.Cases.{piece_move, pawn_step, pawn_double, pawn_capture, en_passant, castles}
-use Rattle.pb_moves.specs.MoveKind.{Finds, LeadsTo}
+use Rattle.pb_moves.specs.MovedPieces.{Finds, LeadsTo}
 use Rattle.pb_moves.specs.Moved.{Moved, IsMove}
-use Rattle.pb_moves.proofs.Carrying.{goes_normal}
+use Rattle.pb_moves.proofs.Carrying.{goes_normal, going}
+use Rattle.pb_moves.proofs.Castlings.{near_is_none}
+use Rattle.pb_moves.proofs.Kings.{holds_one}
 use Rattle.pb_moves.proofs.Lines.{no_near}
 use Rattle.pb_moves.proofs.SameMoves.{first_rank, first_rank_from, pawn_or_not}
 use Rattle.pb_moves.proofs.Unique.{step_ranks}
@@ -73,16 +75,38 @@ module _ (s : Position) (m : Moved) (p : Piece) (from to : ℕ) (target goes : B
   pub usual_none : ¬ (IsTrue target × IsTrue goes) → (new : Board) → ¬ UsualMove s m p new
   usual_none fails new x = let w = usual_from s m p new own x in fails (target_at.1 w.0, goes_at.1 w.1)
 
-pub usual_found : (s : Position) (m : Moved) (p : Piece) (kind : Kind) (from to : ℕ) (target goes : Bool) → p.colour ≡ s.turn → from ≡ m.from → to ≡ m.to
+-- a king that goes alone goes one file at most
+king_goes_near : (p : Piece) (side : Colour) (board : Board) (a b : ℕ) → p ≡ king_of side → GoesTo p board a b → files_apart a b ≤ 1
+king_goes_near p side board a b is (inl goes) =
+    let kind : p.kind ≡ King = ap (λ (x : Piece). x.kind) is in
+    let near : Pattern King (files_apart a b) (ranks_apart a b) = subst (λ (k : Kind). Pattern k (files_apart a b) (ranks_apart a b)) kind goes.0.0 in
+    omega (arith, near)
+king_goes_near p side board a b is (inr goes) = absurd (let pawn = goes.0 in cc)
+
+pub usual_found : (s : Position) (m : Moved) (p : Piece) (kind : Kind) (from to : ℕ) (target goes : Bool) → HoldsOwn s m.from p → from ≡ m.from → to ≡ m.to
     → (IsTrue target ↔ (IsEmpty s.board to ⊎ IsCapturable s.board p.colour to)) → (IsTrue goes ↔ GoesTo p s.board from to) → IsTrue target → IsTrue goes
-    → length s.board ≡ 64 → IsMove m → Becomes p.colour m p.kind kind → LeadsTo (UsualMove s m p) s m (One (piece_of p.colour kind))
-usual_found s m p kind from to target goes own from_is to_is target_told goes_told t g full is becomes = (
-  own,
-  usual_to s m p (with_piece_moved s.board m.from m.to (piece_of p.colour kind)) own
-      ((target_at s m p from to target goes own from_is to_is target_told goes_told).0 t)
-      ((goes_at s m p from to target goes own from_is to_is target_told goes_told).0 g)
-      (goes_normal s m p kind full is own becomes),
-)
+    → length s.board ≡ 64 → IsMove m → Becomes p.colour m p.kind kind → LeadsTo (UsualMove s m p) s m (going from to (piece_of p.colour kind), None)
+usual_found s m p kind from to target goes own from_is to_is target_told goes_told t g full is becomes =
+    let piece = piece_of p.colour kind in
+    let side = own.own in
+    let reached = (goes_at s m p from to target goes side from_is to_is target_told goes_told).0 g in
+    let L : ℕ → ℕ → Type 0 = λ f u. LeadsTo (UsualMove s m p) s m (going f u piece, None) in
+    let leads : L m.from m.to = (
+      record {
+        leaves = refl;
+        arrives = record { own = side; on_board = is.to_on_board; moves = is.moves };
+        reaches = λ e. refl;
+        follows = tt;
+        castles = λ king castles.
+            (let near = king_goes_near p s.turn s.board m.from m.to (holds_one s.board m.from p (king_of s.turn) own.stands king) reached in
+            false≢true (sym (near_is_none s.turn m near) ∙ castles));
+      },
+      usual_to s m p (with_piece_moved s.board m.from m.to piece) side
+          ((target_at s m p from to target goes side from_is to_is target_told goes_told).0 t)
+          reached
+          (goes_normal s m p kind full is side becomes),
+    ) in
+    subst (λ (f : ℕ). L f to) (sym from_is) (subst (L m.from) (sym to_is) leads)
 
 pub usual_unnamed : (s : Position) (m : Moved) (p : Piece) → p.colour ≡ s.turn → ((kind : Kind) → ¬ Becomes p.colour m p.kind kind) → (new : Board) → ¬ UsualMove s m p new
 usual_unnamed s m p own none new x =
@@ -107,20 +131,20 @@ either_case s m p new (pawn_double x) = inl (inr (inr x))
 either_case s m p new (en_passant x) = inr (inl x)
 either_case s m p new (castles c x) = inr (inr (c, x))
 
-pub usual_case : (s : Position) (m : Moved) (p : Piece) (kind : MoveKind) → Finds (UsualMove s m p) s m (Some kind) → Finds (CaseOf s m p) s m (Some kind)
-usual_case s m p kind h = (h.0, case_usual s m p _ h.1)
+pub usual_case : (s : Position) (m : Moved) (p : Piece) (moved : MovedPiece × Option MovedPiece) → Finds (UsualMove s m p) s m (Some moved) → Finds (CaseOf s m p) s m (Some moved)
+usual_case s m p moved h = (h.0, case_usual s m p _ h.1)
 
-pub unusual_case : (s : Position) (m : Moved) (p : Piece) (o : Option MoveKind) → ((new : Board) → ¬ UsualMove s m p new) → Finds (UnusualMove s m p) s m o → Finds (CaseOf s m p) s m o
-unusual_case s m p (Some kind) none h = (h.0, case_unusual s m p _ h.1)
+pub unusual_case : (s : Position) (m : Moved) (p : Piece) (o : Option (MovedPiece × Option MovedPiece)) → ((new : Board) → ¬ UsualMove s m p new) → Finds (UnusualMove s m p) s m o → Finds (CaseOf s m p) s m o
+unusual_case s m p (Some moved) none h = (h.0, case_unusual s m p _ h.1)
 unusual_case s m p None none h = λ new x. elim (either_case s m p new x) [ inl usual ↦ none new usual | inr other ↦ h new other ]
 
-pub pawn_unusual : (s : Position) (m : Moved) (p : Piece) (o : Option MoveKind) → p.kind ≡ Pawn → Finds (EnPassant s m p) s m o → Finds (UnusualMove s m p) s m o
-pawn_unusual s m p (Some kind) pawn h = (h.0, inl h.1)
+pub pawn_unusual : (s : Position) (m : Moved) (p : Piece) (o : Option (MovedPiece × Option MovedPiece)) → p.kind ≡ Pawn → Finds (EnPassant s m p) s m o → Finds (UnusualMove s m p) s m o
+pawn_unusual s m p (Some moved) pawn h = (h.0, inl h.1)
 pawn_unusual s m p None pawn h = λ new x. elim x [ inl y ↦ h new y | inr y ↦ (let king = y.1.king in absurd cc) ]
 
-pub king_unusual : (s : Position) (m : Moved) (p : Piece) (o : Option MoveKind) → p.kind ≡ King
+pub king_unusual : (s : Position) (m : Moved) (p : Piece) (o : Option (MovedPiece × Option MovedPiece)) → p.kind ≡ King
     → Finds (λ b. (c : Castling) × Castles (castling_row c) s m p b) s m o → Finds (UnusualMove s m p) s m o
-king_unusual s m p (Some kind) king h = (h.0, inr h.1)
+king_unusual s m p (Some moved) king h = (h.0, inr h.1)
 king_unusual s m p None king h = λ new x. elim x [ inl y ↦ (let pawn = y.pawn in absurd cc) | inr y ↦ h new y ]
 
 pub none_unusual : (s : Position) (m : Moved) (p : Piece) → p.kind ≢ Pawn → p.kind ≢ King → (new : Board) → ¬ UnusualMove s m p new

@@ -10,7 +10,7 @@ pub mod Packed
 pub mod Castling
 pub mod Cases
 pub mod Attackers
-pub mod MoveKind
+pub mod MovedPieces
 pub mod Effect
 pub mod Unpinned
 pub mod Candidate

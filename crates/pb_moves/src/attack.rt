@@ -1,6 +1,7 @@
 //! Which squares a piece attacks and reaches, and those on the way.
 
-ghost use Rattle.std.specs.Prelude.{◌≡◌, ◌≢◌, ℕ, ◌<◌, ◌↔◌, IsTrue, if◌then◌else◌};
+ghost use Rattle.std.specs.Prelude.{◌≡◌, ◌≢◌, ℕ, ◌<◌, ◌⊎◌, ◌↔◌, IsTrue, if◌then◌else◌};
+ghost use Rattle.pb_board.specs.declared.piece.Kind.{Kind};
 ghost use Rattle.pb_board.specs.declared.piece.Kind.TheVariants.{Pawn, Bishop, Rook, Queen};
 ghost use Rattle.pb_board.specs.Board.{Board};
 ghost use Rattle.pb_moves.specs.Attackers.{In};
@@ -48,28 +49,29 @@ pub(crate) fn pattern(kind: Kind, from: Square) -> u64
     targets(Piece { colour, kind }, from)
 }
 
-/// The squares that lines of this kind through both squares cross, where one leads from one to the
-/// other.
+/// The kind whose line may lead from one square to the other: a rook, else a bishop.
 #[inline(always)]
-fn line(kind: Kind, a: Square, b: Square) -> u64
-    requires { kind ≢ Pawn }
-    ensures { (q : ℕ) → q < 64 → (In result q ↔ Pattern kind (files_apart a b) (ranks_apart a b)
-        × Pattern kind (files_apart a q) (ranks_apart a q)
-        × Pattern kind (files_apart b q) (ranks_apart b q)) }
+fn line_kind(a: Square, b: Square) -> Kind
+    ensures { let straight = Pattern Rook (files_apart a b) (ranks_apart a b) in
+        ((result ≡ Rook) × straight) ⊎ ((result ≡ Bishop) × ¬ straight) }
 {
-    let rays = pattern(kind, a);
-    let line = rays & pattern(kind, b);
-    if has(rays, b) { line } else { 0 }
+    if has(pattern(Kind::Rook, a), b) {
+        Kind::Rook
+    } else {
+        Kind::Bishop
+    }
 }
 
-/// The squares between two on one line. No branch is made of where they stand.
+/// The squares between two, where a piece goes from one to the other. No branch is made of where
+/// they stand: no square is on diagonals of both ends of a knight's move.
 #[inline(always)]
 pub(crate) fn between(a: Square, b: Square) -> u64
-    ensures { (q : ℕ) → q < 64 → (In result q
-        ↔ Pattern Queen (files_apart a b) (ranks_apart a b) × IsBetween a q b) }
+    ensures { (k : Kind) → Pattern k (files_apart a b) (ranks_apart a b) → (q : ℕ) → q < 64
+        → (In result q ↔ Pattern Queen (files_apart a b) (ranks_apart a b) × IsBetween a q b) }
 {
+    let kind = line_kind(a, b);
     let up_to_one = (!0u64 << a.index()) ^ (!0u64 << b.index());
-    (line(Kind::Rook, a, b) | line(Kind::Bishop, a, b)) & up_to_one
+    pattern(kind, a) & pattern(kind, b) & up_to_one
 }
 
 /// A pawn takes on the diagonals and steps along its file.

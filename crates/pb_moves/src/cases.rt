@@ -5,11 +5,11 @@ ghost use Rattle.pb_board.specs.declared.piece.Kind.{Kind};
 ghost use Rattle.pb_board.specs.declared.piece.Kind.TheVariants.{Pawn};
 ghost use Rattle.pb_moves.specs.Cases.{Becomes, UsualMove, EnPassant};
 ghost use Rattle.pb_moves.specs.Candidate.{HoldsOwn};
-ghost use Rattle.pb_moves.specs.MoveKind.{Finds};
+ghost use Rattle.pb_moves.specs.MovedPieces.{Finds};
 
 use crate::attack::{pawn_takes, reaches};
 use crate::board::{is_target, square_at};
-use crate::move_kind::MoveKind;
+use crate::effect::MovedPieces;
 use crate::moves::Move;
 use pb_board::{Colour, Kind, MovedPiece, Piece, Setup};
 
@@ -33,8 +33,8 @@ fn becomes(piece: Piece, m: Move) -> Option<Kind>
 /// A move that puts the piece alone elsewhere. Most moves pass both tests, so one branch is made of
 /// them.
 #[inline(always)]
-pub(crate) fn usual_move(setup: &Setup, m: Move, piece: Piece) -> Option<MoveKind>
-    requires own { piece.colour ≡ setup.now.turn }
+pub(crate) fn usual_move(setup: &Setup, m: Move, piece: Piece) -> Option<MovedPieces>
+    requires own { HoldsOwn setup.now m.from piece }
     ensures { Finds (UsualMove setup.now m piece) setup.now m result }
 {
     let (from, to) = (m.from(), m.to());
@@ -44,11 +44,12 @@ pub(crate) fn usual_move(setup: &Setup, m: Move, piece: Piece) -> Option<MoveKin
     }
     let colour = piece.colour;
     let kind = becomes(piece, m)?;
-    Some(MoveKind::One(Piece { colour, kind }))
+    let piece = Piece { colour, kind };
+    Some((MovedPiece { from, to, piece }, None))
 }
 
 /// The pawn goes by way of the square of the one that it takes.
-pub(crate) fn en_passant(setup: &Setup, m: Move, pawn: Piece) -> Option<MoveKind>
+pub(crate) fn en_passant(setup: &Setup, m: Move, pawn: Piece) -> Option<MovedPieces>
     requires own { HoldsOwn setup.now m.from pawn }
     requires pawn { pawn.kind ≡ Pawn }
     ensures { Finds (EnPassant setup.now m pawn) setup.now m result }
@@ -61,18 +62,17 @@ pub(crate) fn en_passant(setup: &Setup, m: Move, pawn: Piece) -> Option<MoveKind
     match square {
         Some(ep) if ep.index() == to.index() && pawn_takes(pawn, from, to) => {
             let taken = square_at(8 * from.rank() + to.file());
-            Some(MoveKind::Two(
-                MovedPiece {
-                    from,
-                    to: taken,
-                    piece: pawn,
-                },
-                MovedPiece {
-                    from: taken,
-                    to,
-                    piece: pawn,
-                },
-            ))
+            let first = MovedPiece {
+                from,
+                to: taken,
+                piece: pawn,
+            };
+            let second = MovedPiece {
+                from: taken,
+                to,
+                piece: pawn,
+            };
+            Some((first, Some(second)))
         }
         _ => None,
     }

@@ -10,12 +10,12 @@ ghost use Rattle.pb_moves.specs.Attacks.{Clear, IsAttacked};
 ghost use Rattle.pb_moves.specs.Castling.{RowAllows};
 ghost use Rattle.pb_moves.specs.Cases.{Castles};
 ghost use Rattle.pb_moves.specs.Candidate.{HoldsOwn};
-ghost use Rattle.pb_moves.specs.MoveKind.{Finds};
+ghost use Rattle.pb_moves.specs.MovedPieces.{Finds};
 
 use crate::attack::between;
 use crate::board::holds;
 use crate::check::attacked;
-use crate::move_kind::MoveKind;
+use crate::effect::MovedPieces;
 use crate::moves::Move;
 use pb_board::{Castling, Kind, MovedPiece, Piece, Setup};
 
@@ -56,32 +56,31 @@ fn may_castle(castling: Castling, setup: &Setup) -> bool
     way_is_clear(castling, setup) && way_is_safe(castling, setup)
 }
 
-pub(crate) fn castles(setup: &Setup, m: Move, king: Piece) -> Option<MoveKind>
+pub(crate) fn castles(setup: &Setup, m: Move, king: Piece) -> Option<MovedPieces>
     requires own { HoldsOwn setup.now m.from king }
     requires king { king.kind ≡ King }
     ensures { Finds (λ b. (c : Castling) × Castles (castling_row c) setup.now m king b) setup.now m
         result }
 {
-    match Castling::of(m.from(), m.to()) {
+    let (from, to) = (m.from(), m.to());
+    match Castling::of(from, to) {
         Some(castling) if m.promo().is_none() && may_castle(castling, setup) => {
-            let (from, to) = (m.from(), m.to());
             let squares = castling.squares();
             let rook = Piece {
                 colour: castling.colour(),
                 kind: Kind::Rook,
             };
-            Some(MoveKind::Two(
-                MovedPiece {
-                    from,
-                    to,
-                    piece: king,
-                },
-                MovedPiece {
-                    from: squares.rook_from,
-                    to: squares.rook_to,
-                    piece: rook,
-                },
-            ))
+            let first = MovedPiece {
+                from,
+                to,
+                piece: king,
+            };
+            let second = MovedPiece {
+                from: squares.rook_from,
+                to: squares.rook_to,
+                piece: rook,
+            };
+            Some((first, Some(second)))
         }
         _ => None,
     }

@@ -5,18 +5,23 @@ ghost use Rattle.pb_moves.specs.Effect.{IsEffect};
 ghost use Rattle.pb_moves.specs.Legal.{Legal, PseudoLegal};
 
 use crate::legal::{change_of, is_safe, own_piece};
-use crate::move_kind::MoveKind;
 use crate::moves::Move;
 use crate::state_after::{en_passant_after, rights_after};
-use pb_board::{Piece, Rights, Setup, Square};
+use pb_board::{MovedPiece, Piece, Rights, Setup, Square};
+
+/// A piece that a move puts elsewhere, and another one where two go.
+pub(crate) type MovedPieces = (MovedPiece, Option<MovedPiece>);
 
 /// What a move does to a setup: the setup after it and the key of that are made of it.
 #[derive(Clone, Copy, Debug, PartialEq, Eq)]
 pub struct Effect {
     /// The piece that moves, as it was.
     pub piece: Piece,
-    /// Which pieces go where.
-    pub kind: MoveKind,
+    /// What arrives, and from where: alone, as what it is after the move.
+    pub first: MovedPiece,
+    /// What goes after it: the rook that castles, or the pawn that takes another en passant, which
+    /// goes by way of that pawn's square.
+    pub second: Option<MovedPiece>,
     /// The castling rights afterwards.
     pub rights: Rights,
     /// The en passant square afterwards.
@@ -29,10 +34,11 @@ pub fn effect_of(setup: &Setup, m: Move) -> Option<Effect>
     ensures { MatchOption result (¬ PseudoLegal setup.now m) (IsEffect setup.now m) }
 {
     let piece = own_piece(setup, m.from())?;
-    let kind = change_of(setup, m, piece)?;
+    let (first, second) = change_of(setup, m, piece)?;
     Some(Effect {
         piece,
-        kind,
+        first,
+        second,
         rights: rights_after(setup.rights(), m),
         ep: en_passant_after(m, piece),
     })
@@ -45,7 +51,7 @@ pub fn legal_effect(setup: &Setup, m: Move) -> Option<Effect>
         Legal setup.now m × IsEffect setup.now m e) }
 {
     let effect = effect_of(setup, m)?;
-    if is_safe(setup, m, effect.piece, &effect.kind) {
+    if is_safe(setup, m, effect.piece, (effect.first, effect.second)) {
         Some(effect)
     } else {
         None
@@ -69,19 +75,6 @@ impl Effect {
         requires { IsEffect setup.old m self }
         ensures { setup.new ≡ after setup.old m }
     {
-        let Effect {
-            kind,
-            rights,
-            ep,
-            ..
-        } = self;
-        match kind {
-            MoveKind::One(piece) => {
-                setup.move_piece(m.from(), m.to(), piece, rights, ep);
-            }
-            MoveKind::Two(first, second) => {
-                setup.move_two(first, second, rights, ep);
-            }
-        }
+        setup.move_pieces(self.first, self.second, self.rights, self.ep);
     }
 }

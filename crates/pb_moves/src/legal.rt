@@ -5,10 +5,12 @@ ghost use Rattle.pb_board.specs.declared.piece.Kind.TheVariants.{Pawn, King};
 ghost use Rattle.pb_board.specs.declared.piece.Piece.{Piece};
 ghost use Rattle.pb_board.specs.Board.{Board};
 ghost use Rattle.pb_board.specs.Piece.{opponent};
+ghost use Rattle.pb_board.specs.MovedPiece.{with_pieces_moved};
 ghost use Rattle.pb_board.specs.Position.{IsOnlyKing, IsSetup};
 ghost use Rattle.pb_moves.specs.Candidate.{HoldsOwn};
 ghost use Rattle.pb_moves.specs.Cases.{CaseOf, SafeCase, UnusualMove};
-ghost use Rattle.pb_moves.specs.MoveKind.{Finds, Fits, LeadsTo, board_by};
+ghost use Rattle.pb_moves.specs.MovedPieces.{Finds, Fits, LeadsTo};
+ghost use Rattle.pb_moves.specs.Moved.{Moved};
 ghost use Rattle.pb_moves.specs.Attackers.{IsSight};
 ghost use Rattle.pb_moves.specs.Unpinned.{IsUnpinned};
 
@@ -16,9 +18,9 @@ use crate::attackers::{Sight, is_attacked, sight_of};
 use crate::board::{has, own_squares};
 use crate::cases::{en_passant, usual_move};
 use crate::castling::castles;
-use crate::move_kind::MoveKind;
+use crate::effect::MovedPieces;
 use crate::moves::Move;
-use pb_board::{Kind, Piece, Setup, Square};
+use pb_board::{Kind, MovedPiece, Piece, Setup, Square};
 
 #[inline(always)]
 pub(crate) fn own_piece(setup: &Setup, square: Square) -> Option<Piece>
@@ -26,16 +28,16 @@ pub(crate) fn own_piece(setup: &Setup, square: Square) -> Option<Piece>
     ensures found { MatchOption result ((p : Piece) → ¬ HoldsOwn setup.now square p)
         (HoldsOwn setup.now square) }
 {
-    if has(own_squares(setup), square) {
-        setup.at(square)
-    } else {
-        None
-    }
+    // One test tells that a piece stands there, and whose it is.
+    has(own_squares(setup), square).then_some(Piece {
+        colour: setup.turn(),
+        kind: setup.kind_at(square),
+    })
 }
 
 /// Few moves need it, so it isn't inlined.
 #[inline(never)]
-fn unusual_move(setup: &Setup, m: Move, piece: Piece) -> Option<MoveKind>
+fn unusual_move(setup: &Setup, m: Move, piece: Piece) -> Option<MovedPieces>
     requires own { HoldsOwn setup.now m.from piece }
     ensures { Finds (UnusualMove setup.now m piece) setup.now m result }
 {
@@ -47,12 +49,12 @@ fn unusual_move(setup: &Setup, m: Move, piece: Piece) -> Option<MoveKind>
 }
 
 #[inline(always)]
-pub(crate) fn change_of(setup: &Setup, m: Move, piece: Piece) -> Option<MoveKind>
+pub(crate) fn change_of(setup: &Setup, m: Move, piece: Piece) -> Option<MovedPieces>
     requires own { HoldsOwn setup.now m.from piece }
     ensures { Finds (CaseOf setup.now m piece) setup.now m result }
 {
     match usual_move(setup, m, piece) {
-        Some(change) => Some(change),
+        Some(moved) => Some(moved),
         None => unusual_move(setup, m, piece),
     }
 }
@@ -90,31 +92,30 @@ pub(crate) fn is_unpinned(setup: &Setup, enemy: Sight, from: Square, piece: Piec
     )
 }
 
-/// What is seen of the enemy after the move.
+/// What is seen of the enemy after the pieces have gone.
 #[inline(always)]
-fn sight_after(setup: &Setup, m: Move, kind: &MoveKind) -> Sight
-    requires own { (p : Piece) × HoldsOwn setup.now m.from p }
-    requires fits { Fits kind.now setup.now }
-    ensures { IsSight setup.now.board (board_by kind.now m setup.now.board)
+fn sight_after(setup: &Setup, first: MovedPiece, second: Option<MovedPiece>) -> Sight
+    requires { (m : Moved) × ((p : Piece) × HoldsOwn setup.now m.from p)
+        × Fits setup.now m first second }
+    ensures { IsSight setup.now.board (with_pieces_moved setup.now.board first second)
         (opponent setup.now.turn) result }
 {
     let sight = sight_of(setup, setup.turn().opponent());
-    match *kind {
-        MoveKind::One(_) => sight.after(m.from(), m.to()),
-        MoveKind::Two(first, second) => {
-            let between = sight.after(first.from, first.to);
-            between.after(second.from, second.to)
-        }
+    let between = sight.after(first.from, first.to);
+    match second {
+        Some(second) => between.after(second.from, second.to),
+        None => between,
     }
 }
 
 #[inline(always)]
-pub(crate) fn is_safe(setup: &Setup, m: Move, piece: Piece, kind: &MoveKind) -> bool
+pub(crate) fn is_safe(setup: &Setup, m: Move, piece: Piece, moved: MovedPieces) -> bool
     requires own { HoldsOwn setup.now m.from piece }
-    requires leads { LeadsTo (CaseOf setup.now m piece) setup.now m kind.now }
+    requires leads { LeadsTo (CaseOf setup.now m piece) setup.now m moved }
     ensures { IsTrue result ↔ SafeCase setup.now m }
 {
-    let sight = sight_after(setup, m, kind);
+    let (first, second) = moved;
+    let sight = sight_after(setup, first, second);
     let enemy = setup.turn().opponent();
     !is_attacked(setup, sight, king_after(setup, m, piece), enemy)
 }
@@ -128,8 +129,8 @@ pub(crate) fn is_legal_for(setup: &Setup, m: Move, piece: Piece, unpinned: bool)
     // The reader tells that the move meets its rules.
     let _from = m.from();
     match change_of(setup, m, piece) {
-        Some(MoveKind::One(_)) if unpinned => true,
-        Some(kind) => is_safe(setup, m, piece, &kind),
+        Some((_, None)) if unpinned => true,
+        Some(moved) => is_safe(setup, m, piece, moved),
         None => false,
     }
 }

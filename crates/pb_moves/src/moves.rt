@@ -3,7 +3,7 @@
 ghost use Rattle.std.specs.Prelude.{◌≡◌, ◌≢◌, ℕ, ◌<◌};
 ghost use Rattle.std.specs.Option.{SomeIff, ForSome};
 
-use crate::promotion::{promotion_number, promotion_of};
+use crate::promotion::promotion_of;
 use pb_board::{Kind, Square};
 use std::marker::Model;
 
@@ -48,7 +48,7 @@ impl Move {
             None
         } else {
             let squares = u16::from(to.index()) + 64 * u16::from(from.index());
-            let bits = squares + 4096 * promotion_number(promo);
+            let bits = squares + 4096 * promo.map_or(0, |kind| kind as u16);
             Some(Move { bits })
         }
     }

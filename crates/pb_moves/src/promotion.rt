@@ -1,24 +1,9 @@
 //! The numbers of promotions, as PolyGlot's codes of moves have them.
 
-ghost use Rattle.std.specs.Prelude.{◌≡◌, ◌≤◌};
-ghost use Rattle.pb_moves.specs.Moved.{promotion_number as promotion_number_by};
+ghost use Rattle.std.specs.Prelude.{◌≡◌};
 ghost use Rattle.pb_moves.specs.Moved.{promotion_of as promotion_by};
 
 use pb_board::Kind;
-
-#[inline]
-pub(crate) fn promotion_number(promo: Option<Kind>) -> u16
-    ensures value { result ≡ promotion_number_by promo }
-    ensures few { result ≤ 4 }
-{
-    match promo {
-        Some(Kind::Knight) => 1,
-        Some(Kind::Bishop) => 2,
-        Some(Kind::Rook) => 3,
-        Some(Kind::Queen) => 4,
-        _ => 0,
-    }
-}
 
 /// Gives the promotion of this number, or none where it is 0 or above 4.
 #[inline]

@@ -1,12 +1,8 @@
 //! Reading the spelling of a move.
 
 ghost use Rattle.std.specs.Prelude.{◌≡◌, ◌≢◌, ◌/◌, ◌%◌, ◌<◌, ◌↔◌, IsTrue, MatchOption};
-ghost use Rattle.std.specs.Option.{ForSome};
-ghost use Rattle.pb_board.specs.declared.piece.Kind.{Kind};
-ghost use Rattle.pb_board.specs.declared.piece.Colour.TheVariants.{Black};
-ghost use Rattle.pb_board.specs.Piece.{piece_of};
-ghost use Rattle.pb_board.specs.Text.{piece_letter, square_text};
-ghost use Rattle.pb_moves.specs.Moved.{Moved, IsMove, IsPromotion};
+ghost use Rattle.pb_board.specs.Text.{square_text};
+ghost use Rattle.pb_moves.specs.Moved.{Moved, IsMove};
 ghost use Rattle.pb_moves.specs.Spelling.{spelling};
 
 use crate::moves::Move;
@@ -14,20 +10,6 @@ use pb_board::{Kind, Square};
 
 /// The bytes `a1a1`, little-endian.
 const A1_A1: u32 = 0x3161_3161;
-
-fn read_promotion(byte: u8) -> Option<Kind>
-    ensures { MatchOption result
-        ((kind : Kind) → IsPromotion kind → piece_letter (piece_of Black kind) ≢ byte)
-        (λ kind. IsPromotion kind × (piece_letter (piece_of Black kind) ≡ byte)) }
-{
-    match byte {
-        b'n' => Some(Kind::Knight),
-        b'b' => Some(Kind::Bishop),
-        b'r' => Some(Kind::Rook),
-        b'q' => Some(Kind::Queen),
-        _ => None,
-    }
-}
 
 #[inline(always)]
 fn are_below_8(bytes: u32) -> bool
@@ -67,7 +49,7 @@ pub fn read_move(text: &[u8]) -> Option<Move>
         [a, b, c, d] => read_plain([*a, *b, *c, *d]),
         [a, b, c, d, e] => {
             let plain = read_plain([*a, *b, *c, *d])?;
-            let promotion = read_promotion(*e)?;
+            let promotion = Kind::of_letter(*e)?;
             Move::new(plain.from(), plain.to(), Some(promotion))
         }
         _ => None,

@@ -1,20 +1,22 @@
 //! The castling rights and the en passant square after a move.
 
-ghost use Rattle.std.specs.Prelude.{◌≡◌, ◌&&◌, not};
-ghost use Rattle.pb_board.specs.Castling.{castling_row};
+ghost use Rattle.std.specs.Prelude.{◌≡◌};
 ghost use Rattle.pb_moves.specs.Successor.{en_passant_after as en_passant_by, touches};
 ghost use Rattle.pb_moves.specs.Successor.{rights_after as rights_by};
 
-use crate::board::square_at;
+use crate::board::{has, square_at};
 use crate::moves::Move;
-use pb_board::{Castling, Kind, Piece, Rights, Square};
+use pb_board::{Kind, Piece, Rights, Square};
+
+/// The squares on which the kings and rooks begin that may castle.
+const HOMES: u64 = 0x9100_0000_0000_0091;
 
 #[inline(always)]
-fn is_left(castling: Castling, rights: Rights, m: Move) -> bool
-    ensures { let row = castling_row castling in
-        result ≡ (row.right rights && not (touches m row.king_from row.rook_from)) }
+fn touches(m: Move, king: u8, rook: u8) -> bool
+    ensures { result ≡ touches m king rook }
 {
-    castling.is_allowed(rights) && !castling.is_lost_by(m.from(), m.to())
+    let (from, to) = (m.from().index(), m.to().index());
+    from == king || to == king || from == rook || to == rook
 }
 
 /// Few moves need it, so it isn't inlined.
@@ -23,10 +25,10 @@ fn rights_left(rights: Rights, m: Move) -> Rights
     ensures { result ≡ rights_by rights m }
 {
     Rights {
-        white_short: is_left(Castling::WhiteShort, rights, m),
-        white_long: is_left(Castling::WhiteLong, rights, m),
-        black_short: is_left(Castling::BlackShort, rights, m),
-        black_long: is_left(Castling::BlackLong, rights, m),
+        white_short: rights.white_short && !touches(m, 4, 7),
+        white_long: rights.white_long && !touches(m, 4, 0),
+        black_short: rights.black_short && !touches(m, 60, 63),
+        black_long: rights.black_long && !touches(m, 60, 56),
     }
 }
 
@@ -35,8 +37,8 @@ pub(crate) fn rights_after(rights: Rights, m: Move) -> Rights
     ensures { result ≡ rights_by rights m }
 {
     // Most moves touch none of these squares, so one branch is made of both tests.
-    let touches = Castling::is_home(m.from()) | Castling::is_home(m.to());
-    if !touches {
+    let touched = has(HOMES, m.from()) | has(HOMES, m.to());
+    if !touched {
         return rights;
     }
     rights_left(rights, m)

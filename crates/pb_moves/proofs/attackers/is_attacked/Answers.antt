@@ -1,6 +1,6 @@
 use Rattle.std.proofs.Common.{arith, refl, w64}
 use Rattle.std.specs.Int.{trailing_zeros}
-use Rattle.pb_moves.proofs.Seen.{attacks_if_open, left_all, left_next, lowest_left, open_if_attacks, open_told}
+use Rattle.pb_moves.proofs.Seen.{attacks_if_open, left_all, left_next, lowest_left, open_if_attacks, open_told, points_at}
 use Rattle.pb_moves.proofs.Sets.{in_none}
 use Rattle.pb_moves.proofs.Rising.{zeros_rise, without_small, zeros_some}
 use Rattle.pb_moves.proofs.attackers.is_attacked.Goals as goal
@@ -13,7 +13,8 @@ returns-then-between-sight-eq0 c = λ b sees.
     let rest = c.loop-rest.rest in
     let some = zeros_some rest (omega arith) (omega arith) in
     let lowest = lowest_left c.args.sight.occupied c.args.square _ rest c.square_at.result c.loop-rest.invariant (omega arith) some c.square_at.ensures in
-    let told = open_told c.args.sight.occupied c.between.result c.square_at.result c.args.square (omega arith) c.between.ensures in (
+    let points = points_at c.args.setup.now.board c.args.by c.args.sight c.pieces_from.result c.args.square c.square_at.result c.pieces_from.ensures lowest.0 lowest.1 in
+    let told = open_told c.args.sight.occupied c.between.result c.square_at.result c.args.square (omega arith) (c.between.ensures points.0 points.1) in (
       λ _. attacks_if_open c.args.setup.now.board b c.args.by c.args.sight c.pieces_from.result c.args.square c.square_at.result sees c.pieces_from.ensures lowest.0 lowest.1
           (told.0 c.if-between-sight-eq0.true),
       λ _. refl,
@@ -30,7 +31,9 @@ pub loop-rest-preserved : goal.loop-rest-preserved
 loop-rest-preserved c =
     let rest = c.loop-rest.rest in
     let some = zeros_some rest (omega arith) (omega arith) in
-    let told = open_told c.args.sight.occupied c.between.result c.square_at.result c.args.square (omega arith) c.between.ensures in
+    let lowest = lowest_left c.args.sight.occupied c.args.square _ rest c.square_at.result c.loop-rest.invariant (omega arith) some c.square_at.ensures in
+    let points = points_at c.args.setup.now.board c.args.by c.args.sight c.pieces_from.result c.args.square c.square_at.result c.pieces_from.ensures lowest.0 lowest.1 in
+    let told = open_told c.args.sight.occupied c.between.result c.square_at.result c.args.square (omega arith) (c.between.ensures points.0 points.1) in
     left_next c.args.sight.occupied c.args.square _ rest c.square_at.result c.loop-rest.invariant some c.square_at.ensures (λ way. c.if-between-sight-eq0.false (told.1 way))
 
 pub returns : goal.returns

@@ -5,12 +5,12 @@ use Rattle.pb_moves.specs.Successor.{rights_after}
 use Rattle.pb_moves.proofs.Effects.{is_effect, not_pseudo_legal}
 use Rattle.pb_moves.proofs.effect.effect_of.Goals as goal
 
-pub returns-in_err-kind : goal.returns-in_err-kind
-returns-in_err-kind c =
+pub returns-in_err-first : goal.returns-in_err-first
+returns-in_err-first c =
     let s = c.args.setup.now in
     let piece = c.in_ok-piece.piece in
     let H : ℕ → Type 0 = λ q. HoldsOwn s q piece in
-    rw c.from_residual-in_err-kind.ensures (not_pseudo_legal s c.args.m piece c.own_piece.ensures.rules (subst H c.from.ensures.value c.in_ok-piece.ensures.found) c.in_err-kind.ensures)
+    rw c.from_residual-in_err-first.ensures (not_pseudo_legal s c.args.m piece c.own_piece.ensures.rules (subst H c.from.ensures.value c.in_ok-piece.ensures.found) c.in_err-first.ensures)
 
 pub returns : goal.returns
 returns c =
@@ -18,5 +18,5 @@ returns c =
     let m = c.args.m in
     let piece = c.in_ok-piece.piece in
     let H : ℕ → Type 0 = λ q. HoldsOwn s q piece in
-    is_effect s m piece c.in_ok-kind.kind c.rights_after.result c.en_passant_after.result c.own_piece.ensures.rules (subst H c.from.ensures.value c.in_ok-piece.ensures.found)
-    c.in_ok-kind.ensures (c.rights_after.ensures ∙ ap (λ (r : Rights). rights_after r m) c.rights.ensures) c.en_passant_after.ensures
+    is_effect s m piece c.in_ok-first.first c.in_ok-first.second c.rights_after.result c.en_passant_after.result c.own_piece.ensures.rules (subst H c.from.ensures.value c.in_ok-piece.ensures.found)
+    c.in_ok-first.ensures (c.rights_after.ensures ∙ ap (λ (r : Rights). rights_after r m) c.rights.ensures) c.en_passant_after.ensures

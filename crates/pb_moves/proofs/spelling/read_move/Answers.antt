@@ -16,6 +16,5 @@ pub returns-in_ok-promotion-in-len5 : goal.returns-in_ok-promotion-in-len5
 returns-in_ok-promotion-in-len5 c =
     let five : length c.args.text.now ≡ 5 = omega (arith, c.in-len5.len_at_least, c.in-len5.len_below) in
     let plain = c.in_ok-plain-in-len5.ensures in
-    let kind = c.in_ok-promotion-in-len5.ensures in
-    five_spelled c.args.text.now c.in_ok-plain-in-len5.plain c.in_ok-promotion-in-len5.promotion _ _ _ five plain.0 plain.1 kind.0 kind.1
+    five_spelled c.args.text.now c.in_ok-plain-in-len5.plain c.in_ok-promotion-in-len5.promotion _ _ _ five plain.0 plain.1 c.in_ok-promotion-in-len5.ensures
     c.from.ensures.value c.to.ensures.value c.new.ensures.made
