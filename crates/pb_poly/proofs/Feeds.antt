@@ -1,5 +1,5 @@
 -- Entries out of bytes that come in pieces.
-use Rattle.std.proofs.Common.{Ok, take-append-drop, ◌≡◌, ℕ, ◌-◌, ◌<◌, ◌≤◌, List, [], ◌∷◌, ◌++◌, length, take, drop, refl, sym, ap, inr, ◌∙◌, subst, append_assoc, arith}
+use Rattle.std.proofs.Common.{Ok, Err, take-append-drop, ◌≡◌, ℕ, ◌-◌, ◌<◌, ◌≤◌, List, [], ◌∷◌, ◌++◌, length, take, drop, refl, sym, ap, inl, ◌∙◌, subst, append_assoc, arith}
 use Rattle.std.proofs.lemmas.List.{append-nil, nil_from_length, take_all, take_rest}
 use Rattle.pb_board.proofs.Breaks.{breaks_from}
 use Rattle.pb_io.specs.Source.{Fill, SourceState}
@@ -11,8 +11,8 @@ use Rattle.pb_poly.specs.declared.reading.BookError.TheVariants.{Unsorted, Cut, 
 use Rattle.pb_poly.specs.Entry.{IsEntry, entry_bytes}
 use Rattle.pb_poly.specs.Book.{NeverFall, book_bytes}
 use Rattle.pb_poly.specs.Feeding.{FailsWithin, MeetsWithin, RefusesEntry}
-use Rattle.pb_poly.specs.BookFinds.{FindsNoBook}
-use Rattle.pb_poly.specs.Reading.{Splits}
+use Rattle.pb_poly.specs.Reading.{ReadsBook, Splits}
+use Rattle.pb_poly.specs.Streams.{so_far}
 use Rattle.pb_poly.proofs.Entries.{book_bytes-push, bounds-push}
 
 -- the piece is whole with these bytes
@@ -114,17 +114,14 @@ module _ {F : Type 0} (n fills : ℕ) (old mid new : SourceState) (came slice : 
     subst (λ (bytes : List ℕ). ReadsSome chunk_len fills old new bytes) (ap (λ xs. came ++ xs) m.cut ∙ sym (append_assoc came m.front m.rest)) (ReadsSome-more chunk_len n old mid new came slice room fits on fills count l fill),
   )
 
-  pub finds_no_book : (e : BookError) → FailsWithin came (take count slice) e → FindsNoBook fills old new e
-  finds_no_book (Unsorted k) f = record {
-    came = came ++ f.2.front;
-    reads = reads_front f.0 f.1 f.2;
-    due = (f.0 ++ f.1 ∷ [], f.2.bytes, breaks_from NeverFall (f.0 ++ f.1 ∷ []) f.0 f.1 [] k refl f.3.1 f.2.ordered f.3.0);
-  }
-  finds_no_book Memory f = inr (record {
-    came = came ++ f.2.front;
-    reads = reads_front f.0 f.1 f.2;
-    due = (f.0, f.1, f.2.bytes, f.3);
-  })
+  pub finds_no_book : (e : BookError) → FailsWithin came (take count slice) e → ReadsBook fills old new (Err e)
+  finds_no_book (Unsorted k) f = inl (
+    so_far,
+    came ++ f.2.front,
+    reads_front f.0 f.1 f.2,
+    (f.0 ++ f.1 ∷ [], f.2.bytes, breaks_from NeverFall (f.0 ++ f.1 ∷ []) f.0 f.1 [] k refl f.3.1 f.2.ordered f.3.0),
+  )
+  finds_no_book Memory f = inl (so_far, came ++ f.2.front, reads_front f.0 f.1 f.2, (f.0, f.1, record { are = f.2.bytes; ordered = f.3 }))
   finds_no_book (Cut k) f = absurd f.3
   finds_no_book Read f = absurd f.3
   finds_no_book Endless f = absurd f.3

@@ -1,20 +1,21 @@
 -- What a move does to the sum over the offsets of a board's pieces.
-use Rattle.std.proofs.Common.{◌≡◌, ◌≢◌, ℕ, zero, suc, ◌+◌, ◌%◌, ◌<◌, Some, None, List, [], ◌∷◌, ◌++◌, length, refl, sym, ap, ◌∙◌, arith}
+use Rattle.std.proofs.Common.{◌≡◌, ◌≢◌, ℕ, zero, suc, ◌+◌, ◌%◌, ◌<◌, Option, Some, None, List, [], ◌∷◌, ◌++◌, length, refl, sym, ap, ◌∙◌, subst, arith}
+use Rattle.std.specs.Option.{option_map_or}
+use Rattle.std.specs.Prelude.{IfSome}
+use Rattle.pb_board.specs.declared.piece.Colour.{Colour}
 use Rattle.pb_board.specs.declared.piece.Piece.{Piece}
 use Rattle.pb_board.specs.declared.setup.MovedPiece.{MovedPiece}
 use Rattle.pb_board.specs.Board.{Board, Place, at, Holds}
-use Rattle.pb_board.specs.MovedPiece.{with_moved}
+use Rattle.pb_board.specs.MovedPiece.{with_moved, with_pieces_moved}
 use Rattle.pb_board.specs.Position.{Position, IsSetup}
 use Rattle.pb_moves.specs.declared.effect.Effect.{Effect}
-use Rattle.pb_moves.specs.declared.move_kind.MoveKind.{MoveKind}
-use Rattle.pb_moves.specs.declared.move_kind.MoveKind.TheVariants.{One, Two}
 use Rattle.pb_moves.specs.Effect.{IsEffect}
-use Rattle.pb_moves.specs.MoveKind.{Fits, board_by}
-use Rattle.pb_moves.specs.Moved.{Moved, IsMove}
+use Rattle.pb_moves.specs.Moved.{Moved}
+use Rattle.pb_moves.specs.MovedPieces.{CanFollow}
 use Rattle.pb_moves.specs.Successor.{after}
 use Rattle.pb_moves.proofs.MovedPiece.{put}
 use Rattle.pb_moves.proofs.Differing.{at_put_other, at_put_same, holds_on_board, length_put, same_lists}
-use Rattle.pb_poly.specs.Key.{piece_offset, piece_offsets}
+use Rattle.pb_poly.specs.Key.{piece_offsets}
 use Rattle.pb_poly.specs.KeyChange.{going_offsets, moved_offsets, square_offsets}
 use Rattle.pb_poly.proofs.Among.{total}
 
@@ -61,8 +62,8 @@ known : (f : ℕ → ℕ) (board : Board) (q : ℕ) (content : Place) → at boa
 known f board q content is = ap (λ n. total f (square_offsets (at board q) n)) (omega arith) ∙ ap (λ (p : Place). total f (square_offsets p q)) is
 
 -- the sum follows, as far as it is odd or even
-pub going_changes : (f : ℕ → ℕ) (board : Board) (leaving : Piece) (c : MovedPiece) → length board ≡ 64 → Holds board c.from leaving → c.to < 64 → c.from ≢ c.to
-    → (total f (piece_offsets board 0) + total f (going_offsets board leaving c)) % 2 ≡ total f (piece_offsets (with_moved board c) 0) % 2
+going_changes : (f : ℕ → ℕ) (board : Board) (leaving : Piece) (c : MovedPiece) → length board ≡ 64 → Holds board c.from leaving → c.to < 64 → c.from ≢ c.to
+    → (total f (piece_offsets board 0) + total f (going_offsets leaving c) + total f (square_offsets (at board c.to) c.to)) % 2 ≡ total f (piece_offsets (with_moved board c) 0) % 2
 going_changes f board leaving c full stands on_to moves =
     let left = put board c.from None in
     let new = with_moved board c in
@@ -75,25 +76,32 @@ going_changes f board leaving c full stands on_to moves =
     let gone = known f left c.from None (at_put_same board c.from None full on_from) in
     let taken = known f left c.to (at board c.to) (at_put_other board c.from c.to None (λ e. moves (sym e))) in
     let come = known f new c.to (Some c.piece) (at_put_same left c.to (Some c.piece) full_left on_to) in
-    let parts = total-append f (square_offsets (at board c.to) c.to) (piece_offset c.piece c.to ∷ []) in
-    omega (arith, first, second, stood, gone, taken, come, parts)
+    omega (arith, first, second, stood, gone, taken, come)
 
-kind_changes : (f : ℕ → ℕ) (s : Position) (m : Moved) (piece : Piece) (kind : MoveKind) → length s.board ≡ 64 → IsMove m → Holds s.board m.from piece → Fits kind s
-    → (total f (piece_offsets s.board 0) + total f (moved_offsets s.board m piece kind)) % 2 ≡ total f (piece_offsets (board_by kind m s.board) 0) % 2
-kind_changes f s m piece (One arriving) full is stands fits =
-    let c : MovedPiece = record { from = m.from; to = m.to; piece = arriving } in going_changes f s.board piece c full stands is.to_on_board is.moves
-kind_changes f s m piece (Two first second) full is stands fits =
-    let between = with_moved s.board first in
-    let full_left = length_put s.board first.from None full in
-    let full_between = length_put (put s.board first.from None) first.to (Some first.piece) full_left in
-    let one = going_changes f s.board first.piece first full fits.0.stands fits.0.on_board fits.0.moves in
-    let two = going_changes f between second.piece second full_between fits.1.stands fits.1.on_board fits.1.moves in
-    let free = ap (λ (p : Place). total f (square_offsets p second.to ++ (piece_offset second.piece second.to ∷ []))) fits.2 in
-    let parts = total-append f (going_offsets s.board first.piece first) (piece_offset second.piece second.from ∷ piece_offset second.piece second.to ∷ []) in
-    omega (arith, one, two, free, parts)
+second_changes : (f : ℕ → ℕ) (board : Board) (side : Colour) (second : Option MovedPiece) → length board ≡ 64 → IfSome second (CanFollow board side)
+    → (total f (piece_offsets board 0) + total f (option_map_or (λ c. going_offsets c.piece c) second [])) % 2 ≡ total f (piece_offsets (option_map_or (λ c. with_moved board c) second board) 0) % 2
+second_changes f board side None full follows = omega arith
+second_changes f board side (Some second) full follows =
+    let goes = going_changes f board second.piece second full follows.stands follows.arrives.on_board follows.arrives.moves in
+    let free = ap (λ (p : Place). total f (square_offsets p second.to)) follows.empty in
+    omega (arith, goes, free)
+
+moved_board : (board : Board) (first : MovedPiece) (second : Option MovedPiece) → with_pieces_moved board first second ≡ option_map_or (λ c. with_moved (with_moved board first) c) second (with_moved board first)
+moved_board board first None = refl
+moved_board board first (Some second) = refl
 
 pub moved_changes : (f : ℕ → ℕ) (s : Position) (m : Moved) (e : Effect) → IsSetup s → IsEffect s m e
-    → (total f (piece_offsets s.board 0) + total f (moved_offsets s.board m e.piece e.kind)) % 2 ≡ total f (piece_offsets (after s m).board 0) % 2
+    → (total f (piece_offsets s.board 0) + total f (moved_offsets s.board e)) % 2 ≡ total f (piece_offsets (after s m).board 0) % 2
 moved_changes f s m e ok is =
-    let T : Position → ℕ = λ t. total f (piece_offsets t.board 0) % 2 in
-    kind_changes f s m e.piece e.kind ok.places is.moves.is_move is.stands is.fits ∙ sym (ap T is.after)
+    let first = e.first in
+    let between = with_moved s.board first in
+    let full = length_put (put s.board first.from None) first.to (Some first.piece) (length_put s.board first.from None ok.places) in
+    let stands : Holds s.board first.from e.piece = subst (λ q. Holds s.board q e.piece) (sym is.fits.leaves) is.stands in
+    let one = going_changes f s.board e.piece first ok.places stands is.fits.arrives.on_board is.fits.arrives.moves in
+    let two = second_changes f between s.turn e.second full is.fits.follows in
+    let taken = square_offsets (at s.board first.to) first.to in
+    let second : List ℕ = option_map_or (λ c. going_offsets c.piece c) e.second [] in
+    let all = total-append f (going_offsets e.piece first) (taken ++ second) in
+    let parts = total-append f taken second in
+    let board = ap (λ (b : Board). total f (piece_offsets b 0)) (ap (λ (t : Position). t.board) is.after ∙ moved_board s.board first e.second) in
+    omega (arith, one, two, all, parts, board)

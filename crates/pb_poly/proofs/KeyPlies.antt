@@ -1,9 +1,8 @@
 -- The key before a move, with what the move changes toggled, is the key after it.
-use Rattle.std.proofs.Common.{◌≡◌, ℕ, ◌+◌, ◌%◌, ◌^◌, ◌<◌, Bool, true, false, not, List, [], ◌∷◌, ◌++◌, refl, ap, ◌∙◌, arith}
-use Rattle.std.specs.Prelude.{slice_index}
+use Rattle.std.proofs.Common.{◌≡◌, ℕ, ◌+◌, ◌%◌, Bool, true, false, not, List, [], ◌∷◌, ◌++◌, sym, ap, ◌∙◌, arith}
+use Rattle.std.specs.Prelude.{bit_xor, slice_index}
 use Rattle.std.specs.Bool.{beq}
-use Rattle.std.specs.Int.{bit_at}
-use Rattle.std.proofs.lemmas.Nat.Bits.{bit_at-zero, same_from_bits_below}
+use Rattle.std.proofs.lemmas.List.Sums.{fold-append}
 use Rattle.pb_board.specs.declared.piece.Colour.{Colour}
 use Rattle.pb_board.specs.declared.piece.Colour.TheVariants.{White, Black}
 use Rattle.pb_board.specs.declared.setup.Rights.{Rights}
@@ -15,7 +14,7 @@ use Rattle.pb_poly.specs.KeyChange.{changed_offsets, toggled}
 use Rattle.pb_poly.specs.Table.{IsTable}
 use Rattle.pb_poly.proofs.Among.{total}
 use Rattle.pb_poly.proofs.KeyChanges.{total-append}
-use Rattle.pb_poly.proofs.Parity.{toggled_below, toggled_bit}
+use Rattle.pb_poly.proofs.Parity.{toggled_same}
 use Rattle.pb_poly.proofs.Offsets.{right_offsets, turn_offsets}
 
 -- ---- the parts of a key
@@ -65,47 +64,34 @@ offsets_total f s = four_lists f (piece_offsets s.board 0) (right_offsets s.righ
 
 -- ---- the key
 
--- a key in which the changes are toggled, step by step
-pub record IsToggled (randoms : List ℕ) (s t : Position) (moved : List ℕ) (k l : ℕ) : Type 0 where
-  pub pieces : ℕ
-  pub rights : ℕ
-  pub cleared : ℕ
-  pub stepped : ℕ
-  pub pieces_is : pieces ≡ toggled randoms k moved
-  pub rights_is : rights ≡ toggled randoms pieces (changed_offsets s.rights t.rights)
-  pub cleared_is : cleared ≡ toggled randoms rights (en_passant_offsets s)
-  pub stepped_is : stepped ≡ toggled randoms cleared (en_passant_offsets t)
-  pub turn : t.turn ≡ opponent s.turn
-  pub is : l ≡ toggled randoms stepped (780 ∷ [])
+five_lists : (f : ℕ → ℕ) (a b c d e : List ℕ) → total f (a ++ (b ++ (c ++ (d ++ e)))) ≡ total f a + total f b + total f c + total f d + total f e
+five_lists f a b c d e =
+    let first = total-append f a (b ++ (c ++ (d ++ e))) in
+    let rest = four_lists f b c d e in
+    omega (arith, first, rest)
 
-next_bit : (randoms : List ℕ) (bit k l : ℕ) (ps : List ℕ) → l ≡ toggled randoms k ps → bit_at l bit ≡ (bit_at k bit + total (λ offset. bit_at (slice_index randoms offset) bit) ps) % 2
-next_bit randoms bit k l ps is = ap (λ n. bit_at n bit) is ∙ toggled_bit randoms bit k ps
+-- the offsets of all changes
+abbrev pub change_offsets : Position → Position → List ℕ → List ℕ
+change_offsets s t moved = moved ++ (changed_offsets s.rights t.rights ++ (en_passant_offsets s ++ (en_passant_offsets t ++ (780 ∷ []))))
 
-key_bit : (randoms : List ℕ) (s : Position) (bit k : ℕ) → k ≡ key randoms s → bit_at k bit ≡ total (λ offset. bit_at (slice_index randoms offset) bit) (offsets s) % 2
-unfolding key
-key_bit randoms s bit k is =
-    let joins = next_bit randoms bit 0 k (offsets s) is in
-    let none = bit_at-zero bit in
-    omega (arith, joins, none)
-
-pub key_follows : (randoms : List ℕ) (s t : Position) (moved : List ℕ) (k l : ℕ) → IsTable randoms
-    → ((f : ℕ → ℕ) → (total f (piece_offsets s.board 0) + total f moved) % 2 ≡ total f (piece_offsets t.board 0) % 2)
-    → k ≡ key randoms s → l < 2 ^ 64 → IsToggled randoms s t moved k l → l ≡ key randoms t
-unfolding key
-key_follows randoms s t moved k l table board_change before below toggles =
-    same_from_bits_below 64 l (key randoms t) below (toggled_below randoms 0 (offsets t) table (omega arith)) (λ bit low.
-    let f : ℕ → ℕ = λ offset. bit_at (slice_index randoms offset) bit in
-    let start = key_bit randoms s bit k before in
-    let end = key_bit randoms t bit (key randoms t) refl in
-    let a = next_bit randoms bit k toggles.pieces moved toggles.pieces_is in
-    let b = next_bit randoms bit toggles.pieces toggles.rights (changed_offsets s.rights t.rights) toggles.rights_is in
-    let c = next_bit randoms bit toggles.rights toggles.cleared (en_passant_offsets s) toggles.cleared_is in
-    let d = next_bit randoms bit toggles.cleared toggles.stepped (en_passant_offsets t) toggles.stepped_is in
-    let e = next_bit randoms bit toggles.stepped l (780 ∷ []) toggles.is in
-    let turn = turn_changes f s.turn in
-    let turned = ap (λ (c : Colour). total f (turn_offsets c)) toggles.turn in
-    let board = board_change f in
-    let rights = rights_change f s.rights t.rights in
+-- with the changes toggled, each offset counts an odd number of times just where the new key has it
+changes_follow : (f : ℕ → ℕ) (s t : Position) (moved : List ℕ) → t.turn ≡ opponent s.turn
+    → (total f (piece_offsets s.board 0) + total f moved) % 2 ≡ total f (piece_offsets t.board 0) % 2
+    → total f (offsets s ++ change_offsets s t moved) % 2 ≡ total f (offsets t) % 2
+changes_follow f s t moved turn board =
+    let all = total-append f (offsets s) (change_offsets s t moved) in
+    let parts = five_lists f moved (changed_offsets s.rights t.rights) (en_passant_offsets s) (en_passant_offsets t) (780 ∷ []) in
     let had = offsets_total f s in
     let has = offsets_total f t in
-    omega (arith, start, end, a, b, c, d, e, turn, turned, board, rights, had, has))
+    let rights = rights_change f s.rights t.rights in
+    let turns = turn_changes f s.turn in
+    let turned = ap (λ (c : Colour). total f (turn_offsets c)) turn in
+    omega (arith, all, parts, had, has, board, rights, turns, turned)
+
+pub key_follows : (randoms : List ℕ) (s t : Position) (moved : List ℕ) → IsTable randoms → t.turn ≡ opponent s.turn
+    → ((f : ℕ → ℕ) → (total f (piece_offsets s.board 0) + total f moved) % 2 ≡ total f (piece_offsets t.board 0) % 2)
+    → key randoms t ≡ toggled randoms (key randoms s) (change_offsets s t moved)
+unfolding key
+key_follows randoms s t moved table turn board =
+    sym (toggled_same randoms (offsets s ++ change_offsets s t moved) (offsets t) table (λ f. changes_follow f s t moved turn (board f)))
+    ∙ fold-append (λ k offset. bit_xor k (slice_index randoms offset)) 0 (offsets s) (change_offsets s t moved)

@@ -1,8 +1,6 @@
 -- The offsets that the key's function goes over are those of the setup, each once.
-use Rattle.std.proofs.Common.{◌≡◌, ◌≢◌, ℕ, zero, suc, ◌+◌, ◌-◌, ◌%◌, ◌<◌, ◌≤◌, ◌⊎◌, inl, inr, Bool, true, false, not, ◌&&◌, ◌||◌, ◌==◌, Option, Some, None, List, [], ◌∷◌, ◌++◌, length, refl, sym, ap, ◌∙◌, subst, arith}
+use Rattle.std.proofs.Common.{◌≡◌, ℕ, zero, suc, ◌+◌, ◌%◌, ◌<◌, ◌≤◌, ◌⊎◌, inl, inr, Bool, true, false, ◌==◌, Option, Some, None, List, [], ◌∷◌, ◌++◌, length, refl, sym, ap, ◌∙◌, subst, arith}
 use Rattle.std.specs.Prelude.{IsTrue}
-use Rattle.std.proofs.lemmas.Bool.{and_parts, cases_lt}
-use Rattle.std.proofs.lemmas.Bool.Decides.{nat_tests}
 use Rattle.std.specs.Option.{option_map_or}
 use Rattle.pb_board.specs.declared.piece.Colour.{Colour}
 use Rattle.pb_board.specs.declared.piece.Colour.TheVariants.{White, Black}
@@ -10,12 +8,10 @@ use Rattle.pb_board.specs.declared.piece.Kind.{Kind}
 use Rattle.pb_board.specs.declared.piece.Kind.TheVariants.{Pawn, Knight, Bishop, Rook, Queen, King}
 use Rattle.pb_board.specs.declared.piece.Piece.{Piece}
 use Rattle.pb_board.specs.declared.setup.Rights.{Rights}
-use Rattle.pb_board.specs.Piece.{colour_number, kind_number, piece_number, piece_of}
-use Rattle.pb_board.specs.Board.{Board, Place, at, file, rank, is_piece}
+use Rattle.pb_board.specs.Piece.{colour_number, kind_number, piece_number}
+use Rattle.pb_board.specs.Board.{Board, Place, at, file}
 use Rattle.pb_board.specs.Position.{Position, IsSetup, beyond}
 use Rattle.pb_board.specs.Rights.{of_rights, only_if}
-use Rattle.pb_board.proofs.PieceTests.{is_piece-is, is_piece-passes}
-use Rattle.pb_moves.specs.Attacks.{files_apart}
 use Rattle.pb_poly.specs.Key.{AreOffsets, HasOffset, of_piece, of_right, en_passant, white_to_move, HasCapturer, has_capturer, en_passant_offsets, piece_offset, piece_offsets, offsets}
 use Rattle.pb_poly.proofs.Capturers.{capturer_known, capturer_there}
 use Rattle.pb_poly.proofs.Among.{Among, Distinct, among_contained, among_either, among_left, among_right, contains_among, distinct_append, distinct_pairs}

@@ -1,6 +1,6 @@
 -- What is read from a source that tells the bytes of a table file.
 use Rattle.std.proofs.Common.{◌≡◌, ℕ, List, Result, Ok, Err, ap, arith, length, length-append, refl, subst, sym}
-use Rattle.std.specs.Prelude.{IfErr, IfOk, MatchResult}
+use Rattle.std.specs.Prelude.{MatchResult}
 use Rattle.pb_io.specs.Source.{SourceState}
 use Rattle.pb_io.specs.Lines.{lines}
 use Rattle.pb_poly.specs.Reading.{Tells}
@@ -12,6 +12,8 @@ use Rattle.pb_poly.specs.declared.table_file.TableFault.{TableFault}
 use Rattle.pb_poly.specs.declared.table_file.TableFault.TheVariants.{Long, Line, Count, Fault}
 use Rattle.pb_io.specs.declared.fault.ReadFault.TheVariants.{Read, Endless, Memory}
 use Rattle.pb_poly.specs.TableFinds.{FindsNoTable, FindsTable}
+use Rattle.pb_poly.specs.TableReading.{ReadsTable}
+use Rattle.pb_poly.proofs.ReadRows.{found_no_table, found_table}
 use Rattle.pb_poly.proofs.ToldReads.{all_came, came_first, no_endless, no_fault}
 
 pub tables_are_one : (randoms others bytes : List ℕ) → IsTableFile randoms bytes → IsTableFile others bytes → randoms ≡ others
@@ -38,6 +40,6 @@ module _ (fills : ℕ) (old new : SourceState) (randoms bytes : List ℕ) (tells
   refused (Fault Endless) h = absurd (no_endless table_limit fills old new bytes tells h.came h.reads)
   refused (Fault Memory) h = refl
 
-  pub only_table : (result : Result (List ℕ) TableFault) → IfOk result (FindsTable fills old new) → IfErr result (FindsNoTable fills old new) → MatchResult result (λ table. table ≡ randoms) (λ e. e ≡ Fault Memory)
-  only_table (Ok table) h k = found table h
-  only_table (Err e) h k = refused e k
+  pub only_table : (result : Result (List ℕ) TableFault) → ReadsTable fills old new result → MatchResult result (λ table. table ≡ randoms) (λ e. e ≡ Fault Memory)
+  only_table (Ok table) h = found table (found_table fills old new table h)
+  only_table (Err e) h = refused e (found_no_table fills old new e h)

@@ -23,12 +23,21 @@ pub toggled_below : (randoms : List ℕ) (k : ℕ) (ps : List ℕ) → IsTable r
 toggled_below randoms k [] table below = below
 toggled_below randoms k (p ∷ ps) table below = toggled_below randoms (bit_xor k (slice_index randoms p)) ps table (xor_lt 64 k (slice_index randoms p) below (random_below randoms p table))
 
-pub toggled_bit : (randoms : List ℕ) (bit k : ℕ) (ps : List ℕ) → bit_at (toggled randoms k ps) bit ≡ (bit_at k bit + total (λ offset. bit_at (slice_index randoms offset) bit) ps) % 2
+toggled_bit : (randoms : List ℕ) (bit k : ℕ) (ps : List ℕ) → bit_at (toggled randoms k ps) bit ≡ (bit_at k bit + total (λ offset. bit_at (slice_index randoms offset) bit) ps) % 2
 toggled_bit randoms bit k [] = let low = bit_at-lt k bit in omega (arith, low)
 toggled_bit randoms bit k (p ∷ ps) =
     let more = toggled_bit randoms bit (bit_xor k (slice_index randoms p)) ps in
     let first = bit_at_xor k (slice_index randoms p) bit in
     omega (arith, more, first)
+
+-- what is toggled depends on how often each offset stands, odd or even
+pub toggled_same : (randoms xs ys : List ℕ) → IsTable randoms → ((f : ℕ → ℕ) → total f xs % 2 ≡ total f ys % 2) → toggled randoms 0 xs ≡ toggled randoms 0 ys
+toggled_same randoms xs ys table same =
+    same_from_bits_below 64 (toggled randoms 0 xs) (toggled randoms 0 ys) (toggled_below randoms 0 xs table (omega arith)) (toggled_below randoms 0 ys table (omega arith)) (λ bit low.
+    let left = toggled_bit randoms bit 0 xs in
+    let right = toggled_bit randoms bit 0 ys in
+    let parity = same (λ offset. bit_at (slice_index randoms offset) bit) in
+    omega (arith, left, right, parity))
 
 pub key_is_parity : KeyIsParity
 unfolding key

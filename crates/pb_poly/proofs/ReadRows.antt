@@ -1,13 +1,12 @@
--- What reading a table file and a book gives, a row for each answer, and apart for each answer.
-use Rattle.std.proofs.Common.{ℕ, List, Result, Ok, Err, arith, refl, sym, subst, inl, inr}
-use Rattle.std.specs.Prelude.{IfErr, IfOk}
+-- What reading a table file and a book gives, apart for each answer.
+use Rattle.std.proofs.Common.{ℕ, List, Result, Ok, Err, arith, sym, subst, inl, inr}
 use Rattle.pb_io.specs.Reads.{chunk_len}
 use Rattle.pb_io.specs.Source.{SourceState}
-use Rattle.pb_poly.specs.BookFinds.{FindsBook, FindsNoBook, MeetsNoBook}
+use Rattle.pb_poly.specs.BookFinds.{FindsBook, FindsNoBook}
 use Rattle.pb_poly.specs.Reading.{BookIs, ReadsBook}
 use Rattle.pb_poly.specs.Streams.{ReadsTo, Extent, at_end, at_fault, at_no_end, just_so_far, so_far}
 use Rattle.pb_poly.specs.Table.{table_limit}
-use Rattle.pb_poly.specs.TableFinds.{FindsNoTable, FindsTable, MeetsNoTable}
+use Rattle.pb_poly.specs.TableFinds.{FindsNoTable, FindsTable}
 use Rattle.pb_poly.specs.TableReading.{ReadsTable, TableIs}
 use Rattle.pb_poly.specs.declared.entry.Entry.{Entry}
 use Rattle.pb_poly.specs.declared.reading.BookError.{BookError}
@@ -19,27 +18,6 @@ use Rattle.pb_io.specs.declared.fault.ReadFault.TheVariants.{Read, Endless, Memo
 -- ---- table files
 
 module _ (fills : ℕ) (old new : SourceState) where
-  meets_to : (e : TableFault) → MeetsNoTable fills old new e → ReadsTable fills old new (Err e)
-  meets_to Long h = inl (just_so_far, h.came, h.reads, omega (arith, h.due, h.few))
-  meets_to (Line n) h = inl (at_end, h.came, h.reads, h.due)
-  meets_to (Count n) h = inl (at_end, h.came, h.reads, h.due)
-  meets_to (Fault Read) h = inl (at_fault, h.came, h.reads, h.due)
-  meets_to (Fault Endless) h = inl (at_no_end, h.came, h.reads, h.due)
-  meets_to (Fault Memory) h = inl (at_end, h.came, h.reads, (h.due.1.0, (h.due.0, h.due.1.1)))
-
-  no_table_to : (e : TableFault) → FindsNoTable fills old new e → ReadsTable fills old new (Err e)
-  no_table_to (Fault Memory) (inl same) = inr (refl, same)
-  no_table_to (Fault Memory) (inr h) = meets_to (Fault Memory) h
-  no_table_to Long h = meets_to Long h
-  no_table_to (Line n) h = meets_to (Line n) h
-  no_table_to (Count n) h = meets_to (Count n) h
-  no_table_to (Fault Read) h = meets_to (Fault Read) h
-  no_table_to (Fault Endless) h = meets_to (Fault Endless) h
-
-  pub table_to : (result : Result (List ℕ) TableFault) → IfOk result (FindsTable fills old new) → IfErr result (FindsNoTable fills old new) → ReadsTable fills old new result
-  table_to (Ok randoms) h k = inl (at_end, h.came, h.reads, h.is)
-  table_to (Err e) h k = no_table_to e k
-
   abbrev Apart : Result (List ℕ) TableFault → Type 0
   Apart (Ok randoms) = FindsTable fills old new randoms
   Apart (Err e) = FindsNoTable fills old new e
@@ -67,25 +45,6 @@ module _ (fills : ℕ) (old new : SourceState) where
 -- ---- books
 
 module _ (fills : ℕ) (old new : SourceState) where
-  meets_no_book_to : (e : BookError) → MeetsNoBook fills old new e → ReadsBook fills old new (Err e)
-  meets_no_book_to (book.Unsorted n) h = inl (so_far, h.came, h.reads, h.due)
-  meets_no_book_to (book.Cut n) h = inl (at_end, h.came, h.reads, h.due)
-  meets_no_book_to book.Read h = inl (at_fault, h.came, h.reads, h.due)
-  meets_no_book_to book.Endless h = inl (at_no_end, h.came, h.reads, h.due)
-  meets_no_book_to book.Memory h = let due = h.due in inl (so_far, h.came, h.reads, (due.0, due.1, record { are = due.2; ordered = due.3 }))
-
-  no_book_to : (e : BookError) → FindsNoBook fills old new e → ReadsBook fills old new (Err e)
-  no_book_to book.Memory (inl same) = inr (refl, same)
-  no_book_to book.Memory (inr h) = meets_no_book_to book.Memory h
-  no_book_to (book.Unsorted n) h = meets_no_book_to (book.Unsorted n) h
-  no_book_to (book.Cut n) h = meets_no_book_to (book.Cut n) h
-  no_book_to book.Read h = meets_no_book_to book.Read h
-  no_book_to book.Endless h = meets_no_book_to book.Endless h
-
-  pub book_to : (result : Result (List Entry) BookError) → IfOk result (FindsBook fills old new) → IfErr result (FindsNoBook fills old new) → ReadsBook fills old new result
-  book_to (Ok entries) h k = inl (at_end, h.came, h.reads, record { are = h.bytes; ordered = h.ordered })
-  book_to (Err e) h k = no_book_to e k
-
   abbrev BookApart : Result (List Entry) BookError → Type 0
   BookApart (Ok entries) = FindsBook fills old new entries
   BookApart (Err e) = FindsNoBook fills old new e

@@ -1,5 +1,5 @@
 -- The bytes of a table file, fill after fill.
-use Rattle.std.proofs.Common.{◌≡◌, ◌∙◌, ap, append_assoc, ℕ, ◌+◌, ◌<◌, ◌≤◌, List, ◌++◌, Ok, Err, append-nil, arith, length, length-append, length-take, subst, sym, take}
+use Rattle.std.proofs.Common.{◌≡◌, ◌∙◌, ap, append_assoc, ℕ, ◌+◌, ◌<◌, ◌≤◌, List, ◌++◌, Ok, Err, append-nil, arith, inl, length, length-append, length-take, subst, sym, take}
 use Rattle.std.proofs.Math.Seq.{take-append-add}
 use Rattle.std.proofs.lemmas.List.{take-append-le, take-take}
 use Rattle.pb_io.specs.Source.{Fill, SourceState}
@@ -10,7 +10,8 @@ use Rattle.pb_poly.specs.declared.table_file.TableFault.{TableFault}
 use Rattle.pb_poly.specs.declared.table_file.TableFault.TheVariants.{Long, Fault}
 use Rattle.pb_io.specs.declared.fault.ReadFault.TheVariants.{Read}
 use Rattle.pb_poly.specs.TableFilling.{FillsTable, HoldsMore}
-use Rattle.pb_poly.specs.TableFinds.{FindsNoTable}
+use Rattle.pb_poly.specs.TableReading.{ReadsTable}
+use Rattle.pb_poly.specs.Streams.{at_fault, just_so_far}
 use Rattle.pb_poly.specs.Table.{table_limit}
 
 -- after n fills these bytes are held
@@ -28,21 +29,17 @@ module _ (n : ℕ) (old mid new : SourceState) (held : List ℕ) (on : ReadsOn t
         subst (λ (bytes : List ℕ). ReadsAll table_limit fills old new bytes) (sym same)
         (ReadsAll-more table_limit n old mid new held h.slice h.fills.room h.fills.fits on fills below at_end)
 
-    pub fill_fails : (held' : List ℕ) (x : TableFault) → length held ≤ table_limit → FillsTable mid new held held' (Err x) → FindsNoTable fills old new x
+    pub fill_fails : (held' : List ℕ) (x : TableFault) → length held ≤ table_limit → FillsTable mid new held held' (Err x) → ReadsTable fills old new (Err x)
     fill_fails held' Long few h =
-        let within : h.count ≤ length h.slice = h.fills.fill.within in record {
-          came = held ++ take h.count h.slice;
-          reads = ReadsSome-more table_limit n old mid new held h.slice h.fills.room h.fills.fits on fills h.count below h.fills.fill;
-          due = omega (arith, length-append held (take h.count h.slice), length-take h.count h.slice, h.full, h.one);
-          few = omega (arith, length-append held (take h.count h.slice), length-take h.count h.slice, h.full, h.one);
-        }
+        let within : h.count ≤ length h.slice = h.fills.fill.within in inl (
+          just_so_far,
+          held ++ take h.count h.slice,
+          ReadsSome-more table_limit n old mid new held h.slice h.fills.room h.fills.fits on fills h.count below h.fills.fill,
+          omega (arith, length-append held (take h.count h.slice), length-take h.count h.slice, h.full, h.one),
+        )
     fill_fails held' (Fault Read) few h =
-        let slice = h.0 in let e = h.1 in let fills_some = h.2 in record {
-          came = held;
-          reads = ReadsToFault-more table_limit n old mid new held slice fills_some.room fills_some.fits on fills e below fills_some.fill;
-          due = few;
-          few = omega (arith, few);
-        }
+        let slice = h.0 in let e = h.1 in let fills_some = h.2 in
+        inl (at_fault, held, ReadsToFault-more table_limit n old mid new held slice fills_some.room fills_some.fits on fills e below fills_some.fill, few)
     fill_fails held' _ few h = absurd h
 
 -- what is held, and then a front of a slice that was put behind it

@@ -1,6 +1,6 @@
 -- What is read from a source that tells the bytes of a book.
 use Rattle.std.proofs.Common.{◌≡◌, ℕ, ◌*◌, ◌+◌, List, [], ◌++◌, length, length-append, Option, Some, None, Result, Ok, Err, refl, sym, ap, ◌∙◌, subst, append_assoc, arith}
-use Rattle.std.specs.Prelude.{IfErr, IfOk, MatchResult}
+use Rattle.std.specs.Prelude.{MatchResult}
 use Rattle.std.specs.Io.KnownBytes.{Consumes, IsAtEnd}
 use Rattle.std.proofs.lemmas.List.{append-nil}
 use Rattle.pb_io.specs.Source.{SourceState}
@@ -9,7 +9,8 @@ use Rattle.pb_poly.specs.declared.reading.BookError.{BookError}
 use Rattle.pb_poly.specs.declared.reading.BookError.TheVariants.{Unsorted, Cut, Read, Endless, Memory}
 use Rattle.pb_poly.specs.Book.{BookBytes, NeverFall, book_bytes}
 use Rattle.pb_poly.specs.BookFinds.{FindsBook, FindsNoBook}
-use Rattle.pb_poly.specs.Reading.{Tells}
+use Rattle.pb_poly.specs.Reading.{ReadsBook, Tells}
+use Rattle.pb_poly.proofs.ReadRows.{found_book, found_no_book}
 use Rattle.pb_poly.proofs.EntryBytes.{NeverFall-front, none_falls, begins, book_is_one, length-book_bytes}
 
 -- what came is a front of what was told
@@ -56,6 +57,6 @@ module _ (fills : ℕ) (old new : SourceState) (entries : List Entry) (bytes : L
       absurd (omega arith)
   refused Memory h = refl
 
-  pub only : (result : Result (List Entry) BookError) → IfOk result (FindsBook fills old new) → IfErr result (FindsNoBook fills old new) → MatchResult result (λ book. book ≡ entries) (λ e. e ≡ Memory)
-  only (Ok book) h k = found book h
-  only (Err e) h k = refused e k
+  pub only : (result : Result (List Entry) BookError) → ReadsBook fills old new result → MatchResult result (λ book. book ≡ entries) (λ e. e ≡ Memory)
+  only (Ok book) h = found book (found_book fills old new book h)
+  only (Err e) h = refused e (found_no_book fills old new e h)

@@ -10,9 +10,7 @@ use Rattle.pb_board.specs.Board.{Board, Place, file, at}
 use Rattle.pb_board.specs.Piece.{opponent}
 use Rattle.pb_board.specs.Position.{Position}
 use Rattle.pb_board.specs.Rights.{of_rights, only_if}
-use Rattle.pb_moves.specs.declared.move_kind.MoveKind.{MoveKind}
-use Rattle.pb_moves.specs.declared.move_kind.MoveKind.TheVariants.{One, Two}
-use Rattle.pb_moves.specs.Moved.{Moved}
+use Rattle.pb_moves.specs.declared.effect.Effect.{Effect}
 use Rattle.pb_poly.specs.Key.{has_capturer, piece_offset}
 
 -- a key with the numbers at these offsets toggled: exclusive or takes each in, and takes it out
@@ -25,18 +23,15 @@ abbrev pub square_offsets : Place → ℕ → List ℕ
 square_offsets None square = []
 square_offsets (Some p) square = piece_offset p square ∷ []
 
--- a piece leaves its square, and what it is then arrives in the place of what stood there
-abbrev pub going_offsets : Board → Piece → MovedPiece → List ℕ
-going_offsets board leaving c = piece_offset leaving c.from
-    ∷ (square_offsets (at board c.to) c.to ++ (piece_offset c.piece c.to ∷ []))
+-- a piece leaves its square, and what it is then arrives
+abbrev pub going_offsets : Piece → MovedPiece → List ℕ
+going_offsets leaving c = piece_offset leaving c.from ∷ piece_offset c.piece c.to ∷ []
 
--- the pieces go that a move of this kind puts elsewhere; the second of two goes to an empty square
-abbrev pub moved_offsets : Board → Moved → Piece → MoveKind → List ℕ
-moved_offsets board m piece (One arriving) =
-    going_offsets board piece (record { from = m.from; to = m.to; piece = arriving })
-moved_offsets board m piece (Two first second) =
-    going_offsets board first.piece first
-    ++ (piece_offset second.piece second.from ∷ piece_offset second.piece second.to ∷ [])
+-- the first piece goes, what stood where it arrives is taken, and the second goes where there is one
+abbrev pub moved_offsets : Board → Effect → List ℕ
+moved_offsets board e = going_offsets e.piece e.first
+    ++ (square_offsets (at board e.first.to) e.first.to
+    ++ option_map_or (λ c. going_offsets c.piece c) e.second [])
 
 -- the offsets of the rights that one of the two has
 abbrev pub changed_offsets : Rights → Rights → List ℕ

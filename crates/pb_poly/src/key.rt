@@ -53,21 +53,22 @@ fn pieces_key(table: &Table, board: &[Option<Piece>; 64]) -> u64
     key
 }
 
+/// Gives the random number at the offset where the flag is set, and 0 elsewhere.
 #[inline(always)]
-pub(crate) fn toggle_if(table: &Table, key: u64, flag: bool, offset: usize) -> u64
+pub(crate) fn random_if(table: &Table, flag: bool, offset: usize) -> u64
     requires { offset < 781 }
-    ensures { result ≡ toggled table.now key (only_if flag offset) }
+    ensures { result ≡ toggled table.now 0 (only_if flag offset) }
 {
-    if flag { key ^ table.word(offset) } else { key }
+    if flag { table.word(offset) } else { 0 }
 }
 
-pub(crate) fn toggle_rights(table: &Table, key: u64, rights: Rights) -> u64
-    ensures { result ≡ toggled table.now key (of_rights rights 768 769 770 771) }
+pub(crate) fn rights_key(table: &Table, rights: Rights) -> u64
+    ensures { result ≡ toggled table.now 0 (of_rights rights 768 769 770 771) }
 {
-    let key = toggle_if(table, key, rights.white_short, CASTLING_START);
-    let key = toggle_if(table, key, rights.white_long, CASTLING_START + 1);
-    let key = toggle_if(table, key, rights.black_short, CASTLING_START + 2);
-    toggle_if(table, key, rights.black_long, CASTLING_START + 3)
+    random_if(table, rights.white_short, CASTLING_START)
+        ^ random_if(table, rights.white_long, CASTLING_START + 1)
+        ^ random_if(table, rights.black_short, CASTLING_START + 2)
+        ^ random_if(table, rights.black_long, CASTLING_START + 3)
 }
 
 fn beyond(turn: Colour, square: Square) -> u8
@@ -111,24 +112,24 @@ pub(crate) fn en_passant_offset(square: Square) -> usize
 }
 
 #[inline(always)]
-pub(crate) fn toggle_en_passant(table: &Table, key: u64, setup: &Setup) -> u64
-    ensures value { result ≡ toggled table.now key (en_passant_offsets setup.now) }
+pub(crate) fn en_passant_key(table: &Table, setup: &Setup) -> u64
+    ensures value { result ≡ toggled table.now 0 (en_passant_offsets setup.now) }
     ensures rules { IsSetup setup.now }
 {
     let turn = setup.turn();
     match setup.ep() {
         Some(square) => {
             let flag = has_capturer(setup, turn, beyond(turn, square));
-            toggle_if(table, key, flag, en_passant_offset(square))
+            random_if(table, flag, en_passant_offset(square))
         }
-        None => key,
+        None => 0,
     }
 }
 
-fn toggle_turn(table: &Table, key: u64, turn: Colour) -> u64
-    ensures { result ≡ toggled table.now key (only_if (colour_number turn == 0) 780) }
+fn turn_key(table: &Table, turn: Colour) -> u64
+    ensures { result ≡ toggled table.now 0 (only_if (colour_number turn == 0) 780) }
 {
-    toggle_if(table, key, turn == Colour::White, WHITE_TO_MOVE)
+    random_if(table, turn == Colour::White, WHITE_TO_MOVE)
 }
 
 /// Gives the key of a setup in PolyGlot books (its Zobrist hash): the exclusive or of the table's
@@ -140,7 +141,8 @@ pub fn key_of(table: &Table, setup: &Setup) -> u64
     ensures value { result ≡ key_by table.now setup.now }
 {
     let pieces = pieces_key(table, &setup.board());
-    let rights = toggle_rights(table, pieces, setup.rights());
-    let en_passant = toggle_en_passant(table, rights, setup);
-    toggle_turn(table, en_passant, setup.turn())
+    let rights = rights_key(table, setup.rights());
+    let en_passant = en_passant_key(table, setup);
+    let turn = turn_key(table, setup.turn());
+    pieces ^ rights ^ en_passant ^ turn
 }

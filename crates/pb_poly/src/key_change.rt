@@ -1,6 +1,6 @@
 //! Keys by what a move changes.
 
-ghost use Rattle.std.specs.Prelude.{◌≡◌, [], ◌∷◌, ◌++◌};
+ghost use Rattle.std.specs.Prelude.{◌≡◌, slice_index};
 ghost use Rattle.pb_board.specs.Board.{at};
 ghost use Rattle.pb_moves.specs.Effect.{IsEffect};
 ghost use Rattle.pb_moves.specs.Legal.{PseudoLegal};
@@ -10,80 +10,58 @@ ghost use Rattle.pb_poly.specs.KeyChange.{changed_offsets, going_offsets, moved_
 ghost use Rattle.pb_poly.specs.KeyChange.{square_offsets, stepped_offsets, toggled};
 
 use crate::key::{
-    WHITE_TO_MOVE, en_passant_offset, has_capturer, piece_offset, toggle_en_passant, toggle_if,
-    toggle_rights,
+    WHITE_TO_MOVE, en_passant_key, en_passant_offset, has_capturer, piece_offset, random_if,
+    rights_key,
 };
 use crate::table::Table;
 use pb_board::{MovedPiece, Piece, Rights, Setup, Square};
-use pb_moves::{Effect, Move, MoveKind, effect_of};
+use pb_moves::{Effect, Move, effect_of};
 
 #[inline(always)]
-fn toggle_piece(table: &Table, key: u64, piece: Piece, square: Square) -> u64
-    ensures { result ≡ toggled table.now key (piece_offset_by piece square ∷ []) }
+fn piece_key(table: &Table, piece: Piece, square: Square) -> u64
+    ensures { result ≡ slice_index table.now (piece_offset_by piece square) }
 {
-    key ^ table.word(piece_offset(piece, square.index() as usize))
+    table.word(piece_offset(piece, square.index() as usize))
+}
+
+/// A piece leaves a square, and what it then is arrives on another.
+#[inline(always)]
+fn going_key(table: &Table, leaving: Piece, moved: &MovedPiece) -> u64
+    ensures { result ≡ toggled table.now 0 (going_offsets leaving moved.now) }
+{
+    piece_key(table, leaving, moved.from) ^ piece_key(table, moved.piece, moved.to)
 }
 
 #[inline(always)]
-fn toggle_square(table: &Table, key: u64, before: &Setup, square: Square) -> u64
-    ensures { result ≡ toggled table.now key (square_offsets (at before.now.board square) square) }
+fn taken_key(table: &Table, before: &Setup, square: Square) -> u64
+    ensures { result ≡ toggled table.now 0 (square_offsets (at before.now.board square) square) }
 {
     match before.at(square) {
-        Some(piece) => toggle_piece(table, key, piece, square),
-        None => key,
-    }
-}
-
-/// Toggles what leaves, what is taken, and what arrives.
-#[inline(always)]
-fn toggle_going(table: &Table, key: u64, before: &Setup, leaving: Piece, carried: MovedPiece) -> u64
-    ensures { result ≡ toggled table.now key (going_offsets before.now.board leaving carried) }
-{
-    let MovedPiece { from, to, piece } = carried;
-    let left = toggle_piece(table, key, leaving, from);
-    let taken = toggle_square(table, left, before, to);
-    toggle_piece(table, taken, piece, to)
-}
-
-/// Out of line, since few moves need it.
-#[inline(never)]
-fn toggle_two(table: &Table, key: u64, before: &Setup, first: MovedPiece, second: MovedPiece) -> u64
-    ensures { result ≡ toggled table.now key (going_offsets before.now.board first.piece first
-        ++ (piece_offset_by second.piece second.from ∷ piece_offset_by second.piece second.to
-        ∷ [])) }
-{
-    let moved = toggle_going(table, key, before, first.piece, first);
-    let left = toggle_piece(table, moved, second.piece, second.from);
-    toggle_piece(table, left, second.piece, second.to)
-}
-
-#[inline(always)]
-fn toggle_moved(
-    table: &Table,
-    key: u64,
-    before: &Setup,
-    m: Move,
-    leaving: Piece,
-    kind: MoveKind,
-) -> u64
-    ensures { result ≡ toggled table.now key (moved_offsets before.now.board m leaving kind) }
-{
-    match kind {
-        MoveKind::One(piece) => {
-            let (from, to) = (m.from(), m.to());
-            toggle_going(table, key, before, leaving, MovedPiece { from, to, piece })
-        }
-        MoveKind::Two(first, second) => toggle_two(table, key, before, first, second),
+        Some(piece) => piece_key(table, piece, square),
+        None => 0,
     }
 }
 
 #[inline(always)]
-fn toggle_changed(table: &Table, key: u64, old: Rights, new: Rights) -> u64
-    ensures { result ≡ toggled table.now key (changed_offsets old new) }
+fn moved_key(table: &Table, before: &Setup, effect: &Effect) -> u64
+    ensures { result ≡ toggled table.now 0 (moved_offsets before.now.board effect.now) }
+{
+    let first = going_key(table, effect.piece, &effect.first);
+    let taken = taken_key(table, before, effect.first.to);
+    let second = match effect.second {
+        Some(second) => going_key(table, second.piece, &second),
+        None => 0,
+    };
+    first ^ taken ^ second
+}
+
+#[inline(always)]
+fn changed_key(table: &Table, old: Rights, new: Rights) -> u64
+    ensures { result ≡ toggled table.now 0 (changed_offsets old new) }
 {
     // Most moves change none.
     if old == new {
-        return key;
+        return 0;
     }
     let changed = Rights {
         white_short: old.white_short != new.white_short,
@@ -91,19 +69,19 @@ fn toggle_changed(table: &Table, key: u64, old: Rights, new: Rights) -> u64
         black_short: old.black_short != new.black_short,
         black_long: old.black_long != new.black_long,
     };
-    toggle_rights(table, key, changed)
+    rights_key(table, changed)
 }
 
 #[inline(always)]
-fn toggle_stepped(table: &Table, key: u64, before: &Setup, to: Square, ep: Option<Square>) -> u64
-    ensures { result ≡ toggled table.now key (stepped_offsets before.now to ep) }
+fn stepped_key(table: &Table, before: &Setup, to: Square, ep: Option<Square>) -> u64
+    ensures { result ≡ toggled table.now 0 (stepped_offsets before.now to ep) }
 {
     let Some(square) = ep else {
-        return key;
+        return 0;
     };
     // The move leaves the squares beside this one as they were.
     let flag = has_capturer(before, before.turn().opponent(), to.index());
-    toggle_if(table, key, flag, en_passant_offset(square))
+    random_if(table, flag, en_passant_offset(square))
 }
 
 /// Gives the key of the setup after a move, of the one before it, its key, and what the move does.
@@ -114,11 +92,11 @@ pub fn key_next(table: &Table, key: u64, before: &Setup, m: Move, effect: &Effec
     ensures parity { IsKey table.now (setup_after before.now m) result }
     ensures value { result ≡ key_by table.now (setup_after before.now m) }
 {
-    let pieces = toggle_moved(table, key, before, m, effect.piece, effect.kind);
-    let changed = toggle_changed(table, pieces, before.rights(), effect.rights);
-    let cleared = toggle_en_passant(table, changed, before);
-    let stepped = toggle_stepped(table, cleared, before, m.to(), effect.ep);
-    stepped ^ table.word(WHITE_TO_MOVE)
+    let moved = moved_key(table, before, effect);
+    let changed = changed_key(table, before.rights(), effect.rights);
+    let cleared = en_passant_key(table, before);
+    let stepped = stepped_key(table, before, m.to(), effect.ep);
+    key ^ moved ^ changed ^ cleared ^ stepped ^ table.word(WHITE_TO_MOVE)
 }
 
 /// Gives the key of the setup after a move, of the key of the setup before it.

@@ -6,9 +6,9 @@ ghost use Rattle.pb_io.specs.Reads.{chunk_len};
 ghost use Rattle.pb_poly.specs.Book.{BookBytes, NeverFall};
 ghost use Rattle.pb_poly.specs.Entry.{IsEntry, entry_bytes};
 ghost use Rattle.pb_poly.specs.Feeding.{FailsWithin, RefusesEntry};
-ghost use Rattle.pb_poly.specs.BookFinds.{FindsBook, FindsNoBook};
-ghost use Rattle.pb_poly.specs.Reading.{ReadsBook, Splits, Tells};
-ghost use Rattle.pb_poly.specs.declared.reading.BookError.TheVariants.{Cut, Memory};
+ghost use Rattle.pb_poly.specs.Reading.{BookIs, ReadsBook, Splits, Tells};
+ghost use Rattle.pb_poly.specs.Streams.{at_end};
+ghost use Rattle.pb_poly.specs.declared.reading.BookError.TheVariants.{Memory};
 ghost use Rattle.pb_poly.specs.declared.entry.Entry.{Entry};
 
 use crate::book::Book;
@@ -141,8 +141,7 @@ impl Reading {
     }
 
     fn finish(self) -> Result<Book, BookError>
-        ensures ok { IfOk result (λ book. (book ≡ self.0) × (self.1 ≡ [])) }
-        ensures err { IfErr result (λ e. (e ≡ Cut (length self.1)) × (0 < length self.1)) }
+        ensures { (bytes : List ℕ) → Splits bytes self.0 self.1 → BookIs at_end bytes result }
     {
         if self.len > 0 {
             return Err(BookError::Cut(self.len));
@@ -158,8 +157,7 @@ impl Reading {
     ) -> Result<Book, BookError>
         requires empty { self ≡ ([], []) }
         requires room { length chunk.old ≡ chunk_len }
-        ensures found { IfOk result (FindsBook fills (S.state source.old) (S.state source.new)) }
-        ensures err { IfErr result (FindsNoBook fills (S.state source.old) (S.state source.new)) }
+        ensures { ReadsBook fills (S.state source.old) (S.state source.new) result }
     {
         for _made in 0..fills {
             let Ok(count) = source.fill(chunk) else {

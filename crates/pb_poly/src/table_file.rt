@@ -1,12 +1,11 @@
 //! Table files from sources.
 
-ghost use Rattle.std.specs.Prelude.{◌≡◌, ℕ, ◌<◌, ◌≤◌, List, [], IfErr, IfOk, MatchResult, OnOk};
+ghost use Rattle.std.specs.Prelude.{◌≡◌, ℕ, ◌<◌, ◌≤◌, List, [], Err, IfErr, IfOk, MatchResult, OnOk};
 ghost use Rattle.std.specs.Prelude.{length};
 ghost use Rattle.pb_poly.specs.Reading.{Tells};
 ghost use Rattle.pb_io.specs.Reads.{ReadsAll};
 ghost use Rattle.pb_poly.specs.Table.{IsTableFile, table_limit};
 ghost use Rattle.pb_poly.specs.TableFilling.{FillsTable};
-ghost use Rattle.pb_poly.specs.TableFinds.{FindsNoTable, FindsTable};
 ghost use Rattle.pb_poly.specs.TableReading.{ReadsTable};
 ghost use Rattle.pb_io.specs.declared.fault.ReadFault.TheVariants.{Memory};
 ghost use Rattle.pb_poly.specs.declared.table_file.TableFault.TheVariants.{Fault};
@@ -90,7 +89,8 @@ impl TableBytes {
         requires { self.old ≡ [] }
         ensures all { OnOk result (ReadsAll table_limit fills (S.state source.old)
             (S.state source.new) self.new) }
-        ensures err { IfErr result (FindsNoTable fills (S.state source.old) (S.state source.new)) }
+        ensures err { IfErr result (λ e. ReadsTable fills (S.state source.old)
+            (S.state source.new) (Err e)) }
     {
         for _made in 0..fills {
             let count = self.fill(source)?;
@@ -108,8 +108,7 @@ impl TableBytes {
         fills: u32,
     ) -> Result<Table, TableFault>
         requires { self ≡ [] }
-        ensures found { IfOk result (FindsTable fills (S.state source.old) (S.state source.new)) }
-        ensures err { IfErr result (FindsNoTable fills (S.state source.old) (S.state source.new)) }
+        ensures { ReadsTable fills (S.state source.old) (S.state source.new) result }
     {
         self.drain(source, fills)?;
         match read_table(alloc, self.as_bytes()) {

@@ -1,7 +1,8 @@
-use Rattle.std.proofs.Common.{arith, length, ◌≤◌, ◌≡◌, [], List, ℕ, subst, sym}
+use Rattle.std.proofs.Common.{arith, inl, length, ◌≤◌, ◌≡◌, [], List, ℕ, subst, sym}
 use Rattle.std.proofs.lemmas.Result.{err_from_is_err_and}
 use Rattle.pb_io.specs.Reads.{ReadsOn}
 use Rattle.pb_io.proofs.ReadsLemmas.{ReadsOn-none}
+use Rattle.pb_poly.specs.Streams.{at_no_end}
 use Rattle.pb_poly.specs.Table.{table_limit}
 use Rattle.pb_poly.proofs.TableFills.{fill_fails, holds_all, holds_more}
 use Rattle.pb_poly.proofs.table_file.TableBytes.drain.Goals as goal
@@ -36,9 +37,6 @@ loop-made-preserved g c =
 
 pub returns-clause-err : goal.returns-clause-err
 returns-clause-err g c =
-    let state = g.S.Source.state in let all : c.loop-made._made ≡ c.args.fills = omega arith in record {
-      came = c.loop-made.self;
-      reads = subst (λ n. ReadsOn table_limit n (state c.args.source.now) (state c.loop-made.source) c.loop-made.self) all c.loop-made.invariant.reads;
-      due = c.loop-made.invariant.few;
-      few = omega (arith, c.loop-made.invariant.few);
-    }
+    let state = g.S.Source.state in let all : c.loop-made._made ≡ c.args.fills = omega arith in
+    let reads = subst (λ n. ReadsOn table_limit n (state c.args.source.now) (state c.loop-made.source) c.loop-made.self) all c.loop-made.invariant.reads in
+    inl (at_no_end, c.loop-made.self, reads, c.loop-made.invariant.few)

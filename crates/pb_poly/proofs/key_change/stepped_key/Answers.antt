@@ -1,5 +1,5 @@
 use Rattle.std.proofs.Common.{rules}
-use Rattle.pb_poly.proofs.key_change.toggle_stepped.Goals as goal
+use Rattle.pb_poly.proofs.key_change.stepped_key.Goals as goal
 
 pub returns : goal.returns
 returns c = search rules
