@@ -7,10 +7,11 @@ Usage: python3 -B scripts/theorem.py [--count] [--of CRATE.FILE.NAME]
        python3 -B scripts/theorem.py --check
 It runs at the top of the repository. `make theorem` and `make test` call it.
 
-First comes the contract of the call that the program makes. Each definition is printed as it stands
-in crates/*/specs, with its comments. Then come the types of the code that definitions name, and the
-words of the toolchain's library, where `rt` is to be had. --of begins with another definition,
-without the call and the laws. --count prints the last lines alone, which tell how much it is
+First comes the contract of the call that the program makes, then the definitions of the case that a
+book is made, then what its laws and the rest of that contract rest on besides. Each is printed as it
+stands in crates/*/specs, with its comments. Then come the types of the code that definitions name,
+and the words of the toolchain's library, where `rt` is to be had. --of begins with another
+definition, without the call and the laws. --count prints the last lines alone, which tell how much it is
 (scripts/lib/specs.py says what counts). --contracts tells that of what all public contracts rest
 on, file by file. --index prints each public call with the first sentence of its comment, its
 clauses, and the definitions that they cite. --check compares docs/THEOREM.md with the counts.
@@ -29,7 +30,8 @@ from lib.specs import BEFORE, TOKEN, Specs, calls, count_of, imports
 DOCUMENT = pathlib.Path("docs/THEOREM.md")
 HEADLINE = "pb_commands.Headline.HasHeadline"
 # The theorem's sentence as one law, and the answers that the replies say.
-LAWS = ("pb_commands.Sentence.HoldsOfRuns", "pb_commands.Answered.SayAnswers")
+LAW = pathlib.Path("crates/pb_commands/src/run_laws.rt"), "sentence"
+ANSWERS = "pb_commands.Answered", "SayAnswers"
 # The call that the program makes. Its contract is the theorem, and how else it may end.
 PROGRAM = pathlib.Path("crates/pb_program/src/ordered.rt"), "collect"
 # The files of specs in reading order. All others come after them, by their crates.
@@ -168,9 +170,8 @@ def print_words(specs, imported):
         print("", place, *(f"    {it}" for it in lines), sep="\n")
 
 
-def program_call():
-    """The call that the program makes, and the imports of its file; none where there is no file."""
-    path, name = PROGRAM
+def call_at(path, name):
+    """The call of this name in a file, and the imports of the file; none where there is no file."""
     if not path.is_file():
         return None, {}
     source = path.read_text(encoding="utf-8")
@@ -234,10 +235,13 @@ def main():
     if not found:
         sys.exit(f"scripts/theorem.py: no definition is named {given.of}")
     has_laws = given.of == HEADLINE and not given.contracts
-    laws = [specs.find(*law.rsplit(".", 1)) for law in LAWS] if has_laws else []
+    law, imported = call_at(*LAW) if has_laws else (None, {})
+    laws = [*cited_in(specs, law, imported), specs.find(*ANSWERS)] if law else []
     more = [it for it in specs.closure(laws) if it not in found]
-    call, imported = program_call() if has_laws else (None, {})
-    whole = specs.closure(cited_in(specs, call, imported)) if call else []
+    call, imported = call_at(*PROGRAM) if has_laws else (None, {})
+    cited = cited_in(specs, call, imported) if call else []
+    whole = specs.closure(cited)
+    rest = [it for it in whole if it not in found + more]
     if given.check:
         return check(found, more, whole)
     files = by_files(found, file)
@@ -249,9 +253,12 @@ def main():
             print(f"==== The program's call: {PROGRAM[0]}\n", call.text, "", sep="\n")
         print_definitions(specs, files)
         if more:
-            print("==== Laws, and what they rest on besides\n")
-            print_definitions(specs, by_files(more, LAWS[0].rpartition(".")[0]))
-        imported = specs.imported([it for own in files.values() for it in own] + more)
+            print(f"==== Its law, and what else that rests on: {LAW[0]}\n", law.text, "", sep="\n")
+            print_definitions(specs, by_files(more, "pb_commands.Sentence"))
+        if rest:
+            print("==== What else the call's contract says\n")
+            print_definitions(specs, by_files(rest, cited[0].file))
+        imported = specs.imported([it for own in files.values() for it in own] + more + rest)
         print_types(specs, imported)
         print_words(specs, imported)
         print()

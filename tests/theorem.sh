@@ -129,7 +129,7 @@ abbrev pub HasHeadline : ℕ
 HasHeadline = headline
 END
 
-# The law that the script names first. 5 tokens on 2 lines, and 7 on 2.
+# What the law says. 5 tokens on 2 lines, and 7 on 2.
 put crates/pb_commands/specs/Sentence.antt << 'END'
 use Rattle.std.specs.Prelude.{ℕ}
 use Rattle.pb_commands.specs.Headline.{headline}
@@ -137,8 +137,17 @@ use Rattle.pb_commands.specs.Headline.{headline}
 abbrev pub least : ℕ
 least = 0
 
-abbrev pub HoldsOfRuns : ℕ
-HoldsOfRuns = headline + least
+abbrev pub Sentence : ℕ
+Sentence = headline + least
+END
+
+put crates/pb_commands/src/run_laws.rt << 'END'
+ghost use Rattle.pb_commands.specs.Sentence.{Sentence};
+
+/// Sums up.
+pub fn sentence()
+    ensures { Sentence ≡ Sentence }
+{}
 END
 
 put crates/upper/src/shade.rt << 'END'
@@ -287,7 +296,7 @@ with its laws: 4 definitions, 8 lines, 24 tokens, 2 files
 the program's call, however it ends: 7 definitions, 20 lines, 126 tokens, 4 files
 END
     holds diff "$work/due" "$work/printed"
-    theorem | grep '^====\|^abbrev\|^///\|^    ensures' | head -n 9 > "$work/printed"
+    theorem | grep '^====\|^abbrev\|^///\|^    ensures' | head -n 14 > "$work/printed"
     cat > "$work/due" << 'END'
 ==== The program's call: crates/pb_program/src/ordered.rt
 /// Collects.
@@ -295,9 +304,14 @@ END
 ==== crates/pb_commands/specs/Headline.antt
 abbrev pub headline : List ℕ
 abbrev pub HasHeadline : ℕ
-==== Laws, and what they rest on besides
+==== Its law, and what else that rests on: crates/pb_commands/src/run_laws.rt
+/// Sums up.
+    ensures { Sentence ≡ Sentence }
 ==== crates/pb_commands/specs/Sentence.antt
 abbrev pub least : ℕ
+abbrev pub Sentence : ℕ
+==== What else the call's contract says
+==== crates/upper/specs/Top.antt
 END
     holds diff "$work/due" "$work/printed"
 }
@@ -305,8 +319,12 @@ END
 # contracts: public contracts and models are counted, and no body, invariant or other function
 contracts() {
     theorem --contracts > "$work/printed"
-    printf '%s\n' 'crates/lower/specs/Parts.antt: 4 definitions, 9 lines, 29 tokens' \
-        '4 definitions, 9 lines, 29 tokens, 1 files' > "$work/due"
+    cat > "$work/due" << 'END'
+crates/pb_commands/specs/Headline.antt: 1 definitions, 2 lines, 7 tokens
+crates/lower/specs/Parts.antt: 4 definitions, 9 lines, 29 tokens
+crates/pb_commands/specs/Sentence.antt: 2 definitions, 4 lines, 12 tokens
+7 definitions, 15 lines, 48 tokens, 3 files
+END
     holds diff "$work/due" "$work/printed"
 }
 
@@ -333,7 +351,7 @@ tone::empty: (no comment)
 END
     holds diff "$work/due" "$work/printed"
     theorem --index > "$work/printed"
-    holds test "$(cat "$work/printed")" = '==== pb_commands'
+    holds test "$(head -n 1 "$work/printed")" = '==== pb_commands'
 }
 
 # printed: the definitions come as they stand, by their files, then types and words

@@ -12,8 +12,8 @@ use Rattle.pb_games.specs.Tokens.{tokens_of}
 use Rattle.pb_games.proofs.OneLine.{spellings_injective}
 use Rattle.pb_games.proofs.Played.{legal_fronts}
 use Rattle.pb_games.proofs.Refused.{none_due}
-use Rattle.pb_accepted.specs.Laws.{LawfulIsNotRefused, OneReason}
-use Rattle.pb_accepted.specs.Refusals.{IsFirst, reasons}
+use Rattle.pb_games.specs.Submissions.{Submission, IsLawful}
+use Rattle.pb_accepted.specs.Refusals.{IsFirst, reasons, IsRefused}
 use Rattle.pb_accepted.proofs.RefusedTexts.{IsSaid, never_said}
 
 module _ (line : List ℕ) where
@@ -48,7 +48,7 @@ one_first (R ∷ Rs) one v w (inl h) (inr k) = absurd (k.0 v h)
 one_first (R ∷ Rs) one v w (inr h) (inl k) = absurd (h.0 w k)
 one_first (R ∷ Rs) one v w (inr h) (inr k) = one_first Rs (λ i. one (suc i)) v w h.1 k.1
 
-pub one_reason : OneReason
+pub one_reason : (line v w : List ℕ) → IsRefused line v → IsRefused line w → v ≡ w
 one_reason line = one_first (reasons line (fields_of line)) (one_said line)
 
 never_first : (Rs : List (List ℕ → Type 0)) → ((i : ℕ) (why : List ℕ) → ¬ IsSaid i Rs why) → (why : List ℕ) → ¬ IsFirst Rs why
@@ -56,5 +56,5 @@ never_first [] never why h = h
 never_first (R ∷ Rs) never why (inl h) = never 0 why h
 never_first (R ∷ Rs) never why (inr h) = never_first Rs (λ i. never (suc i)) why h.1
 
-pub lawful_is_not_refused : LawfulIsNotRefused
+pub lawful_is_not_refused : (line why : List ℕ) (s : Submission) → IsLawful line s → ¬ IsRefused line why
 lawful_is_not_refused line why s lawful = never_first (reasons line (fields_of line)) (λ i. never_said line (λ _. Unit {0}) (λ d _. none_due line s lawful d) i tt) why

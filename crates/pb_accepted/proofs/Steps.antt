@@ -4,14 +4,15 @@ use Rattle.std.proofs.Common.{◌≡◌, ◌≢◌, ℕ, ◌+◌, List, [], ◌�
 use Rattle.std.proofs.lemmas.Bool.{le-ltb, lt-ltb}
 use Rattle.std.proofs.lemmas.List.{length_push}
 use Rattle.std.proofs.lemmas.Option.{get_or_from_slice_get, slice_get_within}
-use Rattle.pb_games.specs.declared.refusal.Refusal.TheVariants.{Conflict, Memory}
+use Rattle.std.specs.Prelude.{◌<◌, ◌≤◌, ◌⊎◌, All, Some, slice_get}
+use Rattle.pb_games.specs.declared.refusal.Refusal.TheVariants.{Conflict, Full, Memory}
 use Rattle.pb_games.specs.Submissions.{Submission, IsLawful}
+use Rattle.pb_games.specs.declared.refusal.Refusal.{Refusal}
 use Rattle.pb_accepted.specs.Accepting as steps
-use Rattle.pb_accepted.specs.Accepting.{Answer, Run, Step}
-use Rattle.pb_accepted.specs.Replying.{IsNewId, IsNumber}
-use Rattle.pb_accepted.specs.Counting.{counted}
+use Rattle.pb_accepted.specs.Accepting.{Answer, Run, Step, OneGame, Taken}
+use Rattle.pb_accepted.specs.Replying.{Arrives, IsNewId, IsNumber, AreNumbered}
+use Rattle.pb_accepted.specs.Counting.{counted, IsBook}
 use Rattle.pb_accepted.specs.Holding.{HaveOwnIds}
-use Rattle.pb_accepted.specs.Laws as laws
 use Rattle.pb_accepted.proofs.Allowing.{Accepted, Allowed, AllowedRun, Reply, Takes}
 use Rattle.pb_accepted.proofs.BookLaws.{one_book, same_book}
 use Rattle.pb_accepted.proofs.Distinct.{accepts_the_taken, lawful_arrives, no_conflict}
@@ -19,6 +20,10 @@ use Rattle.pb_accepted.proofs.Naming.{named_short}
 use Rattle.pb_accepted.proofs.Numbers.{numbers_given, repeats_keep}
 use Rattle.pb_accepted.proofs.Replies.{id_of, Answered, answered, held, new, other, full, allowed_held, one_reply, Allowed-full, Allowed-new, Allowed-memory, Allowed-refused, Takes-held, Takes-new, Takes-refused, Takes-refusal, Takes-full, Takes-memory, Takes-unique}
 use Rattle.pb_accepted.proofs.Runs.{Accepted-append, Accepted-unique, Run-append, own_ids}
+use Rattle.pb_accepted.specs.Replies.{named}
+use Rattle.pb_accepted.specs.Laws.{NoRepeats, SameMembers}
+use Rattle.pb_accepted.specs.Basis.{Basis}
+use Rattle.pb_poly.specs.declared.entry.Entry.{Entry}
 
 -- ---- from a step
 
@@ -86,7 +91,7 @@ run_from cap A (line ∷ L) [] B run h = absurd run
 
 -- ---- laws of steps
 
-pub one_step : laws.OneStep
+pub one_step : (cap : ℕ) (A : List Submission) (line : List ℕ) (q r : Answer) (B C : List Submission) → HaveOwnIds A → Step cap A line q B → Step cap A line r C → q ≢ Err Memory → r ≢ Err Memory → (q ≡ r) × (B ≡ C)
 one_step most A line q r B C own h k no_q no_r =
     let p = step_to most A line q B h in
     let t = step_to most A line r C k in
@@ -97,13 +102,13 @@ one_step most A line q r B C own h k no_q no_r =
     reply x (inl h) known = h
     reply x (inr h) known = absurd (known h.0)
 
-pub held_step : laws.HeldIsAnswered
+pub held_step : (cap : ℕ) (A : List Submission) (line : List ℕ) (s : Submission) (n : ℕ) (r : Answer) (B : List Submission) → HaveOwnIds A → IsLawful line s → IsNumber A n s → Step cap A line r B → r ≡ Ok n
 held_step cap A line s n r B own law at h = allowed_held cap A line s n r own law at (step_to cap A line r B h).0
 
-pub refusal_step : laws.RefusalsChangeNothing
+pub refusal_step : (cap : ℕ) (A : List Submission) (line : List ℕ) (e : Refusal) (B : List Submission) → Step cap A line (Err e) B → B ≡ A
 refusal_step cap A line e B h = let p = step_to cap A line (Err e) B h in Takes-refusal cap A line e B p.0 p.1
 
-pub named_step : laws.NamesAreShort
+pub named_step : (cap : ℕ) (A : List Submission) (line : List ℕ) (r : Answer) (B : List Submission) → Step cap A line r B → length (named line r) ≤ 64
 named_step cap A line r B h = named_short cap A line r (step_to cap A line r B h).0
 
 -- ---- the length that a step leaves
@@ -131,16 +136,16 @@ new_grows cap A line n B fresh (steps.refused x why e f) = cc
 pub distinct_ids : (cap : ℕ) (L : List (List ℕ)) (R : List Answer) (A : List Submission) → Run cap [] L R A → HaveOwnIds A
 distinct_ids cap L R A run = own_ids L R A (run_to cap [] L R A run).1
 
-pub one_run : laws.OneRun
+pub one_run : (cap most : ℕ) (A : List Submission) (L : List (List ℕ)) (R : List Answer) (B C : List Submission) → Run cap A L R B → Run most A L R C → B ≡ C
 one_run cap most A L R B C h k = Accepted-unique A L R B C (run_to cap A L R B h).1 (run_to most A L R C k).1
 
-pub runs_join : laws.RunsJoin
+pub runs_join : (cap : ℕ) (A B C : List Submission) (K L : List (List ℕ)) (Q R : List Answer) → Run cap A K Q B → Run cap B L R C → Run cap A (K ++ L) (Q ++ R) C
 runs_join cap A B C K L Q R h k =
     let p = run_to cap A K Q B h in
     let t = run_to cap B L R C k in
     run_from cap A _ _ C (Run-append cap A B K L Q R p.0 p.1 t.0) (Accepted-append A B C K L Q R p.1 t.1)
 
-pub runs_number : laws.RunsNumber
+pub runs_number : (cap : ℕ) (L : List (List ℕ)) (R : List Answer) (A : List Submission) → Run cap [] L R A → AreNumbered (λ s n. Ok n) L R A
 runs_number cap L R A run =
     let p = run_to cap [] L R A run in record {
       are = λ n s.
@@ -152,19 +157,24 @@ runs_number cap L R A run =
       repeats = λ i j n s lt was here. repeats_keep cap L R p.0 i j n was.0.0 here.0 s lt was.0.1 was.0.2 was.1 here.1 here.2;
     }
 
-pub one_effect : laws.CountsOnce
-one_effect cap L R A one run =
-    let p = run_to cap [] L R A run in record {
-      taken = accepts_the_taken L R A one p.1;
-      no_conflict = no_conflict cap L R one p.0;
-      arrivals = λ i s r B here said front.
-          lawful_arrives cap L R one p.0 i here.0 s r here.1 here.2 said B (run_to cap [] (take i L) (take i R) B front).1;
-    }
+module _ (cap : ℕ) (L : List (List ℕ)) (R : List Answer) (A : List Submission) (one : OneGame L) (run : Run cap [] L R A) where
+  pub takes_the_taken : Taken [] L R A
+  takes_the_taken = accepts_the_taken L R A one (run_to cap [] L R A run).1
+
+  pub has_no_conflict : All (λ r. (n : ℕ) → r ≢ Err (Conflict n)) R
+  has_no_conflict = no_conflict cap L R one (run_to cap [] L R A run).0
+
+  pub arrivals_are : (i : ℕ) (s : Submission) (r : Answer) (B : List Submission) → Arrives L i s
+      → slice_get R i ≡ Some r → Run cap [] (take i L) (take i R) B
+      → ((n : ℕ) × (r ≡ Ok n)) ⊎ (((r ≡ Err Full) × IsNewId s.0 B × (length B ≡ cap))
+      ⊎ ((r ≡ Err Memory) × IsNewId s.0 B × (length B < cap)))
+  arrivals_are i s r B here said front =
+      lawful_arrives cap L R one (run_to cap [] L R A run).0 i here.0 s r here.1 here.2 said B (run_to cap [] (take i L) (take i R) B front).1
 
 -- no submission stands twice
-pub once : (cap : ℕ) (L : List (List ℕ)) (R : List Answer) (A : List Submission) → Run cap [] L R A → laws.NoRepeats A
+pub once : (cap : ℕ) (L : List (List ℕ)) (R : List Answer) (A : List Submission) → Run cap [] L R A → NoRepeats A
 once cap L R A run i j d lt within e = distinct_ids cap L R A run i j d lt within (ap id_of e)
 
-pub same_books : laws.SameBooks
+pub same_books : (T : Basis) (m n : ℕ) (K L : List (List ℕ)) (Q R : List Answer) (A B : List Submission) → Run m [] K Q A → Run n [] L R B → SameMembers A B → (least : ℕ) (E F : List Entry) → IsBook (counted T A) least E → IsBook (counted T B) least F → E ≡ F
 same_books T m n K L Q R A B first second same least E F book twin =
     one_book (counted T B) least E F (same_book T A B (once m K Q A first) (once n L R B second) same least E book) twin

@@ -10,7 +10,6 @@ pub mod Refusals
 pub mod Replying
 pub mod Rules
 pub use Rattle.pb_games.specs.Ids
-pub use Rattle.pb_games.specs.Laws as LineLaws
 pub use Rattle.pb_games.specs.Refusing
 pub use Rattle.pb_games.specs.Results
 pub use Rattle.pb_games.specs.Submissions

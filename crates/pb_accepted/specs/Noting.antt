@@ -10,7 +10,7 @@ use Rattle.pb_accepted.specs.Counting.{given_by, points_for}
 
 -- these plies of a game with this outcome were noted, what a ply of each side gives is by the
 -- outcome, and the key is that of the setup
-pub record Holds (r : Recorder) (outcome : Outcome) (ps : List Ply) (t : Position) : Type 0 where
+pub record HoldsPlies (r : Recorder) (outcome : Outcome) (ps : List Ply) (t : Position) : Type 0 where
   pub white_is : r.white ≡ points_for outcome side.White
   pub black_is : r.black ≡ points_for outcome side.Black
   pub key_is : r.key ≡ key r.table t

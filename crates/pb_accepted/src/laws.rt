@@ -1,27 +1,33 @@
 //! Laws of ledgers, and of equality (`==`) between rules and between answers. Each is the contract
 //! of a function that does nothing.
 
-ghost use Rattle.std.specs.Prelude.{◌≡◌, ◌↔◌, ℕ, Contains, List, [], ◌∷◌, codes};
+ghost use Rattle.std.specs.Prelude.{◌≡◌, ◌↔◌, ◌∷◌, ◌≢◌, ◌≤◌, ◌++◌, ◌⊎◌, ◌<◌, [], ℕ, Contains, List};
+ghost use Rattle.std.specs.Prelude.{All, codes, Err, Ok, Some, length, slice_get, take};
 ghost use Rattle.std.specs.Bool.{Decides};
+ghost use Rattle.std.specs.List.{flat_map};
+ghost use Rattle.pb_board.specs.LineEnd.{with_end};
+ghost use Rattle.pb_poly.specs.Book.{BookBytes};
+ghost use Rattle.pb_poly.specs.Table.{IsTable};
+ghost use Rattle.pb_poly.specs.declared.entry.Entry.{Entry};
+ghost use Rattle.pb_games.specs.Submissions.{IsLawful, Submission};
+ghost use Rattle.pb_games.specs.Worked.{worked_line, worked_submission};
+ghost use Rattle.pb_games.specs.declared.refusal.Refusal.TheVariants.{Conflict, Full, Memory};
+ghost use Rattle.pb_games.specs.declared.refusal.Refusal.{Refusal};
 ghost use Rattle.pb_accepted.specs.declared.ledger.Accepted.{Accepted};
 ghost use Rattle.pb_accepted.specs.declared.ledger.TheConstants.{MAX_CAP};
 ghost use Rattle.pb_accepted.specs.declared.rules.TheConstants.{MAX_LEAST};
-ghost use Rattle.pb_poly.specs.Book.{BookBytes};
-ghost use Rattle.pb_poly.specs.Table.{IsTable};
-ghost use Rattle.pb_games.specs.Submissions.{IsLawful, Submission};
-ghost use Rattle.pb_games.specs.Worked.{worked_line, worked_submission};
-ghost use Rattle.pb_accepted.specs.Accepting.{OneGame};
-ghost use Rattle.pb_accepted.specs.Counting.{IsBook, counted};
-ghost use Rattle.pb_accepted.specs.Holding.{most_games};
-ghost use Rattle.pb_accepted.specs.Laws.{BookByMembers, CountsByMembers, CountsOnce};
-ghost use Rattle.pb_accepted.specs.Laws.{HeldIsAnswered, LawfulIsNotRefused, NamesAreShort};
-ghost use Rattle.pb_accepted.specs.Laws.{OneBook, OneReason, OneRun, OneStep, RefusalsChangeNothing};
-ghost use Rattle.pb_accepted.specs.Laws.{RepliesAreAnswers, RepliesAreLines, RepliesNumber};
-ghost use Rattle.pb_accepted.specs.Laws.{RunsAreReplied, RunsJoin, RunsNumber, SameBooks};
-ghost use Rattle.pb_accepted.specs.Laws.{SameMembers, TakenHasNoRepeats, TakenIsOne};
-ghost use Rattle.pb_accepted.specs.Replying.{Replies};
+ghost use Rattle.pb_accepted.specs.Accepting.{OneGame, Answer, Step, Run, Taken};
+ghost use Rattle.pb_accepted.specs.Counting.{IsBook, counted, count};
+ghost use Rattle.pb_accepted.specs.Holding.{most_games, HaveOwnIds};
+ghost use Rattle.pb_accepted.specs.Laws.{NoRepeats, SameMembers};
+ghost use Rattle.pb_accepted.specs.Replying.{Arrives, AreNumbered, IsNewId, IsNumber, Replies};
+ghost use Rattle.pb_accepted.specs.Replying.{Reply, ok, refused};
 ghost use Rattle.pb_accepted.specs.Rules.{CountingRules};
 ghost use Rattle.pb_accepted.specs.Worked.{worked_basis, worked_book, worked_bytes};
+ghost use Rattle.pb_accepted.specs.Replies.{named, replies as replies_to, reply, reply_texts};
+ghost use Rattle.pb_accepted.specs.Refusals.{IsRefused};
+ghost use Rattle.pb_accepted.specs.declared.ply_points.PlyPoints.{PlyPoints};
+ghost use Rattle.pb_accepted.specs.Basis.{Basis};
 
 use crate::ledger::Accepted;
 use crate::rules::Rules;
@@ -32,56 +38,92 @@ pub fn limits()
     ensures least { MAX_LEAST ≡ 1000000 }
 {}
 
-/// States what one line is answered and does, where no id stands twice. The reply to it names an id
-/// that is short, as `Reply::new` asks.
+/// States what one line is answered and does, where no id stands twice: it has one answer, want of
+/// memory aside; what is held gets its number, whatever room there is; and a line that is refused
+/// changes nothing. The reply names an id that is short, as `Reply::new` asks.
 pub fn one_line()
-    ensures one { OneStep }
-    ensures held { HeldIsAnswered }
-    ensures refused { RefusalsChangeNothing }
-    ensures named { NamesAreShort }
+    ensures one { (cap : ℕ) (A : List Submission) (line : List ℕ) (q r : Answer)
+        (B C : List Submission) → HaveOwnIds A → Step cap A line q B → Step cap A line r C
+        → q ≢ Err Memory → r ≢ Err Memory → (q ≡ r) × (B ≡ C) }
+    ensures held { (cap : ℕ) (A : List Submission) (line : List ℕ) (s : Submission) (n : ℕ)
+        (r : Answer) (B : List Submission) → HaveOwnIds A → IsLawful line s → IsNumber A n s
+        → Step cap A line r B → r ≡ Ok n }
+    ensures refused { (cap : ℕ) (A : List Submission) (line : List ℕ) (e : Refusal)
+        (B : List Submission) → Step cap A line (Err e) B → B ≡ A }
+    ensures named { (cap : ℕ) (A : List Submission) (line : List ℕ) (r : Answer)
+        (B : List Submission) → Step cap A line r B → length (named line r) ≤ 64 }
 {}
 
-/// States that lines with their answers fix what is held, and that two runs in a row are one.
+/// States that lines with their answers fix what is held, whatever room there was, and that two runs
+/// in a row are one.
 pub fn runs()
-    ensures one { OneRun }
-    ensures join { RunsJoin }
+    ensures one { (cap most : ℕ) (A : List Submission) (L : List (List ℕ)) (R : List Answer)
+        (B C : List Submission) → Run cap A L R B → Run most A L R C → B ≡ C }
+    ensures join { (cap : ℕ) (A B C : List Submission) (K L : List (List ℕ)) (Q R : List Answer)
+        → Run cap A K Q B → Run cap B L R C → Run cap A (K ++ L) (Q ++ R) C }
 {}
 
 /// States that lines are replied to as they are answered, each by the line of an answer, or by the
 /// one reason why a line that submits no legal game is refused by itself; and that the replies
 /// number what is held.
 pub fn replies()
-    ensures run { RunsAreReplied }
-    ensures answers { RepliesAreAnswers }
-    ensures reason { OneReason }
-    ensures lawful { LawfulIsNotRefused }
-    ensures lines { RepliesAreLines }
-    ensures numbers { RepliesNumber }
+    ensures run { (cap : ℕ) (A : List Submission) (L : List (List ℕ)) (R : List Answer)
+        (B : List Submission) → Run cap A L R B → Replies cap A L (reply_texts L R) B }
+    ensures answers { (cap : ℕ) (A : List Submission) (line r : List ℕ) (B : List Submission)
+        → Reply cap A line r B → ((a : Answer) × Step cap A line a B × (r ≡ reply line a))
+        ⊎ ((why : List ℕ) × IsRefused line why × (r ≡ refused why) × (B ≡ A)) }
+    ensures reason { (line v w : List ℕ) → IsRefused line v → IsRefused line w → v ≡ w }
+    ensures lawful { (line why : List ℕ) (s : Submission) → IsLawful line s → ¬ IsRefused line why }
+    ensures lines { (L : List (List ℕ)) (R : List Answer)
+        → replies_to L R ≡ flat_map with_end (reply_texts L R) }
+    ensures numbers { (L : List (List ℕ)) (R : List Answer) (A : List Submission)
+        → Run most_games [] L R A → AreNumbered ok L (reply_texts L R) A }
 {}
 
 /// States that what is held has the numbers that were answered, and each submission its own,
 /// whenever it comes again.
 pub fn numbers()
-    ensures { RunsNumber }
+    ensures { (cap : ℕ) (L : List (List ℕ)) (R : List Answer) (A : List Submission)
+        → Run cap [] L R A → AreNumbered (λ s n. Ok n) L R A }
 {}
 
-/// States that each submission has one effect, where no id has two games.
+/// States that each submission has one effect, where no id has two games: what is held is the list
+/// of the distinct submissions taken, none is a conflict, and each lawful one gets a number, unless
+/// its id is new and there is no room, or room and no memory.
 pub fn one_game()
-    ensures { CountsOnce }
+    ensures taken { (cap : ℕ) (L : List (List ℕ)) (R : List Answer) (A : List Submission)
+        → OneGame L → Run cap [] L R A → Taken [] L R A }
+    ensures no_conflict { (cap : ℕ) (L : List (List ℕ)) (R : List Answer) (A : List Submission)
+        → OneGame L → Run cap [] L R A → All (λ r. (n : ℕ) → r ≢ Err (Conflict n)) R }
+    ensures arrivals { (cap : ℕ) (L : List (List ℕ)) (R : List Answer) (A : List Submission)
+        → OneGame L → Run cap [] L R A
+        → (i : ℕ) (s : Submission) (r : Answer) (B : List Submission) → Arrives L i s
+        → slice_get R i ≡ Some r → Run cap [] (take i L) (take i R) B
+        → ((n : ℕ) × (r ≡ Ok n)) ⊎ (((r ≡ Err Full) × IsNewId s.0 B × (length B ≡ cap))
+        ⊎ ((r ≡ Err Memory) × IsNewId s.0 B × (length B < cap))) }
 {}
 
 /// States that the distinct submissions are one list, without repeats.
 pub fn distinct()
-    ensures one { TakenIsOne }
-    ensures no_repeats { TakenHasNoRepeats }
+    ensures one { (A : List Submission) (L : List (List ℕ)) (R : List Answer)
+        (B C : List Submission) → Taken A L R B → Taken A L R C → B ≡ C }
+    ensures no_repeats { (L : List (List ℕ)) (R : List Answer) (S : List Submission)
+        → Taken [] L R S → NoRepeats S }
 {}
 
 /// States that plies have one book, and that the book of games depends on the members alone.
 pub fn books()
-    ensures one { OneBook }
-    ensures counts { CountsByMembers }
-    ensures members { BookByMembers }
-    ensures same { SameBooks }
+    ensures one { (G : List PlyPoints) (least : ℕ) (E F : List Entry) → IsBook G least E
+        → IsBook G least F → E ≡ F }
+    ensures counts { (T : Basis) (S U : List Submission) → NoRepeats S → NoRepeats U
+        → SameMembers S U → (k c : ℕ) → count (counted T S) k c ≡ count (counted T U) k c }
+    ensures members { (T : Basis) (S U : List Submission) → NoRepeats S → NoRepeats U
+        → SameMembers S U → (least : ℕ) (E : List Entry) → IsBook (counted T S) least E
+        → IsBook (counted T U) least E }
+    ensures same { (T : Basis) (m n : ℕ) (K L : List (List ℕ)) (Q R : List Answer)
+        (A B : List Submission) → Run m [] K Q A → Run n [] L R B → SameMembers A B
+        → (least : ℕ) (E F : List Entry) → IsBook (counted T A) least E
+        → IsBook (counted T B) least F → E ≡ F }
 {}
 
 /// States that rules and answers are equal (`==`) exactly where they are one value.

@@ -72,9 +72,9 @@ impl Recorder {
 }
 
 impl MoveVisitor for Recorder {
-    ghost use Rattle.pb_accepted.specs.Noting.{Holds};
+    ghost use Rattle.pb_accepted.specs.Noting.{HoldsPlies};
 
-    ghost holds = { Holds };
+    ghost holds = { HoldsPlies };
 
     ghost fixed = { λ r. r.table };
 

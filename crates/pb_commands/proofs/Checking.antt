@@ -22,7 +22,6 @@ use Rattle.pb_accepted.specs.Replies.{named, reply_line}
 use Rattle.pb_accepted.proofs.Steps.{named_step}
 use Rattle.pb_commands.specs.Judged.{Verdict}
 use Rattle.pb_commands.specs.LinesRun.{PutsButLast}
-use Rattle.pb_commands.specs.CheckLaws.{RefusedByLedgers, TakenByLedgers}
 use Rattle.pb_commands.specs.CheckRun.{ChecksOrEnds}
 use Rattle.pb_commands.specs.CheckShown as check
 use Rattle.pb_commands.specs.CheckShown.{CheckShown}
@@ -85,7 +84,7 @@ refused_step line e h most A r B (steps.repeat s n law at is same) = absurd (unl
 refused_step line e h most A r B (steps.conflict s g n law at differs is same) = absurd (unlawful line e s h law)
 refused_step line e h most A r B (steps.refused d due is same) = (is ∙ ap (λ (x : Refusal). let q : Answer = Err x in q) (one_refusal line d e due h), same)
 
-pub refused_agrees : RefusedByLedgers
+pub refused_agrees : (line out : List ℕ) → CheckShown line (Ok (false, out)) → (cap : ℕ) (A : List Submission) (r : Answer) (B : List Submission) → Step cap A line r B → (out ≡ reply_line line r) × (B ≡ A)
 refused_agrees line out (check.legal s law is) most A r B step = absurd (other_answer _ _ is)
 refused_agrees line out (check.refused e h is) most A r B step =
     let answered = refused_step line e h most A r B step in
@@ -111,6 +110,6 @@ taken_step line s law most A e B (steps.repeat t n other at is same) = absurd (n
 taken_step line s law most A e B (steps.conflict t g n other at differs is same) = inr (inr (n, same_refusal e (Conflict n) is))
 taken_step line s law most A e B (steps.refused d due is same) = absurd (unlawful line d s due law)
 
-pub taken_agrees : TakenByLedgers
+pub taken_agrees : (line out : List ℕ) → CheckShown line (Ok (true, out)) → (cap : ℕ) (A : List Submission) (e : Refusal) (B : List Submission) → Step cap A line (Err e) B → (e ≡ Full) ⊎ (e ≡ Memory) ⊎ ((n : ℕ) × (e ≡ Conflict n))
 taken_agrees line out (check.legal s law is) most A e B step = taken_step line s law most A e B step
 taken_agrees line out (check.refused d h is) most A e B step = absurd (other_answer _ _ (sym is))

@@ -20,6 +20,7 @@ use Rattle.pb_accepted.specs.Ledger.{LedgerState}
 use Rattle.pb_accepted.specs.Replies.{replies}
 use Rattle.pb_accepted.specs.Rules.{CountingRules}
 use Rattle.pb_accepted.proofs.Steps.{runs_join}
+use Rattle.pb_accepted.specs.Accepting.{Answer, Run}
 use Rattle.pb_ledger.proofs.Continued.{continued, loaded_back}
 use Rattle.pb_ledger.proofs.Changes.{from_to}
 use Rattle.pb_ledger.specs.Collecting.{CollectsStream}
@@ -27,11 +28,11 @@ use Rattle.pb_ledger.specs.Loading.{Loads}
 use Rattle.pb_ledger.specs.Change.{across}
 use Rattle.pb_ledger.specs.Making.{Makes}
 use Rattle.pb_ledger.specs.declared.totals.Totals.{Totals}
+use Rattle.pb_ledger.specs.Saving.{Saved}
 use Rattle.pb_commands.specs.ContinueHeadline.{GoesOn, HasHeadlineOfBoth}
 use Rattle.pb_commands.specs.Ends.{Change, EndStates}
 use Rattle.pb_commands.specs.Run.{MakesBook}
-use Rattle.pb_commands.specs.RunLaws.{GoesOnAsOneRun}
-use Rattle.pb_commands.specs.Runs.{ContinueRun, Holds, Takes, new_ledger}
+use Rattle.pb_commands.specs.Runs.{ContinueRun, HoldsSaved, Takes, new_ledger}
 use Rattle.pb_commands.specs.declared.run.Taken.{Taken}
 use Rattle.pb_commands.proofs.Headlines.{effect}
 use Rattle.pb_commands.proofs.Taking.{same_but_games}
@@ -100,13 +101,13 @@ module _ (rules : CountingRules) (fills : ℕ) (e : EndStates) (source : Change 
   headline_of_book taken run (Err fault) made = tt
 
   -- from the games of a saved ledger on the submissions were taken so
-  pub continued_so : (mid : SinkState) (held : LedgerState) (taken : Taken) → Holds rules fills e.table source held → mid ≡ e.replies.old
+  pub continued_so : (mid : SinkState) (held : LedgerState) (taken : Taken) → HoldsSaved rules fills e.table source held → mid ≡ e.replies.old
       → Takes fills e.lines (record e.replies { old = mid }) held taken → ContinueRun rules fills e source (Ok taken)
   continued_so mid held taken holds same takes = (held, holds, subst (λ (m : SinkState). Takes fills e.lines (record e.replies { old = m }) held taken) same takes)
 
 -- ---- what an earlier run saved
 
-pub goes_on_as_one_run : GoesOnAsOneRun
+pub goes_on_as_one_run : (rules : CountingRules) (e : EndStates) (source : Change SourceState) (left : LedgerState) (entries : List Entry) (book : List ℕ) (h : HasHeadlineOfBoth rules e source left entries book) (K : List (List ℕ)) (Q : List Answer) (A : List Submission) → Run most_games [] K Q A → Saved A h.saved → (h.held ≡ A) × (replies (K ++ lines h.goes_on.at.bytes) (Q ++ h.goes_on.answers) ≡ replies K Q ++ h.goes_on.at.put)
 goes_on_as_one_run rules e source left entries book h K Q A run is_saved =
     let on = h.goes_on in
     let one = continued most_games K (lines on.at.bytes) Q on.answers A h.held left.accepted h.saved run is_saved h.loads on.run in

@@ -19,7 +19,7 @@ use Rattle.pb_commands.specs.declared.refusal.Refused.{Refused}
 use Rattle.pb_commands.specs.declared.refusal.Stopped.{Stopped}
 use Rattle.pb_commands.specs.declared.refusal.Stopped.TheVariants as stopped
 use Rattle.pb_commands.specs.Ends.{Change, IsSame}
-use Rattle.pb_commands.specs.ExportRun.{BlamesSink, ExportRun, Exports}
+use Rattle.pb_commands.specs.ExportRun.{BlamesSink, ExportRun}
 use Rattle.pb_commands.specs.Runs.{StopsFor, Takes}
 use Rattle.pb_commands.specs.declared.run.Report.{Report}
 

@@ -18,7 +18,7 @@ use Rattle.pb_accepted.proofs.BookLaws.{same_book}
 use Rattle.pb_accepted.proofs.OneReason.{lawful_is_not_refused}
 use Rattle.pb_accepted.proofs.Replies.{game_of, held_not_new, id_of, one_submission}
 use Rattle.pb_commands.specs.Headline.{Effect}
-use Rattle.pb_commands.specs.Sentence.{HoldsOfRuns, WasAccepted}
+use Rattle.pb_commands.specs.Sentence.{WasAccepted, Sentence}
 
 -- ---- one reply
 
@@ -162,7 +162,7 @@ module _ (T : Basis) (L R : List (List ℕ)) (games : List Submission) (entries 
       let our_bytes : BookBytes entries book = (effect.bytes entries).1 refl in
       their_bytes.are ∙ ap (flat_map entry_bytes) equal ∙ sym our_bytes.are
 
-pub holds_of_runs : HoldsOfRuns
+pub holds_of_runs : (T : Basis) (L R : List (List ℕ)) (games : List Submission) (entries : List Entry) (book : List ℕ) → OneGame L → Effect T L R games entries book → Sentence T L R entries book
 holds_of_runs T L R games entries book one effect = record {
   distinct = games;
   once = once L R games effect.numbered;

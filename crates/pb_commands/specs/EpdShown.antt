@@ -12,7 +12,7 @@ use Rattle.pb_epd.specs.Epd.{EpdRecord, IsEpd, EpdText, epd_form}
 use Rattle.pb_epd.specs.Refusal.{IsFirstDueEpd}
 use Rattle.pb_io.specs.Lines.{line_limit}
 use Rattle.pb_io.specs.declared.fault.Fault.TheVariants.{Memory}
-use Rattle.pb_commands.specs.Judged.{ByInput, Verdict, refused}
+use Rattle.pb_commands.specs.Judged.{ByInput, Verdict, refused_for}
 
 -- no byte but spaces
 abbrev pub IsBlank : List ℕ → Type 0
@@ -20,7 +20,7 @@ IsBlank text = All (λ b. b ≡ 32) text
 
 -- the line of this number is refused
 abbrev pub refused_line : ℕ → List ℕ → Verdict
-refused_line number why = refused (decimal number ++ (32 ∷ why))
+refused_line number why = refused_for (decimal number ++ (32 ∷ why))
 
 -- what comes of the line of this number for this reason why it is no EPD record
 abbrev pub epd_verdict : ℕ → EpdError → Verdict

@@ -19,10 +19,10 @@ use Rattle.pb_commands.specs.declared.run.Taken.{Taken}
 
 -- the lines of the export were put and handed on, so many, or that broke off; or none was put, by
 -- the fault that ended the submissions
-abbrev pub Exports : Change SinkState → Taken → Result Report Fault → Type 0
-Exports sink taken (Ok report) = (taken.end ≡ Ok report.totals)
+abbrev pub ExportsTaken : Change SinkState → Taken → Result Report Fault → Type 0
+ExportsTaken sink taken (Ok report) = (taken.end ≡ Ok report.totals)
     × across (export.Exports taken.ledger) sink report.entries
-Exports sink taken (Err fault) = ((taken.end ≡ Err fault) × IsSame sink)
+ExportsTaken sink taken (Err fault) = ((taken.end ≡ Err fault) × IsSame sink)
     ⊎ (IsOk taken.end × (why : ExportFault) × across (ExportsUntil taken.ledger) sink why
     × (fault ≡ fault_of_export why))
 
@@ -37,10 +37,10 @@ TakesSilently rules fills table lines taken = (new : LedgerState) × Opens rules
 abbrev pub ExportRun : CountingRules → ℕ → Change SourceState → Change SourceState
     → Change SinkState → Result Report Stopped → Type 0
 ExportRun rules fills table lines sink (Ok report) = (taken : Taken)
-    × TakesSilently rules fills table lines taken × Exports sink taken (Ok report)
+    × TakesSilently rules fills table lines taken × ExportsTaken sink taken (Ok report)
 ExportRun rules fills table lines sink (Err why) = (OpensNone fills table sink why × IsSame lines)
     ⊎ ((taken : Taken) × TakesSilently rules fills table lines taken
-    × (fault : Fault) × Exports sink taken (Err fault) × (why ≡ stopped.Fault fault))
+    × (fault : Fault) × ExportsTaken sink taken (Err fault) × (why ≡ stopped.Fault fault))
 
 -- a write fault comes only from a sink that has failed, and where the sink has failed since, it
 -- stopped for nothing else

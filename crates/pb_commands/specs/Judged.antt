@@ -20,8 +20,8 @@ abbrev pub ByInput : {X E : Type 0} → (Result X E → Type 0) → (X → Type 
 ByInput {X} {E} is goes ends = (found : Result X E) × is found × MatchResult found goes ends
 
 -- the input is refused, and a line says why
-abbrev pub refused : List ℕ → Verdict
-refused why = Ok (false, with_end (codes "refused " ++ why))
+abbrev pub refused_for : List ℕ → Verdict
+refused_for why = Ok (false, with_end (codes "refused " ++ why))
 
 -- what was put was handed on, at the end and not before
 abbrev pub HandedOnOnce : SinkState → SinkState → Type 0
@@ -57,6 +57,6 @@ PutsOrEnds judges sink sink' (Err fault) = PutsUntil judges sink sink' fault
 
 -- the input comes to this, and is refused by it: the line was put and then handed on, or a fault
 -- came
-abbrev pub Refuses : Verdict → SinkState → SinkState → Result (Unit {0}) Fault → Type 0
-Refuses verdict sink sink' result =
+abbrev pub PutsRefusal : Verdict → SinkState → SinkState → Result (Unit {0}) Fault → Type 0
+PutsRefusal verdict sink sink' result =
     PutsOrEnds (λ v. v ≡ verdict) sink sink' (result_map_both (λ _. false) (λ fault. fault) result)

@@ -2,7 +2,6 @@ pub mod Answered
 pub mod Answering
 pub mod BookJudged
 pub mod BookShown
-pub mod CheckLaws
 pub mod CheckRun
 pub mod CheckShown
 pub mod ContinueHeadline
@@ -27,7 +26,6 @@ pub mod ProbeShown
 pub mod RecordJudged
 pub mod Refused
 pub mod Run
-pub mod RunLaws
 pub mod Runs
 pub mod Sentence
 pub mod Shows

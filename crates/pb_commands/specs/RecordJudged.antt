@@ -6,11 +6,11 @@ use Rattle.pb_board.specs.Position.{IsRecord, Record}
 use Rattle.pb_board.specs.Refusal.{IsDueFen, IsFirstOf, fen_errors}
 use Rattle.pb_board.specs.Text.{fen_text}
 use Rattle.pb_board.specs.Words.{word_of}
-use Rattle.pb_commands.specs.Judged.{Verdict, refused}
+use Rattle.pb_commands.specs.Judged.{Verdict, refused_for}
 
 -- what comes of a text for this reason why it is no record
 abbrev pub record_verdict : FenError → Verdict
-record_verdict e = refused (codes "fen " ++ word_of e)
+record_verdict e = refused_for (codes "fen " ++ word_of e)
 
 -- the text is this record, or no record for this reason
 abbrev pub AsRecord : List ℕ → Result Record FenError → Type 0

@@ -6,7 +6,7 @@ use Rattle.pb_io.specs.declared.fault.Fault.TheVariants as fault
 use Rattle.pb_ledger.specs.declared.loading.LoadError.{LoadError}
 use Rattle.pb_ledger.specs.declared.loading.LoadError.TheVariants as load
 use Rattle.pb_commands.specs.BookJudged.{book_verdict}
-use Rattle.pb_commands.specs.Judged.{PutsOrEnds, Refuses, Verdict, refused}
+use Rattle.pb_commands.specs.Judged.{PutsOrEnds, PutsRefusal, Verdict, refused_for}
 use Rattle.pb_commands.specs.RecordJudged.{record_verdict}
 use Rattle.pb_commands.specs.TableJudged.{table_verdict}
 use Rattle.pb_commands.specs.declared.refusal.Refused.{Refused}
@@ -17,7 +17,7 @@ use Rattle.pb_commands.specs.declared.refusal.Stopped.TheVariants as stopped
 
 -- where a saved ledger isn't loaded for this reason, the line that refuses it, or a fault
 abbrev pub saved_verdict : LoadError → Verdict
-saved_verdict (load.Line n) = refused (codes "ledger line " ++ decimal n)
+saved_verdict (load.Line n) = refused_for (codes "ledger line " ++ decimal n)
 saved_verdict load.Read = Err fault.Read
 saved_verdict load.Endless = Err fault.Endless
 saved_verdict load.Memory = Err fault.Memory
@@ -25,8 +25,8 @@ saved_verdict load.Memory = Err fault.Memory
 -- what comes of an input for this reason
 abbrev pub refused_verdict : Refused → Verdict
 refused_verdict (Fen e) = record_verdict e
-refused_verdict (Spelling n) = refused (codes "spelling " ++ decimal n)
-refused_verdict (Illegal n) = refused (codes "illegal " ++ decimal n)
+refused_verdict (Spelling n) = refused_for (codes "spelling " ++ decimal n)
+refused_verdict (Illegal n) = refused_for (codes "illegal " ++ decimal n)
 refused_verdict (Table e) = table_verdict e
 refused_verdict (Book e) = book_verdict e
 refused_verdict (Ledger e) = saved_verdict e
@@ -49,9 +49,9 @@ abbrev pub Accepts : {X : Type 0} → Result X Refused → SinkState → SinkSta
     → Type 0
 Accepts judged sink sink' (Ok x) = (judged ≡ Ok x) × (sink' ≡ sink)
 Accepts judged sink sink' (Err (stopped.Refused why)) =
-    (judged ≡ Err why) × Refuses (refused_verdict why) sink sink' (Ok tt)
+    (judged ≡ Err why) × PutsRefusal (refused_verdict why) sink sink' (Ok tt)
 Accepts judged sink sink' (Err (stopped.Fault f)) =
-    (why : Refused) × (judged ≡ Err why) × Refuses (refused_verdict why) sink sink' (Err f)
+    (why : Refused) × (judged ≡ Err why) × PutsRefusal (refused_verdict why) sink sink' (Err f)
 
 -- How a command ends that judges its input: the whole text of an input that is taken was put and
 -- then handed on, or the line of the reason for which the input is refused, or a fault came.
@@ -59,5 +59,5 @@ abbrev pub StopsOrEnds : (Verdict → Type 0) → SinkState → SinkState → Re
 StopsOrEnds judges sink sink' (Ok answer) =
     (answer ≡ true) × PutsOrEnds judges sink sink' (Ok true)
 StopsOrEnds judges sink sink' (Err (stopped.Refused why)) =
-    judges (refused_verdict why) × Refuses (refused_verdict why) sink sink' (Ok tt)
+    judges (refused_verdict why) × PutsRefusal (refused_verdict why) sink sink' (Ok tt)
 StopsOrEnds judges sink sink' (Err (stopped.Fault f)) = PutsOrEnds judges sink sink' (Err f)

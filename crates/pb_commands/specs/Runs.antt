@@ -46,9 +46,9 @@ OpensNone fills table sink why = (cause : TableFault)
     × across (ReadsTable fills) table (Err cause) × StopsFor (Table cause) sink why
 
 -- and then all lines of a saved ledger were loaded into it
-abbrev pub Holds : CountingRules → ℕ → Change SourceState → Change SourceState → LedgerState
+abbrev pub HoldsSaved : CountingRules → ℕ → Change SourceState → Change SourceState → LedgerState
     → Type 0
-Holds rules fills table saved held = (new : LedgerState) × Opens rules fills table new
+HoldsSaved rules fills table saved held = (new : LedgerState) × Opens rules fills table new
     × across (AtEnd fills) saved (Makes Loads (record { old = new; new = held }))
     × (held ≡ record new { accepted = held.accepted })
 
@@ -90,7 +90,7 @@ CollectRun rules fills e (Err why) = OpensNone fills e.table e.replies why × Is
 abbrev pub ContinueRun : CountingRules → ℕ → EndStates → Change SourceState
     → Result Taken Stopped → Type 0
 ContinueRun rules fills e saved (Ok taken) = (held : LedgerState)
-    × Holds rules fills e.table saved held × Takes fills e.lines e.replies held taken
+    × HoldsSaved rules fills e.table saved held × Takes fills e.lines e.replies held taken
 ContinueRun rules fills e saved (Err why) =
     HoldsNone rules fills e.table saved e.replies why × IsSame e.lines
 

@@ -5,7 +5,6 @@ use Rattle.std.specs.Prelude.{slice_get, take}
 use Rattle.pb_poly.specs.Book.{BookBytes}
 use Rattle.pb_poly.specs.declared.entry.Entry.{Entry}
 use Rattle.pb_games.specs.Submissions.{Submission}
-use Rattle.pb_accepted.specs.Accepting.{OneGame}
 use Rattle.pb_accepted.specs.Basis.{Basis}
 use Rattle.pb_accepted.specs.Counting.{IsBook, counted}
 use Rattle.pb_accepted.specs.Laws.{NoRepeats}
@@ -40,8 +39,3 @@ pub record Sentence (T : Basis) (L R : List (List ℕ)) (entries : List Entry) (
   pub refusals : (i : ℕ) (why : List ℕ) (A B : List Submission)
       → slice_get R i ≡ Some (refused why) → Replies 1000000 [] (take i L) (take i R) A
       → Replies 1000000 [] (take (i + 1) L) (take (i + 1) R) B → B ≡ A
-
--- so it is of each run in which no id names two different games
-abbrev pub HoldsOfRuns : Type 0
-HoldsOfRuns = (T : Basis) (L R : List (List ℕ)) (games : List Submission) (entries : List Entry)
-    (book : List ℕ) → OneGame L → Effect T L R games entries book → Sentence T L R entries book

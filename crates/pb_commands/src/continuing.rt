@@ -6,7 +6,7 @@ ghost use Rattle.pb_commands.specs.ContinueHeadline.{HasHeadlineOfBoth};
 ghost use Rattle.pb_commands.specs.Ends.{IsSame, between, states};
 ghost use Rattle.pb_commands.specs.Into.{Into, KeepsBoth};
 ghost use Rattle.pb_commands.specs.Run.{Answers, Headed, MakesContinued};
-ghost use Rattle.pb_commands.specs.Runs.{ContinueRun, Holds, HoldsNone};
+ghost use Rattle.pb_commands.specs.Runs.{ContinueRun, HoldsSaved, HoldsNone};
 
 use crate::ends::{Ends, LedgerEnds};
 use crate::keeping::{NoBook, keep_book};
@@ -81,7 +81,7 @@ fn load_first<Table: Source, Saved: Source, Out: Sink>(
     ensures { let file = between Table.state table.old table.new in
         let earlier = between Saved.state saved.old saved.new in
         let sink = between Out.state replies.old replies.new in
-        MatchResult result (λ held. Holds rules fills file earlier held × IsSame sink)
+        MatchResult result (λ held. HoldsSaved rules fills file earlier held × IsSame sink)
         (HoldsNone rules fills file earlier sink) }
 {
     let mut ledger = open(alloc, rules, table, replies, fills)?;

@@ -2,7 +2,7 @@
 ghost use Rattle.std.specs.Prelude.{◌≡◌, ◌++◌, Ok, decimal, false};
 ghost use Rattle.pb_board.specs.LineEnd.{with_end};
 ghost use Rattle.pb_io.specs.declared.fault.Fault.TheVariants as fault;
-ghost use Rattle.pb_commands.specs.Judged.{Refuses};
+ghost use Rattle.pb_commands.specs.Judged.{PutsRefusal};
 ghost use Rattle.pb_commands.specs.Refused.{Accepts, refused_verdict, unless_refused};
 ghost use Rattle.pb_commands.specs.declared.refusal.Stopped.TheVariants as stopped;
 
@@ -92,7 +92,7 @@ pub(crate) fn accept<X, K: Sink>(sink: &mut K, judged: Result<X, Refused>) -> Re
 
 /// Shows the line that says why an input is refused, or answers the fault that the reason is.
 fn show_refusal<K: Sink>(sink: &mut K, why: Refused) -> Result<(), Fault>
-    ensures { Refuses (refused_verdict why) (K.state sink.old) (K.state sink.new) result }
+    ensures { PutsRefusal (refused_verdict why) (K.state sink.old) (K.state sink.new) result }
 {
     match why {
         Refused::Fen(error) => show_line(sink, &[b"refused fen ", error.word().as_bytes()]),
@@ -122,7 +122,7 @@ fn show_refusal<K: Sink>(sink: &mut K, why: Refused) -> Result<(), Fault>
 }
 
 fn show_number<K: Sink>(sink: &mut K, words: &[u8], number: usize) -> Result<(), Fault>
-    ensures { Refuses (Ok (false, with_end (words.now ++ decimal number))) (K.state sink.old)
+    ensures { PutsRefusal (Ok (false, with_end (words.now ++ decimal number))) (K.state sink.old)
         (K.state sink.new) result }
 {
     let mut buffer = Buffer::new();

@@ -2,21 +2,35 @@
 //! nothing.
 
 ghost use Rattle.std.specs.Bool.{Decides};
-ghost use Rattle.std.specs.Prelude.{◌≡◌, ℕ, Bool, Err, Ok};
+ghost use Rattle.std.specs.Prelude.{◌≡◌, ◌⊎◌, ◌++◌, [], ℕ, Bool, Err, Ok, false, List, true};
 ghost use Rattle.pb_io.specs.LineTask.{IfKnown};
 ghost use Rattle.pb_io.specs.Sink.{SinkState};
 ghost use Rattle.pb_io.specs.Source.{SourceState};
 ghost use Rattle.pb_io.specs.declared.fault.Fault.TheVariants.{Memory};
+ghost use Rattle.pb_io.specs.Lines.{lines};
+ghost use Rattle.pb_poly.specs.declared.entry.Entry.{Entry};
+ghost use Rattle.pb_games.specs.Submissions.{Submission};
+ghost use Rattle.pb_games.specs.declared.refusal.Refusal.{Refusal};
+ghost use Rattle.pb_games.specs.declared.refusal.Refusal.TheVariants as refusal;
 ghost use Rattle.pb_accepted.specs.Rules.{CountingRules};
+ghost use Rattle.pb_accepted.specs.Accepting.{Answer, Step, Run, OneGame};
+ghost use Rattle.pb_accepted.specs.Replies.{reply_line, replies};
+ghost use Rattle.pb_accepted.specs.Holding.{most_games};
+ghost use Rattle.pb_accepted.specs.Ledger.{LedgerState};
+ghost use Rattle.pb_accepted.specs.Basis.{Basis};
+ghost use Rattle.pb_ledger.specs.Saving.{Saved};
 ghost use Rattle.pb_commands.specs.Judged.{PutsText};
 ghost use Rattle.pb_commands.specs.declared.refusal.Refused.{Refused};
-ghost use Rattle.pb_commands.specs.CheckLaws.{RefusedByLedgers, TakenByLedgers};
 ghost use Rattle.pb_commands.specs.CheckRun.{ChecksOrEnds, ChecksShown};
-ghost use Rattle.pb_commands.specs.Ends.{EndStates};
-ghost use Rattle.pb_commands.specs.RunLaws.{GoesOnAsOneRun, RefusedIsUnread};
-ghost use Rattle.pb_commands.specs.Sentence.{HoldsOfRuns};
+ghost use Rattle.pb_commands.specs.Ends.{Change, EndStates, IsSame, JournalStates};
+ghost use Rattle.pb_commands.specs.Runs.{CollectRun, ContinueRun, JournalRun};
+ghost use Rattle.pb_commands.specs.declared.refusal.Stopped.TheVariants as stopped;
+ghost use Rattle.pb_commands.specs.Sentence.{Sentence};
 ghost use Rattle.pb_commands.specs.declared.keeping.NoBook.{NoBook};
 ghost use Rattle.pb_commands.specs.declared.store.StoreError.{StoreError};
+ghost use Rattle.pb_commands.specs.CheckShown.{CheckShown};
+ghost use Rattle.pb_commands.specs.ContinueHeadline.{HasHeadlineOfBoth};
+ghost use Rattle.pb_commands.specs.Headline.{Effect};
 
 use crate::keeping::NoBook;
 use crate::store::StoreError;
@@ -27,18 +41,31 @@ pub use pb_ledger::laws::one_game;
 /// come; every legal arrival is accepted unless room or memory is refused; a repeat is answered as
 /// its first acceptance was; and a refused submission changes nothing.
 pub fn sentence()
-    ensures { HoldsOfRuns }
+    ensures { (T : Basis) (L R : List (List ℕ)) (games : List Submission) (entries : List Entry)
+        (book : List ℕ) → OneGame L → Effect T L R games entries book
+        → Sentence T L R entries book }
 {}
 
 /// What an earlier run saved is what a run holds that goes on from it: both are one long run.
 pub fn goes_on()
-    ensures { GoesOnAsOneRun }
+    ensures { (rules : CountingRules) (e : EndStates) (source : Change SourceState)
+        (left : LedgerState) (entries : List Entry) (book : List ℕ)
+        (h : HasHeadlineOfBoth rules e source left entries book) (K : List (List ℕ))
+        (Q : List Answer) (A : List Submission) → Run most_games [] K Q A → Saved A h.saved
+        → (h.held ≡ A) × (replies (K ++ lines h.goes_on.at.bytes) (Q ++ h.goes_on.answers)
+        ≡ replies K Q ++ h.goes_on.at.put) }
 {}
 
 /// A run whose table or saved ledger is refused reads no submission, and leaves a journal alone.
 pub fn unread()
-    ensures { (rules : CountingRules) (fills : ℕ) (e : EndStates) (why : Refused)
-        → RefusedIsUnread rules fills e why }
+    ensures collect { (rules : CountingRules) (fills : ℕ) (e : EndStates) (why : Refused)
+        → CollectRun rules fills e (Err (stopped.Refused why)) → IsSame e.lines }
+    ensures continued { (rules : CountingRules) (fills : ℕ) (e : EndStates)
+        (saved : Change SourceState) (why : Refused)
+        → ContinueRun rules fills e saved (Err (stopped.Refused why)) → IsSame e.lines }
+    ensures journaled { (rules : CountingRules) (fills : ℕ) (e : EndStates) (j : JournalStates)
+        (why : Refused) → JournalRun rules fills e j (Err (stopped.Refused why))
+        → IsSame e.lines × IsSame j.kept × IsSame j.journal }
 {}
 
 /// Reasons why a text isn't kept, and why a run has made no book, are equal exactly where they are
@@ -61,6 +88,11 @@ pub fn check_ends()
 /// A line that `run_check` refuses every ledger refuses with the same reply. One that is `ok` it
 /// refuses at most as a conflict, or for want of room or memory.
 pub fn check_agrees()
-    ensures refused { RefusedByLedgers }
-    ensures taken { TakenByLedgers }
+    ensures refused { (line out : List ℕ) → CheckShown line (Ok (false, out))
+        → (cap : ℕ) (A : List Submission) (r : Answer) (B : List Submission) → Step cap A line r B
+        → (out ≡ reply_line line r) × (B ≡ A) }
+    ensures taken { (line out : List ℕ) → CheckShown line (Ok (true, out))
+        → (cap : ℕ) (A : List Submission) (e : Refusal) (B : List Submission)
+        → Step cap A line (Err e) B
+        → (e ≡ refusal.Full) ⊎ (e ≡ refusal.Memory) ⊎ ((n : ℕ) × (e ≡ refusal.Conflict n)) }
 {}

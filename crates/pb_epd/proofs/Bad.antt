@@ -6,9 +6,9 @@ use Rattle.std.proofs.lemmas.Bool.{cases_lt}
 use Rattle.std.proofs.Math.Seq.{drop-append-add, drop-append_seam, take-append-add, take-append_seam}
 use Rattle.std.proofs.lemmas.List.Elements.{All-head, All-tail}
 use Rattle.pb_epd.specs.Token.{Token, word, text, end_mark, IsToken, IsWordByte, TokensAfter, Tokens, token_text, IsBadAt}
-use Rattle.pb_epd.specs.Lexeme.{MayFollow, BeginsUnspaced, BeginsWithWordByte, IsStuck, IsWholeBefore, NextIs, last_token}
+use Rattle.pb_epd.specs.Lexeme.{MayFollow, BeginsUnspaced, BeginsWithWordByte, IsStuck, IsWholeBefore, NextIs}
 use Rattle.pb_epd.proofs.Lexing.{begins_unspaced, no_word_end, no_word_quote, spaces_alone, spaces_one}
-use Rattle.pb_epd.proofs.TokenLists.{after_spaces, no_word_space, tokens_steps, found_first, tokens_spaces, EndsInToken, ends_back, unended_spaces, tokens_push, last_push}
+use Rattle.pb_epd.proofs.TokenLists.{after_spaces, no_word_space, tokens_steps, found_first, tokens_spaces, EndsInToken, ends_back, unended_spaces, tokens_push, last_push, last_token}
 
 -- ---- a token ends in no space
 

@@ -15,7 +15,6 @@ use Rattle.pb_epd.specs.declared.refusal.EpdError.TheVariants as epd
 use Rattle.pb_epd.specs.declared.refusal.PutError.{PutError}
 use Rattle.pb_epd.specs.declared.refusal.PutError.TheVariants as put
 use Rattle.pb_epd.specs.Epd.{EpdRecord}
-use Rattle.pb_epd.specs.Laws.{OnePutRefusal, OneRefusal}
 use Rattle.pb_epd.specs.Operation.{IsOperand}
 use Rattle.pb_epd.specs.Refusal.{BeginOtherwise, Cut, IsDueEpd, IsDuePut, IsFirstDueEpd, IsFirstDuePut, IsNamed, is_end}
 use Rattle.pb_epd.specs.Token.{Token, end_mark, word}
@@ -101,7 +100,7 @@ not_memory : (x : EpdError) → x ≢ epd.Memory → epd_place x < 7
 not_memory epd.Memory other = absurd (other refl)
 not_memory _ other = omega arith
 
-pub one_refusal : OneRefusal
+pub one_refusal : (bytes : List ℕ) (x y : EpdError) → x ≢ epd.Memory → y ≢ epd.Memory → IsFirstDueEpd x bytes → IsFirstDueEpd y bytes → x ≡ y
 one_refusal bytes x y some other h k =
     elim (cases_lt (epd_place x) (epd_place y)) [
       | inl less ↦ absurd (none_before bytes y x k (not_memory y other) less h.due)
@@ -131,7 +130,7 @@ module _ (e : EpdRecord) (opcode : List ℕ) (operands : List Operand) where
   one_put_cause put.Memory put.Memory same h k = refl
   one_put_cause _ _ same h k = absurd (omega (arith, same))
 
-pub one_put_refusal : OnePutRefusal
+pub one_put_refusal : (e : EpdRecord) (opcode : List ℕ) (operands : List Operand) (x y : PutError) → IsFirstDuePut x e opcode operands → IsFirstDuePut y e opcode operands → x ≡ y
 one_put_refusal e opcode operands x y h k =
     elim (cases_lt (put_place x) (put_place y)) [
       | inl less ↦ absurd (put_before e opcode operands y x k less h.due)

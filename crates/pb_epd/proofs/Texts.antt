@@ -13,16 +13,16 @@ use Rattle.pb_board.proofs.Fens.{setup_never_due}
 use Rattle.pb_epd.specs.declared.refusal.EpdError.{EpdError}
 use Rattle.pb_epd.specs.declared.refusal.EpdError.TheVariants as epd
 use Rattle.pb_epd.specs.Token.{Token, word, end_mark, Tokens, TokensAfter, IsBadAt}
-use Rattle.pb_epd.specs.Laws.{BareIsFourWords}
 use Rattle.pb_epd.specs.Operation.{Operation, operation_tokens}
 use Rattle.pb_epd.specs.Epd.{EpdRecord, IsEpd, EpdText}
 use Rattle.pb_epd.specs.Refusal.{BeginOtherwise, Cut, IsDueEpd, IsFirstDueEpd, IsNamed, is_end}
-use Rattle.pb_epd.specs.Reading.{HasTokens, FourFollow, AreOperations, AreNamed, IsRefused}
+use Rattle.pb_epd.specs.Reading.{HasTokens, FourFollow, AreOperations, AreNamed, RefusesTokens}
 use Rattle.pb_epd.proofs.Lists.{contains_head, contains_none, pairs_unbroken}
 use Rattle.pb_epd.proofs.Dues.{epd_place, first_epd, memory_first}
 use Rattle.pb_epd.proofs.TokenLists.{tokens_one}
 use Rattle.pb_epd.proofs.Bad.{bad_none}
 use Rattle.pb_epd.proofs.Groups.{all_named, begin_otherwise, group_of, last_group, operations_cut}
+use Rattle.pb_epd.specs.Refusal.{IsFourWords}
 
 word_is : (a b : List ℕ) (ts us : List Token) → word a ∷ ts ≡ word b ∷ us → a ≡ b
 word_is a b ts us e = cc
@@ -126,7 +126,7 @@ module _ (bytes a b c d : List ℕ) (others : List Token) (tokens : Tokens (word
     none_before_repeated ended h (epd.Setup e) lt = setup_not_due p e lawful spells
     none_before_repeated ended h (epd.Opcode n) lt = opcode_not_due n ended [] h
 
-    pub refused_first : (x : EpdError) → IsRefused x others → IsFirstDueEpd x bytes
+    pub refused_first : (x : EpdError) → RefusesTokens x others → IsFirstDueEpd x bytes
     refused_first (epd.Opcode n) h = first_epd (epd.Opcode n) bytes (is_cut h.ended h.unended h.cut, h.breaks) none_before_opcode
     refused_first epd.Unended h = first_epd epd.Unended bytes (is_cut h.0 h.1 h.2.cut, h.3) (none_before_unended h.0 h.1 h.2)
     refused_first (epd.Repeated n) h = first_epd (epd.Repeated n) bytes (is_cut h.0 [] h.1.cut, h.2) (none_before_repeated h.0 h.1)
@@ -189,7 +189,7 @@ none_from_none : (held : List Operation) (operations : List Operation) → ((o :
 none_from_none held [] there none = refl
 none_from_none held (o ∷ operations) there none = absurd (contains_none o (subst (λ w. Contains w o) none (there o (contains_head o operations))))
 
-pub bare_is_four_words : BareIsFourWords
+pub bare_is_four_words : (e : EpdRecord) (bytes : List ℕ) → EpdText e bytes → e.operations ≡ [] → IsFourWords bytes
 bare_is_four_words e bytes h none =
     let bare = none_from_none e.operations h.operations (λ o. (h.same o).0) none in
     (setup_fields e.setup, refl, subst (λ w. Tokens (map word (setup_fields e.setup) ++ flat_map operation_tokens w) bytes) bare h.tokens)
@@ -209,7 +209,7 @@ module _ (bytes a b c d rest : List ℕ) (next : (ts : List Token) → Tokens ts
         let f = next whole.0 whole.1 in
         (h.1, text_found e bytes a b c d whole.0 f.others p whole.1 f.is spells h.0 (h.3 f.others f.after))
 
-    pub refused_all : (x : EpdError) → ((vs : List Token) → TokensAfter (word d) vs rest → IsRefused x vs) → (ts : List Token) → Tokens ts bytes → IsFirstDueEpd x bytes
+    pub refused_all : (x : EpdError) → ((vs : List Token) → TokensAfter (word d) vs rest → RefusesTokens x vs) → (ts : List Token) → Tokens ts bytes → IsFirstDueEpd x bytes
     refused_all x h ts tokens =
         let f = next ts tokens in
         refused_first bytes a b c d f.others (subst (λ w. Tokens w bytes) f.is tokens) p lawful spells x (h f.others f.after)

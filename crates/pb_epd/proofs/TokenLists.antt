@@ -2,7 +2,7 @@
 use Rattle.std.proofs.Common.{◌≡◌, ◌≢◌, ℕ, zero, suc, ◌+◌, ◌≤◌, List, [], ◌∷◌, ◌++◌, replicate, refl, sym, ap, subst, ◌∙◌, arith, add-one}
 use Rattle.std.proofs.lemmas.List.{append_assoc, append-nil, replicate-append-replicate, replicate_more}
 use Rattle.pb_epd.specs.Token.{Token, word, text, end_mark, IsToken, IsWordByte, TokensAfter, token_text}
-use Rattle.pb_epd.specs.Lexeme.{MayFollow, IsWholeBefore, BeginsWithWordByte, last_token, NextIs, IsStuck}
+use Rattle.pb_epd.specs.Lexeme.{MayFollow, IsWholeBefore, BeginsWithWordByte, NextIs, IsStuck}
 use Rattle.pb_epd.specs.Reading.{Follow}
 use Rattle.pb_epd.proofs.Lexing.{spaces_alone, steps_one, stuck_steps, begins_unspaced, no_word_end}
 
@@ -99,6 +99,11 @@ unended_spaces (suc n) h = absurd (h (replicate n 32) (sym (replicate_more n 32 
 
 pub ends_back : (front bytes : List ℕ) → EndsInToken (front ++ bytes) → EndsInToken bytes
 ends_back front bytes h kept e = h (front ++ kept) (ap (λ w. front ++ w) e ∙ sym (append_assoc front kept (32 ∷ [])))
+
+-- the last of the tokens, where there is one, and else the one before them
+abbrev pub last_token : Token → List Token → Token
+last_token before [] = before
+last_token before (t ∷ ts) = last_token t ts
 
 -- one more token
 pub tokens_push : (before : Token) (ts : List Token) (bytes : List ℕ) (n : ℕ) (t : Token) → TokensAfter before ts bytes → EndsInToken bytes → IsToken t → MayFollow (last_token before ts) n t → TokensAfter before (ts ++ t ∷ []) (bytes ++ (replicate n 32 ++ token_text t))

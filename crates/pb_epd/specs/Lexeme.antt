@@ -14,11 +14,6 @@ IsOperandToken t = t ≢ end_mark
 abbrev pub MayFollow : Token → ℕ → Token → Type 0
 MayFollow before n after = IsOperandToken before → IsOperandToken after → 1 ≤ n
 
--- the last of the tokens, where there is one, and else an end
-abbrev pub last_token : Token → List Token → Token
-last_token before [] = before
-last_token before (t ∷ ts) = last_token t ts
-
 abbrev pub BeginsWithWordByte : List ℕ → Type 0
 BeginsWithWordByte [] = ⊥
 BeginsWithWordByte (b ∷ bytes) = IsWordByte b

@@ -6,4 +6,3 @@ pub mod ByteOrder
 pub mod Epd
 pub mod Refusal
 pub mod Reading
-pub mod Laws

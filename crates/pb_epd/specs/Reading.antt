@@ -65,11 +65,11 @@ pub record BeginsWithOperation (ts : List Token) (o : Operation) (rest : List �
   pub is : ts ≡ operation_tokens o ++ others
   pub after : TokensAfter end_mark others rest
 
-abbrev pub IsTaken : Taken → List Token → Type 0
-IsTaken taken.Done ts = ts ≡ []
-IsTaken taken.Unended ts = (ts ≢ []) × AreOperands ts
-IsTaken taken.Unnamed ts = BeginsUnnamed ts
-IsTaken (taken.Operation opcode operands rest) ts =
+abbrev pub TakenFrom : Taken → List Token → Type 0
+TakenFrom taken.Done ts = ts ≡ []
+TakenFrom taken.Unended ts = (ts ≢ []) × AreOperands ts
+TakenFrom taken.Unnamed ts = BeginsUnnamed ts
+TakenFrom (taken.Operation opcode operands rest) ts =
     BeginsWithOperation ts (opcode.now, operands.items) rest.now
 
 -- an operation is lawful and takes some bytes, and the bytes are tokens if what follows it is
@@ -134,11 +134,11 @@ pub record IsUnnamedAt (n : ℕ) (ts : List Token) : Type 0 where
   pub breaks : BreaksAt (All IsNamed) ended n
 
 -- why operations are refused
-abbrev pub IsRefused : EpdError → List Token → Type 0
-IsRefused (epd.Opcode n) ts = IsUnnamedAt n ts
-IsRefused epd.Unended ts = (ended : List (List Token)) × (unended : List Token)
+abbrev pub RefusesTokens : EpdError → List Token → Type 0
+RefusesTokens (epd.Opcode n) ts = IsUnnamedAt n ts
+RefusesTokens epd.Unended ts = (ended : List (List Token)) × (unended : List Token)
     × AreNamed ts ended unended × (unended ≢ [])
-IsRefused (epd.Repeated n) ts =
+RefusesTokens (epd.Repeated n) ts =
     (ended : List (List Token)) × AreNamed ts ended [] × BreaksAt (AllPairs BeginOtherwise) ended n
-IsRefused epd.Memory ts = ts ≢ []
-IsRefused _ ts = ⊥
+RefusesTokens epd.Memory ts = ts ≢ []
+RefusesTokens _ ts = ⊥

@@ -3,7 +3,7 @@
 ghost use Rattle.std.specs.Prelude.{◌≡◌, ◌↔◌, [], IsTrue, List, length, Contains, MatchOption};
 ghost use Rattle.pb_epd.specs.Epd.{EpdRecord, IsEpd, operations_of};
 ghost use Rattle.pb_epd.specs.Operation.{IsOperation};
-ghost use Rattle.pb_epd.specs.Refusal.{Puts};
+ghost use Rattle.pb_epd.specs.Refusal.{PutsOperation};
 ghost use Rattle.pb_epd.specs.declared.operand.Operand.{Operand};
 
 use crate::operand::Operand;
@@ -91,7 +91,7 @@ impl Epd {
     /// Adds an operation, or answers the first refusal that is due, in the order of `PutError`'s
     /// variants: the record then stays as it was, and the operands are dropped.
     pub fn put(&mut self, opcode: &[u8], operands: Vec<Operand>) -> Result<(), PutError>
-        ensures { Puts self.old self.new (opcode.now, operands.items) result }
+        ensures { PutsOperation self.old self.new (opcode.now, operands.items) result }
     {
         if !is_opcode(opcode) {
             return Err(PutError::Opcode);
@@ -105,7 +105,7 @@ impl Epd {
     pub(crate) fn add(&mut self, opcode: &[u8], operands: Vec<Operand>) -> Result<(), PutError>
         requires { IsOperation (opcode.now, operands.items) }
         ensures rules { IsEpd self.new }
-        ensures puts { Puts self.old self.new (opcode.now, operands.items) result }
+        ensures puts { PutsOperation self.old self.new (opcode.now, operands.items) result }
     {
         if self.operations.contains_key(opcode) {
             return Err(PutError::Repeated);

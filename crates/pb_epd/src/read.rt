@@ -9,8 +9,8 @@ ghost use Rattle.pb_epd.specs.Epd.{EpdRecord, IsEpd, EpdText};
 ghost use Rattle.pb_epd.specs.Operation.{IsOpcode, IsOperand, IsOperation, operand_token};
 ghost use Rattle.pb_epd.specs.Refusal.{IsFirstDueEpd, IsFourWords, IsNamed};
 ghost use Rattle.pb_epd.specs.Reading.{HasTokens, EndsSoundly, Follow, FourFollow};
-ghost use Rattle.pb_epd.specs.Reading.{EndsWithOperands, AreOperands, IsTaken, IsSound};
-ghost use Rattle.pb_epd.specs.Reading.{AreOperations, IsRefused, StandsWith};
+ghost use Rattle.pb_epd.specs.Reading.{EndsWithOperands, AreOperands, TakenFrom, IsSound};
+ghost use Rattle.pb_epd.specs.Reading.{AreOperations, RefusesTokens, StandsWith};
 ghost use Rattle.pb_epd.specs.declared.refusal.EpdError.TheVariants as epd;
 
 use crate::epd::Epd;
@@ -133,7 +133,7 @@ fn next_operation<'a>(
     text: &'a [u8],
 ) -> Result<Taken<'a>, AllocError>
     ensures taken { IfOk result (λ r. (ts : List Token)
-        → TokensAfter (token_of before.entry) ts text.now → IsTaken r ts) }
+        → TokensAfter (token_of before.entry) ts text.now → TakenFrom r ts) }
     ensures sound { IfOk result (λ r. IsSound r (token_of before.entry) text.now) }
     ensures memory { OnErr result ((ts : List Token)
         → TokensAfter (token_of before.entry) ts text.now → ts ≢ []) }
@@ -190,7 +190,7 @@ fn read_operations(
         × ((ts : List Token) → TokensAfter (token_of before.entry) ts text.now
         → AreOperations ts e.operations)) }
     ensures refused { IfErr result (λ x. (ts : List Token)
-        → TokensAfter (token_of before.entry) ts text.now → IsRefused x ts) }
+        → TokensAfter (token_of before.entry) ts text.now → RefusesTokens x ts) }
 {
     let mut so_far = SoFar {
         epd: Epd::new(alloc, setup),

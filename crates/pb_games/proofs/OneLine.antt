@@ -13,12 +13,12 @@ use Rattle.pb_games.specs.declared.game.Game.{Game}
 use Rattle.pb_games.specs.declared.outcome.Outcome.{Outcome}
 use Rattle.pb_games.specs.declared.outcome.Outcome.TheVariants as outcome
 use Rattle.pb_games.specs.Results.{outcome_text}
-use Rattle.pb_games.specs.Submissions.{IsLawful, Submission, moves_text}
+use Rattle.pb_games.specs.Submissions.{IsLawful, Submission, moves_text, IsGame, submission_text}
 use Rattle.pb_games.specs.Tokens.{tokens_of}
-use Rattle.pb_games.specs.Laws.{OneSubmission}
 use Rattle.pb_games.proofs.Bytes.{spellings_above}
 use Rattle.pb_games.proofs.Texts.{four_fields, lawful_game}
 use Rattle.pb_games.proofs.TokenLemmas.{spelling_injective}
+use Rattle.pb_games.specs.Ids.{IsId}
 
 outcome_from : List ℕ → Outcome
 outcome_from text = if length text == 7 then outcome.Draw else (if get_or text 0 0 == 49 then outcome.White else outcome.Black)
@@ -51,7 +51,7 @@ spellings_injective (l ∷ ls) (m ∷ ms) h k e =
 game_of : Record → Outcome → List Moved → Game
 game_of start o moves = record { start = start; outcome = o; moves = moves }
 
-pub one_submission : OneSubmission
+pub one_submission : (s t : Submission) → IsId s.0 → IsGame s.1 → IsId t.0 → IsGame t.1 → submission_text s ≡ submission_text t → s ≡ t
 unfolding game_of
 one_submission s t s-id s-game t-id t-game same =
     let cells = sym (four_fields s s-id s-game) ∙ ap (fields 9) same ∙ four_fields t t-id t-game in

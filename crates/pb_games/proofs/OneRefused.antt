@@ -14,7 +14,6 @@ use Rattle.pb_games.specs.declared.refusal.Refusal.{Refusal}
 use Rattle.pb_games.specs.declared.refusal.Refusal.TheVariants as refusal
 use Rattle.pb_games.specs.Cuts.{fields_of}
 use Rattle.pb_games.specs.Refusing.{Refuses}
-use Rattle.pb_games.specs.Laws.{OneRefusal}
 use Rattle.pb_games.proofs.Dues.{IsDue, none_before, order}
 use Rattle.pb_games.proofs.OneLine.{spellings_injective}
 use Rattle.pb_games.proofs.Played.{legal_fronts}
@@ -80,7 +79,7 @@ same_position line d e h k =
       | inr le ↦ elim (cases_lt (order e) (order d)) [ inl less ↦ absurd (none_before line d h e less k.due) | inr ge ↦ omega arith ]
     ]
 
-pub one_refusal : OneRefusal
+pub one_refusal : (line : List ℕ) (d e : Refusal) → Refuses line d → Refuses line e → d ≡ e
 one_refusal line d e h k =
     let position = same_position line d e h k in
     let a = back line d h.due in

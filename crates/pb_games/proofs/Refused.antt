@@ -25,7 +25,6 @@ use Rattle.pb_games.specs.Refusing.{IsOfLine, Refuses, SpellsStart}
 use Rattle.pb_games.specs.Results.{outcome_text}
 use Rattle.pb_games.specs.Submissions.{Submission, IsLawful, moves_text}
 use Rattle.pb_games.specs.Tokens.{tokens_of}
-use Rattle.pb_games.specs.Laws.{RefusedByItself, RefusedIsUnlawful}
 use Rattle.pb_games.proofs.Dues.{IsDue}
 use Rattle.pb_games.proofs.OneLine.{one_lawful, tokens_of_text, spellings_injective}
 use Rattle.pb_games.proofs.Texts.{fields_back, lawful_game, short_line}
@@ -45,7 +44,7 @@ due_of_line line refusal.Plies due = (fen.Fields, 0, 0, (7, omega arith, refl))
 due_of_line line (refusal.Illegal n) due = (fen.Fields, 0, n, (8, omega arith, refl))
 due_of_line line _ due = absurd due
 
-pub of_line : RefusedByItself
+pub of_line : (line : List ℕ) (e : Refusal) → Refuses line e → IsOfLine e
 of_line line e h = due_of_line line e h.due
 
 -- ---- no legal game
@@ -81,7 +80,7 @@ module _ (line : List ℕ) (s : Submission) (h : IsLawful line s) where
       (subst (λ ms. BreaksAt (AreLegal s.1.start.setup) ms n) moves (subst (λ t. BreaksAt (AreLegal t) due.1 n) start due.4))
   none_due _ due = due
 
-pub unlawful : RefusedIsUnlawful
+pub unlawful : (line : List ℕ) (e : Refusal) (s : Submission) → Refuses line e → ¬ IsLawful line s
 unlawful line e s h lawful = none_due line s lawful e h.due
 
 -- where an answer is right, it is that of the game that the line submits

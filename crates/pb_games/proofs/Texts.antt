@@ -14,14 +14,15 @@ use Rattle.pb_moves.specs.Successor.{after}
 use Rattle.pb_board.specs.Position.{Position}
 use Rattle.pb_games.specs.Results.{outcome_text}
 use Rattle.pb_games.specs.Submissions.{IsGame, IsLawful, IsSubmission, Submission, moves_text, submission_text}
-use Rattle.pb_games.specs.Laws.{TextIsShort, TextIsOneLine, FieldsHaveNoTab}
 use Rattle.pb_games.proofs.Bytes.{Above-weaker, id_above, result_above, result_short, fen_above, fen_short, moves_above, moves_short}
+use Rattle.pb_games.specs.Ids.{IsId}
 use Rattle.pb_board.proofs.LineEnds.{cases_return, strip_push, strip_same}
+use Rattle.pb_board.specs.Fields.{fields, tab}
 
 no_tab : (xs : List ℕ) → Above 31 xs → Above 9 xs
 no_tab xs h = Above-weaker 9 31 xs (omega arith) h
 
-pub four_fields : FieldsHaveNoTab
+pub four_fields : (s : Submission) → IsId s.0 → IsGame s.1 → fields tab (submission_text s) ≡ s.0 ∷ outcome_text s.1.outcome ∷ fen_text s.1.start ∷ moves_text s.1.moves ∷ []
 four_fields s id game =
     split_join 9 (s.0 ∷ outcome_text s.1.outcome ∷ fen_text s.1.start ∷ moves_text s.1.moves ∷ []) (
       no_tab s.0 (id_above s.0 id),
@@ -45,7 +46,7 @@ plain_join (t ∷ u ∷ ts) h =
     let rest = join_with_byte 9 (u ∷ ts) in
     All-append IsPlain t (9 ∷ rest) (plain_field t h.0) (All-cons IsPlain 9 rest (λ e. omega (arith, e), λ e. omega (arith, e)) (plain_join (u ∷ ts) h.1))
 
-pub one_line : TextIsOneLine
+pub one_line : (s : Submission) → IsId s.0 → IsGame s.1 → All (λ b. (b ≢ 10) × (b ≢ 13)) (submission_text s)
 one_line s id game =
     plain_join (s.0 ∷ outcome_text s.1.outcome ∷ fen_text s.1.start ∷ moves_text s.1.moves ∷ [])
     (id_above s.0 id, (result_above s.1.outcome, (fen_above s.1.start game.start, (moves_above s.1.moves, tt))))
@@ -54,7 +55,7 @@ four_short : (a b c d : List ℕ) → length a ≤ 64 → length b ≤ 7 → len
 four_short a b c d ha hb hc hd =
     omega (arith, length-append a (9 ∷ (b ++ 9 ∷ (c ++ 9 ∷ d))), length-append b (9 ∷ (c ++ 9 ∷ d)), length-append c (9 ∷ d))
 
-pub short_text : TextIsShort
+pub short_text : (s : Submission) → IsId s.0 → IsGame s.1 → length (submission_text s) ≤ 6311
 short_text s id game =
     four_short s.0 (outcome_text s.1.outcome) (fen_text s.1.start) (moves_text s.1.moves) id.few (result_short s.1.outcome) (fen_short s.1.start game.start) (omega (arith, moves_short s.1.moves, game.few))
 

@@ -5,7 +5,6 @@ pub mod Submissions
 pub mod Refusing
 pub mod Cuts
 pub mod Lines
-pub mod Laws
 pub mod Reading
 pub mod Repeat
 pub mod Starts

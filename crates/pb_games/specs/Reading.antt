@@ -25,19 +25,11 @@ pub record IsStopped (start : Position) (field : List ℕ) (n : ℕ) : Type 0 wh
 
 -- the refusal that the tokens of the field get from this start
 abbrev pub AreRefused : Position → List ℕ → Refusal → Type 0
-AreRefused start field refusal.Long = ⊥
-AreRefused start field refusal.Shape = ⊥
-AreRefused start field refusal.Id = ⊥
-AreRefused start field refusal.Result = ⊥
-AreRefused start field (refusal.Fen e) = ⊥
-AreRefused start field refusal.Start = ⊥
 AreRefused start field (refusal.Spelling n) = BreaksAt (All IsSpelled) (tokens_of field) n
 AreRefused start field refusal.Plies =
     All IsSpelled (tokens_of field) × (MAX_PLIES < length (tokens_of field))
 AreRefused start field (refusal.Illegal n) = IsStopped start field n
-AreRefused start field (refusal.Conflict n) = ⊥
-AreRefused start field refusal.Full = ⊥
-AreRefused start field refusal.Memory = ⊥
+AreRefused start field _ = ⊥
 
 -- some plies of some game are held, which led here, and a further one isn't too many
 abbrev pub CanTake : (Outcome → List Ply → Position → Type 0) → Position → Type 0

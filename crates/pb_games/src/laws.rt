@@ -1,18 +1,22 @@
 //! Laws of submissions, their lines and their refusals, and of equality (`==`).
 
-ghost use Rattle.std.specs.Prelude.{◌≡◌, ℕ, List};
+ghost use Rattle.std.specs.Prelude.{◌≡◌, ◌≤◌, ◌≢◌, ◌∷◌, [], ℕ, List, length, All};
 ghost use Rattle.std.specs.Bool.{Decides};
 ghost use Rattle.pb_board.specs.declared.piece.Colour.TheVariants.{White};
+ghost use Rattle.pb_board.specs.Fields.{fields, tab};
+ghost use Rattle.pb_board.specs.Text.{fen_text};
 ghost use Rattle.pb_moves.specs.Attacks.{InCheck};
 ghost use Rattle.pb_games.specs.declared.judge.TheConstants.{MAX_PLIES};
 ghost use Rattle.pb_games.specs.declared.fields.TheConstants.{MAX_BYTES};
 ghost use Rattle.pb_games.specs.declared.id.TheConstants.{MAX_LEN};
 ghost use Rattle.pb_games.specs.declared.outcome.Outcome.{Outcome};
 ghost use Rattle.pb_games.specs.declared.refusal.Refusal.{Refusal};
-ghost use Rattle.pb_games.specs.Laws.{OneRefusal, OneSubmission, FieldsHaveNoTab, RefusedByItself};
-ghost use Rattle.pb_games.specs.Laws.{RefusedIsUnlawful, TextIsOneLine, TextIsShort};
-ghost use Rattle.pb_games.specs.Submissions.{IsLawful, last_setup};
+ghost use Rattle.pb_games.specs.Submissions.{IsLawful, last_setup, Submission, IsGame, moves_text};
+ghost use Rattle.pb_games.specs.Submissions.{submission_text};
 ghost use Rattle.pb_games.specs.Worked.{worked_line, worked_submission};
+ghost use Rattle.pb_games.specs.Ids.{IsId};
+ghost use Rattle.pb_games.specs.Results.{outcome_text};
+ghost use Rattle.pb_games.specs.Refusing.{IsOfLine, Refuses};
 
 use crate::id::Id;
 use crate::outcome::Outcome;
@@ -28,29 +32,33 @@ pub fn limits()
 
 /// States that no text has two submissions.
 pub fn one_submission()
-    ensures { OneSubmission }
+    ensures { (s t : Submission) → IsId s.0 → IsGame s.1 → IsId t.0 → IsGame t.1
+        → submission_text s ≡ submission_text t → s ≡ t }
 {}
 
 /// States that a text is short, has no end of a line in it, and no TAB but those between fields.
 pub fn plain_text()
-    ensures short { TextIsShort }
-    ensures one_line { TextIsOneLine }
-    ensures no_tab { FieldsHaveNoTab }
+    ensures short { (s : Submission) → IsId s.0 → IsGame s.1 → length (submission_text s) ≤ 6311 }
+    ensures one_line { (s : Submission) → IsId s.0 → IsGame s.1
+        → All (λ b. (b ≢ 10) × (b ≢ 13)) (submission_text s) }
+    ensures no_tab { (s : Submission) → IsId s.0 → IsGame s.1
+        → fields tab (submission_text s)
+        ≡ s.0 ∷ outcome_text s.1.outcome ∷ fen_text s.1.start ∷ moves_text s.1.moves ∷ [] }
 {}
 
 /// States that a line is refused by itself neither for what is held nor for want of memory.
 pub fn refused_by_itself()
-    ensures { RefusedByItself }
+    ensures { (line : List ℕ) (e : Refusal) → Refuses line e → IsOfLine e }
 {}
 
 /// States that a line that is refused by itself submits no legal game.
 pub fn refused_is_unlawful()
-    ensures { RefusedIsUnlawful }
+    ensures { (line : List ℕ) (e : Refusal) (s : Submission) → Refuses line e → ¬ IsLawful line s }
 {}
 
 /// States that no line is refused by itself in two ways.
 pub fn one_refusal()
-    ensures { OneRefusal }
+    ensures { (line : List ℕ) (d e : Refusal) → Refuses line d → Refuses line e → d ≡ e }
 {}
 
 /// States that ids, outcomes and refusals are equal (`==`) exactly where they are one, and that

@@ -2,7 +2,7 @@
 use Rattle.std.proofs.Common.{◌≡◌, ℕ, suc, ◌-◌, Bool, true, false, cond, List, [], ◌∷◌, ◌++◌, length, take, get_or, append-nil, arith, refl, sym, ap, ◌∙◌}
 use Rattle.std.specs.List.{onto_first}
 use Rattle.std.specs.Prelude.{◌==◌, nat_lt}
-use Rattle.pb_io.specs.Lines.{ended_lines, last_piece, line_feed, lines, pieces}
+use Rattle.pb_io.specs.Lines.{ended_lines, last_piece, line_feed, lines, line_pieces}
 
 -- a byte ends a line
 abbrev pub is_line_feed : ℕ → Bool
@@ -30,12 +30,12 @@ pub onto_first-nonempty : (b : ℕ) (ps : List (List ℕ)) → IsNonEmpty (onto_
 onto_first-nonempty b [] = (b ∷ [], [], refl)
 onto_first-nonempty b (p ∷ ps) = (b ∷ p, ps, refl)
 
-pub pieces-nonempty : (bytes : List ℕ) → IsNonEmpty (pieces bytes)
+pub pieces-nonempty : (bytes : List ℕ) → IsNonEmpty (line_pieces bytes)
 pieces-nonempty [] = ([], [], refl)
 pieces-nonempty (b ∷ bs) =
-    elim (is_line_feed b) as (λ v. IsNonEmpty (cond v ([] ∷ pieces bs) (onto_first b (pieces bs)))) [
-      | true ↦ ([], pieces bs, refl)
-      | false ↦ onto_first-nonempty b (pieces bs)
+    elim (is_line_feed b) as (λ v. IsNonEmpty (cond v ([] ∷ line_pieces bs) (onto_first b (line_pieces bs)))) [
+      | true ↦ ([], line_pieces bs, refl)
+      | false ↦ onto_first-nonempty b (line_pieces bs)
     ]
 
 -- all of a list but its last
@@ -67,19 +67,19 @@ lines_of : (ps : List (List ℕ)) → IsNonEmpty ps → cond (nat_lt 0 (length (
 lines_of [] h = cc
 lines_of (x ∷ ys) h = by_last x ys (last_of (x ∷ ys)) refl
 
-pub ended_are : (bytes : List ℕ) → ended_lines bytes ≡ all_but_last (pieces bytes)
-ended_are bytes = front_is (pieces bytes)
+pub ended_are : (bytes : List ℕ) → ended_lines bytes ≡ all_but_last (line_pieces bytes)
+ended_are bytes = front_is (line_pieces bytes)
 
-pub last_is : (bytes : List ℕ) → last_piece bytes ≡ last_of (pieces bytes)
-last_is bytes = end_is (pieces bytes)
+pub last_is : (bytes : List ℕ) → last_piece bytes ≡ last_of (line_pieces bytes)
+last_is bytes = end_is (line_pieces bytes)
 
-pub lines_are : (bytes : List ℕ) → lines bytes ≡ all_but_last (pieces bytes) ++ line_at_end (last_of (pieces bytes))
+pub lines_are : (bytes : List ℕ) → lines bytes ≡ all_but_last (line_pieces bytes) ++ line_at_end (last_of (line_pieces bytes))
 lines_are bytes =
-    let ps = pieces bytes in
+    let ps = line_pieces bytes in
     ap (λ p. cond (nat_lt 0 (length p)) ps (ended_lines bytes)) (last_is bytes) ∙ ap (λ f. cond (nat_lt 0 (length (last_of ps))) ps f) (ended_are bytes)
     ∙ lines_of ps (pieces-nonempty bytes)
 
 -- the lines that a line feed ended, and what is left where that is no empty piece
 pub lines-cut : (bytes : List ℕ) → lines bytes ≡ ended_lines bytes ++ line_at_end (last_piece bytes)
 lines-cut bytes =
-    lines_are bytes ∙ ap (λ ls. ls ++ line_at_end (last_of (pieces bytes))) (sym (ended_are bytes)) ∙ ap (λ p. ended_lines bytes ++ line_at_end p) (sym (last_is bytes))
+    lines_are bytes ∙ ap (λ ls. ls ++ line_at_end (last_of (line_pieces bytes))) (sym (ended_are bytes)) ∙ ap (λ p. ended_lines bytes ++ line_at_end p) (sym (last_is bytes))

@@ -3,7 +3,7 @@
 ghost use Rattle.std.specs.Prelude.{◌≡◌, ◌≤◌, ℕ, List, ◌++◌, length};
 ghost use Rattle.std.specs.Bool.{Decides};
 ghost use Rattle.std.specs.List.{join_with_byte};
-ghost use Rattle.pb_io.specs.Lines.{ended_lines, line_feed, line_limit, lines, pieces};
+ghost use Rattle.pb_io.specs.Lines.{ended_lines, line_feed, line_limit, line_pieces, lines};
 ghost use Rattle.pb_io.specs.Reads.{chunk_len};
 ghost use Rattle.pb_io.specs.declared.fault.Fault.{Fault};
 ghost use Rattle.pb_io.specs.declared.fault.ReadFault.{ReadFault};
@@ -29,7 +29,7 @@ pub fn equal_faults()
 
 /// The pieces of a text, joined by LFs, are the text.
 pub fn pieces_join()
-    ensures { (bytes : List ℕ) → join_with_byte line_feed (pieces bytes) ≡ bytes }
+    ensures { (bytes : List ℕ) → join_with_byte line_feed (line_pieces bytes) ≡ bytes }
 {}
 
 /// The lines that an LF ended in a front of a text are the first lines of the text.

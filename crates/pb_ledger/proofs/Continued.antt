@@ -8,7 +8,6 @@ use Rattle.pb_accepted.proofs.Steps.{distinct_ids, runs_join}
 use Rattle.pb_io.specs.Lines.{lines}
 use Rattle.pb_ledger.specs.Saving.{Saved}
 use Rattle.pb_ledger.specs.Loading.{Loads}
-use Rattle.pb_ledger.specs.SavedLaws.{ContinuedIsOneRun}
 use Rattle.pb_ledger.proofs.SavedLoading.{loads_only}
 
 -- the replies to two runs in a row
@@ -24,7 +23,7 @@ pub loaded_back : (cap : ℕ) (K : List (List ℕ)) (Q : List Answer) (A B : Lis
 loaded_back most K Q A B bytes run saved loads =
     loads_only most A bytes (are_submissions most K Q A run) (distinct_ids most K Q A run) (has_room most K Q A run) saved B loads
 
-pub continued : ContinuedIsOneRun
+pub continued : (cap : ℕ) (K L : List (List ℕ)) (Q R : List Answer) (A B C : List Submission) (bytes : List ℕ) → Run cap [] K Q A → Saved A bytes → Loads cap (lines bytes) B → Run cap B L R C → Run cap [] (K ++ L) (Q ++ R) C × (replies (K ++ L) (Q ++ R) ≡ replies K Q ++ replies L R)
 continued most K L Q R A B C bytes run saved loads more =
     let same = loaded_back most K Q A B bytes run saved loads in (
       runs_join most [] A C K L Q R run (subst (λ X. Run most X L R C) same more),

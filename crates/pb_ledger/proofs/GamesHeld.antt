@@ -22,9 +22,8 @@ use Rattle.pb_games.proofs.Texts.{fields_back, lawful_submission, short_line}
 use Rattle.pb_accepted.specs.Accepting as steps
 use Rattle.pb_accepted.specs.Accepting.{Answer, Run, Step}
 use Rattle.pb_ledger.specs.Games.{games_text, has_one_end, has_shape, text_of_games}
-use Rattle.pb_ledger.specs.GamesLaws.{GameLinesArePicked, GamesAreHeld, MendingAddsNoGame, SavedGamesArePicked, TornAddsNoGame}
-use Rattle.pb_ledger.specs.Journal.{Replays, seal}
-use Rattle.pb_ledger.specs.Saving.{header}
+use Rattle.pb_ledger.specs.Journal.{Replays, seal, Journals, GameLines, mending}
+use Rattle.pb_ledger.specs.Saving.{header, Saved}
 use Rattle.pb_ledger.proofs.Journals.{five_fields, tabs, tabs_quiet}
 use Rattle.pb_ledger.proofs.LinesPut.{lines_alone, quiet_ended, quiet_strip}
 use Rattle.pb_ledger.proofs.SavedLoading.{header_quiet, lawful_text, quiet_texts, texts_of}
@@ -184,7 +183,7 @@ quiet_games bytes =
     let ls : List (List ℕ) = filter has_shape (ended_lines bytes) in
     All-map IsQuiet strip_carriage_return ls (All-weaker IsQuiet (λ line. IsQuiet (strip_carriage_return line)) quiet_strip ls (All-filter has_shape IsQuiet (ended_lines bytes) (quiet_ended bytes)))
 
-pub games_are_held : GamesAreHeld
+pub games_are_held : (cap : ℕ) (bytes : List ℕ) (A : List Submission) → Journals cap bytes A → Journals cap (games_text bytes) A
 games_are_held cap bytes A h =
     let along = games_run cap [] (ended_lines bytes) h.answers A h.run h.remembered in
     let alone = (lines_alone (games_of (ended_lines bytes)) (quiet_games bytes)).0 in
@@ -200,11 +199,11 @@ games_of_texts (s ∷ A) games =
     sym (game_first t (texts_of A) (lawful_shape t s law)) ∙ ap (λ line. line ∷ games_of (texts_of A)) law.text
     ∙ ap (λ (ls : List (List ℕ)). t ∷ ls) (games_of_texts A (All-tail IsSubmission s A games))
 
-pub game_lines_are_picked : GameLinesArePicked
+pub game_lines_are_picked : (A : List Submission) (bytes : List ℕ) → All IsSubmission A → GameLines A bytes → games_text bytes ≡ bytes
 game_lines_are_picked A bytes games is =
     ap games_text is ∙ ap text_of_games (lines_alone (texts_of A) (quiet_texts A games)).0 ∙ ap (flat_map with_end) (games_of_texts A games) ∙ sym is
 
-pub saved_games_are_picked : SavedGamesArePicked
+pub saved_games_are_picked : (A : List Submission) (bytes : List ℕ) → All IsSubmission A → Saved A bytes → GameLines A (games_text bytes)
 saved_games_are_picked A bytes games is =
     let quiet = All-cons IsQuiet header (texts_of A) header_quiet (quiet_texts A games) in
     ap games_text is ∙ ap text_of_games (lines_alone (header ∷ texts_of A) quiet).0
@@ -212,7 +211,7 @@ saved_games_are_picked A bytes games is =
 
 -- ---- torn lines
 
-pub torn_adds_no_game : TornAddsNoGame
+pub torn_adds_no_game : (bytes torn : List ℕ) → All (λ b. b ≢ line_feed) torn → games_text (bytes ++ torn) ≡ games_text bytes
 torn_adds_no_game bytes torn other =
     ap text_of_games (ended_lines-quiet bytes torn (All-weaker (λ b. b ≢ line_feed) (λ b. is_line_feed b ≡ false) (λ b. ne_eqb b 10) torn other))
 
@@ -231,7 +230,7 @@ sealed_adds_no_game bytes =
     let line : List ℕ = last_piece bytes ++ tabs in
     ap text_of_games (ended_lines-ended bytes tabs tabs_quiet) ∙ ap (flat_map with_end) (games_behind (ended_lines bytes) line (no_four line (five_fields (last_piece bytes))))
 
-pub mending_adds_no_game : MendingAddsNoGame
+pub mending_adds_no_game : (bytes : List ℕ) → games_text (bytes ++ mending bytes) ≡ games_text bytes
 mending_adds_no_game bytes =
     let Adds : Bool → Type 0 = λ v. games_text (bytes ++ (if v then seal else [])) ≡ games_text bytes in
     elim (cases_Bool (is_torn bytes)) [

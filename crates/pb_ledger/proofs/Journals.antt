@@ -29,7 +29,6 @@ use Rattle.pb_accepted.proofs.Replies.{HaveOwnIds-Takes}
 use Rattle.pb_accepted.proofs.Runs.{HaveOwnIds-nil}
 use Rattle.pb_accepted.proofs.Steps.{one_step, runs_join, step_to}
 use Rattle.pb_ledger.specs.Journal.{GameLines, Journals, Replays, mending, seal}
-use Rattle.pb_ledger.specs.JournalLaws.{JournalGoesOn, JournalGrows, JournalIsOne, JournalMayTear}
 use Rattle.pb_ledger.proofs.LinesPut.{lines_put}
 use Rattle.pb_ledger.proofs.SavedLoading.{Given, HaveOwnIds-front, given, quiet_text, quiet_texts, texts_of}
 
@@ -65,7 +64,7 @@ goes_on most A B C (line ∷ ls) ms (q ∷ Q) (r ∷ R) own run run' kept kept' 
     goes_on most M B C ls ms Q R (HaveOwnIds-Takes A line q M (step_to most A line q M run.1).1 own) run.2 (subst (λ (X : List Submission). Run most X (ls ++ ms) R C) same.1 run'.2)
     (All-tail Kept q Q kept) (All-tail Kept r R kept')
 
-pub journal_goes_on : JournalGoesOn
+pub journal_goes_on : (cap : ℕ) (front behind : List ℕ) (A B : List Submission) → Journals cap front A → Journals cap (front ++ behind) B → (later : List Submission) × (B ≡ A ++ later)
 journal_goes_on cap front behind A B h k =
     let lines = ended-first front behind in
     let k' : Replays cap (ended_lines front ++ lines.0) B = subst (λ (ls : List (List ℕ)). Replays cap ls B) lines.1 k in
@@ -75,7 +74,7 @@ empty : (X : List Submission) → length X ≤ 0 → X ≡ []
 empty [] none = refl
 empty (x ∷ X) none = absurd (omega (arith, none))
 
-pub journal_is_one : JournalIsOne
+pub journal_is_one : (cap : ℕ) (bytes : List ℕ) (A B : List Submission) → Journals cap bytes A → Journals cap bytes B → A ≡ B
 journal_is_one cap bytes A B h k =
     let at_end : (X : List Submission) → Journals cap bytes X → Journals cap (bytes ++ []) X = λ X j. subst (λ (bs : List ℕ). Journals cap bs X) (sym (append-nil bytes)) j in
     let on = journal_goes_on cap bytes [] A B h (at_end B k) in
@@ -169,7 +168,7 @@ put_on cap bytes text A G h games own room put = by (given cap A G games own (om
         remembered (Ok n) ok = λ is. (cc)
         remembered (Err e) ok = let no : false ≡ true = ok in cc
 
-pub journal_grows : JournalGrows
+pub journal_grows : (cap : ℕ) (bytes text : List ℕ) (A G : List Submission) → Journals cap bytes A → All IsSubmission G → HaveOwnIds (A ++ G) → length (A ++ G) ≤ cap → GameLines G text → Journals cap (bytes ++ mending bytes ++ text) (A ++ G)
 journal_grows cap bytes text A G h games own room put =
     put_on cap (bytes ++ mending bytes) text A G (mended cap bytes A h) games own room put
 
@@ -183,7 +182,7 @@ GameLines-push G text g line put spells =
     ∙ ap (λ bs. flat_map with_end (texts_of G) ++ bs) (sym (append-nil (with_end t))) ∙ sym (flat_map-append with_end (texts_of G) (t ∷ []))
     ∙ ap (flat_map with_end) (sym (map-append submission_text G (g ∷ [])))
 
-pub journal_may_tear : JournalMayTear
+pub journal_may_tear : (cap : ℕ) (bytes text : List ℕ) (A G : List Submission) (g : Submission) (n : ℕ) → Journals cap bytes A → All IsSubmission (G ++ g ∷ []) → HaveOwnIds (A ++ G ++ g ∷ []) → length (A ++ G ++ g ∷ []) ≤ cap → GameLines G text → let front = bytes ++ mending bytes ++ text ++ take n (with_end (submission_text g)) in Journals cap front (A ++ G) ⊎ Journals cap front (A ++ G ++ g ∷ [])
 journal_may_tear cap bytes text A G g n h games own room put =
     elim (cases_lt (length (submission_text g)) n) [
       | inl past ↦ inr (subst (λ bs. Journals cap (whole ++ bs) (A ++ G ++ g ∷ [])) (sym (take_all n (with_end (submission_text g)) (omega (arith, past, length-append (submission_text g) (10 ∷ []))))) grown)

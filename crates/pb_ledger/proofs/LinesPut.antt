@@ -8,7 +8,7 @@ use Rattle.std.proofs.lemmas.List.Elements.{All-cons, All-head, All-nil, All-sam
 use Rattle.std.proofs.lemmas.List.Splits.{slice_split-cons_no, slice_split-cons_yes}
 use Rattle.pb_board.proofs.LineEnds.{cases_return}
 use Rattle.pb_board.specs.LineEnd.{with_end}
-use Rattle.pb_io.specs.Lines.{ended_lines, last_piece, pieces}
+use Rattle.pb_io.specs.Lines.{ended_lines, last_piece, line_pieces}
 use Rattle.pb_io.proofs.LineLemmas.{IsQuiet, is_line_feed, ended_lines-ended, last_piece-ended}
 
 abbrev NotFeed : ℕ → Type 0
@@ -20,15 +20,15 @@ onto_quiet : (b : ℕ) (ps : List (List ℕ)) → NotFeed b → All IsQuiet ps �
 onto_quiet b [] other quiet = All-cons IsQuiet (b ∷ []) [] (All-cons NotFeed b [] other (All-nil NotFeed)) (All-nil IsQuiet)
 onto_quiet b (p ∷ ps) other quiet = All-cons IsQuiet (b ∷ p) ps (All-cons NotFeed b p other (All-head IsQuiet p ps quiet)) (All-tail IsQuiet p ps quiet)
 
-quiet_pieces : (bytes : List ℕ) → All IsQuiet (pieces bytes)
+quiet_pieces : (bytes : List ℕ) → All IsQuiet (line_pieces bytes)
 quiet_pieces [] = All-cons IsQuiet [] [] (All-nil NotFeed) (All-nil IsQuiet)
 quiet_pieces (b ∷ bs) = elim (cases_Bool (is_line_feed b)) [
-  | inl feed ↦ subst (All IsQuiet) (sym (slice_split-cons_yes is_line_feed b bs feed)) (All-cons IsQuiet [] (pieces bs) (All-nil NotFeed) (quiet_pieces bs))
-  | inr other ↦ subst (All IsQuiet) (sym (slice_split-cons_no is_line_feed b bs other)) (onto_quiet b (pieces bs) other (quiet_pieces bs))
+  | inl feed ↦ subst (All IsQuiet) (sym (slice_split-cons_yes is_line_feed b bs feed)) (All-cons IsQuiet [] (line_pieces bs) (All-nil NotFeed) (quiet_pieces bs))
+  | inr other ↦ subst (All IsQuiet) (sym (slice_split-cons_no is_line_feed b bs other)) (onto_quiet b (line_pieces bs) other (quiet_pieces bs))
 ]
 
 pub quiet_ended : (bytes : List ℕ) → All IsQuiet (ended_lines bytes)
-quiet_ended bytes = All-take IsQuiet (length (pieces bytes) - 1) (pieces bytes) (quiet_pieces bytes)
+quiet_ended bytes = All-take IsQuiet (length (line_pieces bytes) - 1) (line_pieces bytes) (quiet_pieces bytes)
 
 quiet_front : (front : List ℕ) (b : ℕ) → IsQuiet (front ++ b ∷ []) → IsQuiet front
 quiet_front front b quiet = All-same NotFeed front (take (length front) (front ++ b ∷ [])) (sym (take-append_seam front (b ∷ []))) (All-take NotFeed (length front) (front ++ b ∷ []) quiet)

@@ -3,9 +3,7 @@ pub mod Change
 pub mod Collecting
 pub mod Collector
 pub mod Games
-pub mod GamesLaws
 pub mod Journal
-pub mod JournalLaws
 pub mod Journaling
 pub mod Lending
 pub mod Loader
@@ -14,7 +12,6 @@ pub mod Making
 pub mod Picker
 pub mod Replayer
 pub mod Replaying
-pub mod SavedLaws
 pub mod Saving
 pub mod Streams
 pub use Rattle.pb_accepted.specs.Accepting
@@ -25,12 +22,10 @@ pub use Rattle.pb_accepted.specs.Laws
 pub use Rattle.pb_accepted.specs.Ledger
 pub use Rattle.pb_accepted.specs.Noting
 pub use Rattle.pb_accepted.specs.Replies
-pub use Rattle.pb_export.specs.ExportLaws
 pub use Rattle.pb_export.specs.Exporting
 pub use Rattle.pb_export.specs.Listing
 pub use Rattle.pb_export.specs.Setups
 pub use Rattle.pb_games.specs.Ids
-pub use Rattle.pb_games.specs.Laws as LineLaws
 pub use Rattle.pb_games.specs.Refusing
 pub use Rattle.pb_games.specs.Results
 pub use Rattle.pb_games.specs.Submissions

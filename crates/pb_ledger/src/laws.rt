@@ -2,14 +2,27 @@
 //! equality (`==`), as contracts of functions that do nothing.
 
 ghost use Rattle.std.specs.Bool.{Decides};
-ghost use Rattle.std.specs.Prelude.{◌≡◌};
-ghost use Rattle.pb_ledger.specs.GamesLaws.{GameLinesArePicked, GamesAreHeld, MendingAddsNoGame};
-ghost use Rattle.pb_ledger.specs.GamesLaws.{SavedGamesArePicked, TornAddsNoGame};
-ghost use Rattle.pb_ledger.specs.JournalLaws.{JournalGoesOn, JournalGrows, JournalIsOne};
-ghost use Rattle.pb_ledger.specs.JournalLaws.{JournalMayTear, JournalMendingMayTear};
-ghost use Rattle.pb_ledger.specs.SavedLaws.{ContinuedIsOneRun, SavedComesBack, SavedLoads};
+ghost use Rattle.std.specs.Prelude.{◌≡◌, ◌≢◌, ◌++◌, ◌≤◌, ◌⊎◌, ◌∷◌, ◌↔◌, [], ℕ, List, All, take};
+ghost use Rattle.std.specs.Prelude.{length};
+ghost use Rattle.pb_board.specs.LineEnd.{with_end};
+ghost use Rattle.pb_io.specs.Lines.{line_feed, lines};
+ghost use Rattle.pb_io.specs.LineTask.{AtEnd};
+ghost use Rattle.pb_io.specs.Source.{SourceState};
+ghost use Rattle.pb_poly.specs.Reading.{Tells};
+ghost use Rattle.pb_games.specs.Submissions.{Submission, IsSubmission, submission_text};
+ghost use Rattle.pb_accepted.specs.Holding.{HaveOwnIds};
+ghost use Rattle.pb_accepted.specs.Ledger.{LedgerState};
+ghost use Rattle.pb_accepted.specs.Accepting.{Answer, Run};
+ghost use Rattle.pb_accepted.specs.Replies.{replies as replies_to};
 ghost use Rattle.pb_ledger.specs.declared.loading.LoadError.{LoadError};
 ghost use Rattle.pb_ledger.specs.declared.totals.Totals.{Totals};
+ghost use Rattle.pb_ledger.specs.Games.{games_text};
+ghost use Rattle.pb_ledger.specs.Journal.{Journals, GameLines, mending};
+ghost use Rattle.pb_ledger.specs.Saving.{Saved};
+ghost use Rattle.pb_ledger.specs.Loading.{Loads, LoadsUntil};
+ghost use Rattle.pb_ledger.specs.Change.{Change, across};
+ghost use Rattle.pb_ledger.specs.Making.{Makes};
+ghost use Rattle.pb_ledger.specs.declared.loading.LoadError.TheVariants.{Memory};
 
 use crate::loading::LoadError;
 use crate::totals::Totals;
@@ -24,34 +37,56 @@ pub use pb_games::laws::{
 /// What is saved of games loads as these games and as no others, where there is room. So `load`
 /// gives them back where it can read all of it and memory is there, and refuses no line of it.
 pub fn saved()
-    ensures loads { SavedLoads }
-    ensures back { SavedComesBack }
+    ensures loads { (cap : ℕ) (A B : List Submission) (bytes : List ℕ) → All IsSubmission A
+        → HaveOwnIds A → length A ≤ cap → Saved A bytes → (Loads cap (lines bytes) B ↔ (B ≡ A)) }
+    ensures back { (fills : ℕ) (source : Change SourceState) (ledger : Change LedgerState)
+        (A : List Submission) (bytes : List ℕ) → All IsSubmission A → HaveOwnIds A
+        → length A ≤ ledger.old.cap → Saved A bytes → across (Tells fills) source bytes
+        → (across (AtEnd fills) source (Makes Loads ledger) → ledger.new.accepted ≡ A)
+        × ((e : LoadError) → LoadsUntil fills source ledger e → e ≡ Memory) }
 {}
 
 /// A run, what it holds saved and loaded, and a further run from there are one long run.
 pub fn continued()
-    ensures { ContinuedIsOneRun }
+    ensures { (cap : ℕ) (K L : List (List ℕ)) (Q R : List Answer) (A B C : List Submission)
+        (bytes : List ℕ) → Run cap [] K Q A → Saved A bytes → Loads cap (lines bytes) B
+        → Run cap B L R C → Run cap [] (K ++ L) (Q ++ R) C
+        × (replies_to (K ++ L) (Q ++ R) ≡ replies_to K Q ++ replies_to L R) }
 {}
 
 /// A journal's bytes hold one list of games, which come first whatever follows and which mending
 /// leaves; it gains the lines of new games; and the game of a torn line is there as a whole or not
 /// at all.
 pub fn journaled()
-    ensures one { JournalIsOne }
-    ensures goes_on { JournalGoesOn }
-    ensures mends { JournalMendingMayTear }
-    ensures grows { JournalGrows }
-    ensures tears { JournalMayTear }
+    ensures one { (cap : ℕ) (bytes : List ℕ) (A B : List Submission) → Journals cap bytes A
+        → Journals cap bytes B → A ≡ B }
+    ensures goes_on { (cap : ℕ) (front behind : List ℕ) (A B : List Submission)
+        → Journals cap front A → Journals cap (front ++ behind) B
+        → (later : List Submission) × (B ≡ A ++ later) }
+    ensures mends { (cap : ℕ) (bytes : List ℕ) (A : List Submission) (n : ℕ) → Journals cap bytes A
+        → Journals cap (bytes ++ take n (mending bytes)) A }
+    ensures grows { (cap : ℕ) (bytes text : List ℕ) (A G : List Submission) → Journals cap bytes A
+        → All IsSubmission G → HaveOwnIds (A ++ G) → length (A ++ G) ≤ cap → GameLines G text
+        → Journals cap (bytes ++ mending bytes ++ text) (A ++ G) }
+    ensures tears { (cap : ℕ) (bytes text : List ℕ) (A G : List Submission) (g : Submission) (n : ℕ)
+        → Journals cap bytes A → All IsSubmission (G ++ g ∷ []) → HaveOwnIds (A ++ G ++ g ∷ [])
+        → length (A ++ G ++ g ∷ []) ≤ cap → GameLines G text
+        → let front = bytes ++ mending bytes ++ text ++ take n (with_end (submission_text g)) in
+        Journals cap front (A ++ G) ⊎ Journals cap front (A ++ G ++ g ∷ []) }
 {}
 
 /// The lines that are picked from a journal hold what it holds; of a saved ledger and of lines of
 /// games they are those of its games. Neither a torn line nor what seals it adds one.
 pub fn picked()
-    ensures held { GamesAreHeld }
-    ensures saved { SavedGamesArePicked }
-    ensures lines { GameLinesArePicked }
-    ensures torn { TornAddsNoGame }
-    ensures mended { MendingAddsNoGame }
+    ensures held { (cap : ℕ) (bytes : List ℕ) (A : List Submission) → Journals cap bytes A
+        → Journals cap (games_text bytes) A }
+    ensures saved { (A : List Submission) (bytes : List ℕ) → All IsSubmission A → Saved A bytes
+        → GameLines A (games_text bytes) }
+    ensures lines { (A : List Submission) (bytes : List ℕ) → All IsSubmission A → GameLines A bytes
+        → games_text bytes ≡ bytes }
+    ensures torn { (bytes torn : List ℕ) → All (λ b. b ≢ line_feed) torn
+        → games_text (bytes ++ torn) ≡ games_text bytes }
+    ensures mended { (bytes : List ℕ) → games_text (bytes ++ mending bytes) ≡ games_text bytes }
 {}
 
 /// Totals and errors of loading are equal exactly where they are one value.

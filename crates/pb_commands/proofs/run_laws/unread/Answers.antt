@@ -1,5 +1,9 @@
-use Rattle.pb_commands.proofs.Unread.{refused_is_unread}
+use Rattle.pb_commands.proofs.Unread.{journal_unread}
 use Rattle.pb_commands.proofs.run_laws.unread.Goals as goal
 
 pub returns : goal.returns
-returns c = λ rules fills e why. refused_is_unread rules fills e why
+returns c = record {
+  collect = λ rules fills e why run. run.1;
+  continued = λ rules fills e saved why run. run.1;
+  journaled = journal_unread;
+}

@@ -1,6 +1,6 @@
 use Rattle.std.proofs.Common.{◌≡◌, ◌≢◌, ◌∷◌, ◌++◌, [], List, ◌∙◌, subst, sym}
 use Rattle.std.proofs.lemmas.Result.{err_from_is_err_and}
-use Rattle.pb_epd.specs.Reading.{IsRefused}
+use Rattle.pb_epd.specs.Reading.{RefusesTokens}
 use Rattle.pb_epd.specs.Token.{Token}
 use Rattle.pb_epd.specs.Operation.{Operation}
 use Rattle.pb_epd.proofs.Groups.{operations_more, read_all, read_repeated, read_unended, read_unnamed}
@@ -54,4 +54,4 @@ returns-in_err-note-in-Ok-Operation-clause-refused c =
     let p = err_from_is_err_and c.from_residual.result c.from_residual.ensures.1 in rw (p.1, p.2) (λ ts h.
     let so_far = c.loop-so_far.invariant.read.tokens ts h in
     let some : so_far.others ≢ [] = λ none. let never = sym (taken so_far.others so_far.after).is ∙ none in cc in
-    subst (λ x. IsRefused x ts) (sym c.in_err-note-in-Ok-Operation.ensures.memory) (more_tokens ts _ so_far.others so_far.is some))
+    subst (λ x. RefusesTokens x ts) (sym c.in_err-note-in-Ok-Operation.ensures.memory) (more_tokens ts _ so_far.others so_far.is some))

@@ -1,7 +1,7 @@
 use Rattle.std.proofs.Common.{◌≡◌, ◌≢◌, [], ℕ, List, Result, Ok, Err, ap, arith, length, map, subst}
 use Rattle.std.specs.Prelude.{IfErr, IfOk}
 use Rattle.std.proofs.lemmas.List.{length-map, nil_from_length}
-use Rattle.pb_epd.specs.Reading.{FourFollow, IsRefused}
+use Rattle.pb_epd.specs.Reading.{FourFollow, RefusesTokens}
 use Rattle.pb_epd.specs.Refusal.{IsFourWords}
 use Rattle.pb_epd.specs.Token.{Token, Tokens, TokensAfter, word}
 use Rattle.pb_epd.specs.declared.refusal.EpdError.{EpdError}
@@ -33,11 +33,11 @@ returns-clause-refused c =
 
 -- four words alone have no operation
 no_memory : (bytes a b c d rest : List ℕ) (x : EpdError) → ((ts : List Token) → Tokens ts bytes → FourFollow a b c d rest ts)
-    → ((ts : List Token) → TokensAfter (word d) ts rest → IsRefused x ts) → x ≡ epd.Memory → ¬ IsFourWords bytes
+    → ((ts : List Token) → TokensAfter (word d) ts rest → RefusesTokens x ts) → x ≡ epd.Memory → ¬ IsFourWords bytes
 no_memory bytes a b c d rest x next refused is four =
     let f = next (map word four.0) four.2 in
     let size : length f.others ≡ 0 = omega (arith, ap length f.is, length-map four.0 word, four.1) in
-    let some : f.others ≢ [] = subst (λ y. IsRefused y f.others) is (refused f.others f.after) in
+    let some : f.others ≢ [] = subst (λ y. RefusesTokens y f.others) is (refused f.others f.after) in
     some (nil_from_length f.others size)
 
 pub returns-clause-memory : goal.returns-clause-memory
