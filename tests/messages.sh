@@ -379,8 +379,7 @@ wrong_use() {
         holds tells_of 2 "$first" "$PROGRAM" $words
         holds cmp "$work/replies" due.put
     done
-    # Of a word that isn't UTF-8 the status alone tells.
-    holds tells_of 2 '' "$PROGRAM" show "$(printf 'book\377.bin')"
+    holds tells_of 2 "an argument isn't UTF-8" "$PROGRAM" show "$(printf 'book\377.bin')"
     holds test ! -s "$work/replies"
 }
 
@@ -454,6 +453,32 @@ asked_help() {
         holds tells_of 2 '' "$PROGRAM" $words
         holds test -s "$work/replies"
     done
+}
+
+# after_bytes COMMAND..: runs the command over what is left behind the first bytes of its input
+after_bytes() {
+    dd bs=10 count=1 > /dev/null 2>&1
+    "$@"
+}
+
+# A run that goes on in the midst of a file says so, and one that reads a pipe can't know.
+begun_input() {
+    prepare
+    runner=after_bytes
+    for words in check 'collect table.txt new.bin' 'export table.txt'; do
+        # shellcheck disable=SC2086 # each word is one
+        holds tells_of 0 "standard input isn't at its beginning; its first line may be cut" \
+            "$PROGRAM" $words
+    done
+    cp "$work/replies" printed
+    holds tells_of 0 '' "$PROGRAM" export -q table.txt
+    holds cmp "$work/replies" printed
+    mkfifo pipe
+    tail -c +11 games > pipe &
+    input=pipe runner=
+    holds tells_of 0 '' "$PROGRAM" export table.txt
+    wait
+    holds cmp "$work/replies" printed
 }
 
 no_game() {
@@ -1050,7 +1075,8 @@ terminal_use() {
 if [ $# -eq 0 ]; then
     choose true '' missing_files one_file failed_reads closed_pipe refused_tables \
         refused_books refused_ledger \
-        refused_words wrong_use arguments_wanted words_too_many help_width asked_help no_game \
+        refused_words wrong_use arguments_wanted words_too_many help_width asked_help begun_input \
+        no_game \
         bad_journal_line told_at_once other_book odd_names left_out_lines no_games \
         games_to_themselves \
         cut_ledger cut_input no_file reasons counted

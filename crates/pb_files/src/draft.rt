@@ -1,15 +1,17 @@
 //! The draft of a file that is to be made anew.
 
-ghost use Rattle.std.specs.Prelude.{◌≡◌, IfErr, IfOk};
+ghost use Rattle.std.specs.Prelude.{◌≡◌, IfErr};
 ghost use Rattle.pb_commands.specs.declared.store.StoreError.TheVariants.{Write};
 ghost use Rattle.pb_files.specs.Ends.{IsSynced};
 
 use crate::holding::{hold, is_same, sync_folder};
+use crate::stop::told;
 use crate::system_file::SystemFile;
 use pb_commands::StoreError;
-use pb_messages::{Cause, Message, Named};
+use pb_messages::{Cause, Named};
 use std::fs::{self, File, OpenOptions};
-use std::io::{self, ErrorKind, Seek};
+use std::io::ErrorKind::NotFound;
+use std::io::{self, Seek};
 use std::os::unix::fs::{MetadataExt, OpenOptionsExt};
 use std::path::{Path, PathBuf};
 
@@ -24,15 +26,14 @@ pub(crate) struct Draft<'a> {
     draft: PathBuf,
     old: Option<File>,
     reads: bool,
-    file: File,
-    // It could not be given the name.
-    stays: bool,
+    // None until it is opened, and where it could not be given the name, and so stays.
+    file: Option<File>,
 }
 
 impl Drop for Draft<'_> {
     fn drop(self) {
-        if !self.stays && self.is_there() {
-            let _ = fs::remove_file(self.named.messages.rt, self.draft.as_path());
+        if self.is_there() {
+            let _ = fs::remove_file(self.named.messages.rt, &self.draft);
         }
         let Draft {
             named: _,
@@ -41,7 +42,6 @@ impl Drop for Draft<'_> {
             old: _,
             reads: _,
             file: _,
-            stays: _,
         } = self;
     }
 }
@@ -54,66 +54,60 @@ impl<'a> Draft<'a> {
         let path = resolve(rt, named.name)?;
         let old = match fs::metadata(rt, named.name) {
             Ok(told) if !told.is_file() && !told.is_dir() => return Ok(None),
-            Err(error) if error.kind() == ErrorKind::NotFound => None,
-            _ => {
-                let mut options = OpenOptions::new();
-                options.read(reads).write(true);
-                Some(hold(rt, &options, path.as_path())?)
-            }
+            Err(error) if error.kind() == NotFound => None,
+            _ => Some(hold(rt, OpenOptions::new().read(reads).write(true), &path)?),
         };
-        let draft = draft_path(rt, path.as_path())?;
-        let file = open_draft(rt, draft.as_path(), old.as_ref())?;
-        let draft = Draft {
+        let draft = draft_path(rt, &path)?;
+        let mut draft = Draft {
             named,
             path,
             draft,
             old,
             reads,
-            file,
-            stays: false,
+            file: None,
         };
-        draft.fit()?;
+        draft.open()?;
         Ok(Some(draft))
+    }
+
+    /// Opens the draft, empties it, since a run that was killed may have left it, and makes it as
+    /// private as the old file.
+    fn open(&mut self) -> io::Result<()> {
+        let old = self.old.as_ref().map(File::metadata).transpose()?;
+        let mut options = OpenOptions::new();
+        options.read(true).write(true).create(true);
+        options.mode(old.as_ref().map_or(ANYBODY, MetadataExt::mode));
+        let file = self
+            .file
+            .insert(hold(self.named.messages.rt, &options, &self.draft)?);
+        file.set_len(0)?;
+        if let Some(old) = old {
+            if old.dev() != file.metadata()?.dev() {
+                return Err(io::Error::other("something is mounted on it"));
+            }
+            file.set_permissions(old.permissions())?;
+        }
+        Ok(())
     }
 
     /// Gives the file of the draft, which is made anew where somebody has removed it.
     pub(crate) fn file(&mut self) -> io::Result<File> {
         if !self.is_there() {
-            let rt = self.named.messages.rt;
-            self.file = open_draft(rt, self.draft.as_path(), self.old.as_ref())?;
-            self.fit()?;
+            self.open()?;
         }
-        self.file.try_clone()
+        copy(&self.file, "its draft is gone")
     }
 
     /// Whether the draft is this run's still: another may have made one where this is removed.
     fn is_there(&self) -> bool {
-        let found = fs::symlink_metadata(self.named.messages.rt, self.draft.as_path());
-        match (self.file.metadata(), found) {
-            (Ok(told), Ok(found)) => is_same(&told, &found),
-            _ => false,
-        }
-    }
-
-    /// Makes it empty, since a run that was killed may have left it, and as private as the old file.
-    fn fit(&self) -> io::Result<()> {
-        self.file.set_len(0)?;
-        if let Some(old) = &self.old {
-            let told = old.metadata()?;
-            if told.dev() != self.file.metadata()?.dev() {
-                return Err(io::Error::other("something is mounted on it"));
-            }
-            self.file.set_permissions(told.permissions())?;
-        }
-        Ok(())
+        let found = fs::symlink_metadata(self.named.messages.rt, &self.draft);
+        let file = self.file.as_ref();
+        file.is_some_and(|file| is_same(file.metadata(), found))
     }
 
     /// Gives another handle of what had the name at the start.
     pub(crate) fn old(&self) -> io::Result<File> {
-        match &self.old {
-            Some(old) => old.try_clone(),
-            None => Err(io::Error::other("no such file (an empty one begins a ledger)")),
-        }
+        copy(&self.old, "no such file (an empty one begins a ledger)")
     }
 
     /// Gives another name to a file that isn't as long any more as this run has read it, and tells
@@ -122,80 +116,68 @@ impl<'a> Draft<'a> {
         let (Some(mut old), true) = (self.old.as_ref(), self.reads) else {
             return Ok(());
         };
-        let (Named { messages, name }, path) = (self.named, self.path.as_path());
+        let (Named { messages, name }, path) = (self.named, &self.path);
         match fs::metadata(messages.rt, path) {
             Ok(told) if told.len() != old.stream_position()? => {}
             _ => return Ok(()),
         }
-        let changed = format!(in messages.rt.alloc(); "{}.changed", path.as_str())?;
-        let changed = changed.as_str();
-        if let Err(error) = fs::hard_link(messages.rt, path, changed) {
-            Named::new(messages, changed).fail(&error);
-            return Err(io::Error::other("another program has changed it"));
-        }
-        messages.tell(&Message::Changed(name, changed));
+        let kept = format!(in messages.rt.alloc(); "{}.changed", path.as_str())?;
+        let kept = kept.as_str();
+        let linked = fs::hard_link(messages.rt, path, kept);
+        let why = io::Error::other("another program has changed it");
+        told(Named::new(messages, kept), linked, why)?;
+        messages.tell(&format_args!("{name}: another program has changed it; {kept} keeps that"));
         Ok(())
     }
 
     /// Gives the name to the draft, which is this file. Where that fails the draft stays, and is told:
     /// it has all that the run took.
-    pub(crate) fn name(&mut self, file: SystemFile<'a>) -> Result<SystemFile<'a>, StoreError>
-        requires { IsSynced file }
-        ensures ok { IfOk result (λ named. named ≡ file.entry) }
-        ensures err { IfErr result (λ why. why ≡ Write) }
+    pub(crate) fn name(&mut self, _file: &SystemFile<'a>) -> Result<(), StoreError>
+        requires { IsSynced _file.now }
+        ensures { IfErr result (λ why. why ≡ Write) }
     {
         let Named { messages, name } = self.named;
         if !self.is_there() {
             self.named.fail(&io::Error::other("its draft is gone"));
             return Err(StoreError::Write);
         }
-        let draft = self.draft.as_path();
-        if let Err(error) = fs::rename(messages.rt, draft, self.path.as_path()) {
-            self.stays = true;
-            messages.tell(&Message::Unnamed(name, Cause::of(&error), draft.as_str()));
+        if let Err(error) = fs::rename(messages.rt, &self.draft, &self.path) {
+            self.file = None;
+            let (cause, draft) = (Cause(&error), self.draft.as_str());
+            messages.tell(&format_args!("{name}: {cause}; the new one is {draft}"));
             return Err(StoreError::Write);
         }
-        Ok(file)
+        Ok(())
     }
 
     pub(crate) fn sync_name(&self) -> io::Result<()> {
-        sync_folder(self.named.messages.rt, self.path.as_path())
+        sync_folder(self.named.messages.rt, &self.path)
     }
 }
 
-fn open_draft(rt: &HostRuntime, draft: Path<'_>, old: Option<&File>) -> io::Result<File> {
-    let mode = match old {
-        Some(old) => old.metadata()?.mode(),
-        None => ANYBODY,
-    };
-    let mut options = OpenOptions::new();
-    options.read(true).write(true).create(true).mode(mode);
-    hold(rt, &options, draft)
+fn copy(file: &Option<File>, missing: &'static str) -> io::Result<File> {
+    file.as_ref().ok_or(io::Error::other(missing))?.try_clone()
 }
 
 /// Gives the path of the draft that a file of this name has.
 pub fn draft_of(rt: &HostRuntime, name: &str) -> io::Result<PathBuf> {
-    draft_path(rt, resolve(rt, name)?.as_path())
+    draft_path(rt, &resolve(rt, name)?)
 }
 
 /// Follows links, where they lead to something.
 fn resolve(rt: &HostRuntime, name: &str) -> io::Result<PathBuf> {
     match fs::canonicalize(rt, name) {
-        Err(error) if error.kind() == ErrorKind::NotFound => {
-            Ok(Path::new(name).to_path_buf(rt.alloc())?)
-        }
+        Err(error) if error.kind() == NotFound => Ok(Path::new(name).to_path_buf(rt.alloc())?),
         path => path,
     }
 }
 
 /// Fails where the path doesn't end in a file's name.
-fn draft_path(rt: &HostRuntime, path: Path<'_>) -> io::Result<PathBuf> {
-    let Some(name) = path
+fn draft_path(rt: &HostRuntime, path: &PathBuf) -> io::Result<PathBuf> {
+    let name = path
         .file_name()
         .filter(|name| path.as_str().ends_with(*name))
-    else {
-        return Err(io::Error::other("a file has to be named"));
-    };
+        .ok_or(io::Error::other("a file has to be named"))?;
     let name = format!(in rt.alloc(); ".{name}.pbook")?;
     Ok(path.with_file_name(rt.alloc(), name.as_str())?)
 }

@@ -2,17 +2,18 @@
 
 ghost use Rattle.std.specs.Prelude.{◌≡◌};
 ghost use Rattle.pb_files.specs.Ends.{syncs};
-ghost use Rattle.pb_program.specs.Ordered.{IsLedgerPath, is_synced};
+ghost use Rattle.pb_program.specs.Ordered.{is_synced};
 
-use crate::command::{FileSource, input, source};
+use crate::command::input;
 use crate::ordered;
 use crate::outcome::{path_of, spare_games};
 use pb_cli::{CollectOrder, Ends, Keeping, LedgerEnds, LoadError, Refused, Report, Watcher};
 use pb_files::{
-    KeptFile, Replies, SYNCED, Stop, Submissions, WRITTEN, draft_of, keep_apart, open_journal,
+    FileSource, KeptFile, Replies, SYNCED, Stop, Submissions, WRITTEN, draft_of, keep_apart, open,
+    open_journal,
 };
-use pb_io::{Fault, Sink, Source, ToWrite};
-use pb_messages::{Messages, Named, Progress, Watching};
+use pb_io::{Fault, FromRead, Sink, Source, ToWrite};
+use pb_messages::{Messages, Named, Progress};
 use std::cell::RefCell;
 
 /// Where the file of standard input is found.
@@ -28,35 +29,32 @@ pub(crate) fn collect<'a>(
     output: &mut impl Sink,
 ) -> Result<bool, Stop> {
     let output = RefCell::new(output);
-    let progress = Progress::new(messages, true);
     let kept = path_of(order.kept);
-    expect_apart(messages, order, kept)?;
-    spare_games(messages, order.book)?;
-    let mut ends = Ends {
-        table: source(messages, order.table)?,
-        lines: Submissions::new(input(messages), &output, &progress),
-        replies: ToWrite::new(Replies(&output)),
-        watcher: Watching::new(&progress, kept),
-    };
-    let report = run(messages, order, &mut ends)?;
-    progress.end(report.totals, Some((order.book, report.entries)));
-    Ok(true)
-}
-
-fn expect_apart<'a>(
-    messages: Messages<'a>,
-    order: &CollectOrder<'a>,
-    kept: &'a str,
-) -> Result<(), Stop> {
+    let progress = Progress::new(messages, kept, true);
     // A line that tells of it would be written into that file.
     let unwritten = Stop::Fault(Fault::Write);
     if let Ok(draft) = draft_of(messages.rt, order.book) {
         keep_apart(messages, &[draft.as_str(), OUTPUT], unwritten)?;
     }
-    keep_apart(messages, &[order.table, OUTPUT], unwritten)?;
-    keep_apart(messages, &[kept, OUTPUT], unwritten)?;
+    for path in [order.table, kept] {
+        keep_apart(messages, &[path, OUTPUT], unwritten)?;
+    }
     keep_apart(messages, &[order.table, kept, order.book], Stop::NotOpened)?;
-    keep_apart(messages, &[kept, order.book, INPUT], Stop::NotOpened)
+    keep_apart(messages, &[kept, order.book, INPUT], Stop::NotOpened)?;
+    spare_games(messages, order.book)?;
+    let mut ends = Ends {
+        table: open(messages, order.table)?,
+        lines: FromRead::new(Submissions {
+            input: input(messages),
+            replies: Replies::new(&output),
+            progress: &progress,
+        }),
+        replies: ToWrite::new(Replies::new(&output)),
+        watcher: &progress,
+    };
+    let report = run(messages, order, &mut ends)?;
+    progress.end(report.totals, Some((order.book, report.entries)));
+    Ok(true)
 }
 
 /// What can't be opened or held of BOOK is told before a submission is read, and ends the run after
@@ -66,12 +64,22 @@ fn run<'a>(
     order: &CollectOrder<'a>,
     ends: &mut Ends<FileSource<'a>, impl Source, impl Sink, impl Watcher>,
 ) -> Result<Report, Stop> {
+    let alloc = messages.rt.alloc();
     match order.kept {
         Keeping::Book => {
             let mut book = KeptFile::new(Named::new(messages, order.book), false);
-            Ok(ordered::collect(messages.rt.alloc(), order, ends, &mut book)?)
+            Ok(ordered::collect(alloc, order, ends, &mut book)?)
         }
-        Keeping::Ledger(path) => go_on(Named::new(messages, path), order, ends),
+        // A saved ledger is made anew after the run and before the book.
+        Keeping::Ledger(path) => {
+            let store = KeptFile::new(Named::new(messages, path), true);
+            let mut ledger = LedgerEnds {
+                saved: store.reader()?,
+                store,
+            };
+            let mut book = KeptFile::new(Named::new(messages, order.book), false);
+            Ok(ordered::go_on(alloc, order, ends, &mut ledger, &mut book)?)
+        }
         Keeping::Journal { path, sync } => {
             let named = Named::new(messages, path);
             if sync {
@@ -81,24 +89,6 @@ fn run<'a>(
             }
         }
     }
-}
-
-/// A saved ledger is made anew after the run and before the book.
-fn go_on<'a>(
-    named: Named<'a>,
-    order: &CollectOrder<'a>,
-    ends: &mut Ends<FileSource<'a>, impl Source, impl Sink, impl Watcher>,
-) -> Result<Report, Stop>
-    requires { IsLedgerPath order.now.kept named.name.now }
-{
-    let store = KeptFile::new(named, true);
-    let mut ledger = LedgerEnds {
-        saved: store.reader()?,
-        store,
-    };
-    let mut book = KeptFile::new(Named::new(named.messages, order.book), false);
-    let alloc = named.messages.rt.alloc();
-    Ok(ordered::go_on(alloc, order, ends, &mut ledger, &mut book)?)
 }
 
 fn add_games<'a, const MODE: u8>(

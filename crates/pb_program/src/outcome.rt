@@ -2,7 +2,7 @@
 
 use pb_cli::{CollectOrder, ExportOrder, Keeping, Order, Refused};
 use pb_files::Stop;
-use pb_messages::{Looks, Message, Messages, looks_of};
+use pb_messages::{Looks, Messages, looks_of};
 use std::fmt::Display;
 use std::fs::{self, File};
 use std::io::Read;
@@ -20,16 +20,16 @@ pub(crate) fn tell_refused(messages: Messages<'_>, order: &Order<'_>, why: &Refu
             | Order::Tree { table, .. }
             | Order::Collect(CollectOrder { table, .. })
             | Order::Export(ExportOrder { table, .. }),
-        ) => tell_file(messages, Due::Table, table, why),
+        ) => tell_file(messages, Looks::Table, table, why),
         (
             Refused::Book(_),
             Order::Show { book }
             | Order::Probe { book, .. }
             | Order::Lookup { book, .. }
             | Order::Tree { book, .. },
-        ) => tell_file(messages, Due::Book, book, why),
+        ) => tell_file(messages, Looks::Book, book, why),
         (Refused::Ledger(_), Order::Collect(order)) => {
-            tell_file(messages, Due::Games, path_of(order.kept), why);
+            tell_file(messages, Looks::Games, path_of(order.kept), why);
         }
         _ => messages.tell(why),
     }
@@ -43,23 +43,13 @@ pub(crate) fn path_of(kept: Keeping<'_>) -> &str {
     }
 }
 
-/// What a file has to look like.
-#[derive(Clone, Copy)]
-enum Due {
-    Table,
-    Book,
-    Games,
-}
-
-fn tell_file<E: Display>(messages: Messages<'_>, due: Due, name: &str, why: &E) {
-    match (due, looks_of_file(messages.rt, name)) {
-        (_, None)
-        | (Due::Table, Some(Looks::Table | Looks::Text))
-        | (Due::Book, Some(Looks::Book))
-        | (Due::Games, Some(Looks::Games | Looks::Text)) => {
-            messages.tell(&format_args!("{name}: {why}"));
+/// Tells what it looks like too, unless it looks as it has to, or is text that may be meant so.
+fn tell_file<E: Display>(messages: Messages<'_>, due: Looks, name: &str, why: &E) {
+    match looks_of_file(messages.rt, name) {
+        Some(looks) if looks != due && (looks != Looks::Text || due == Looks::Book) => {
+            messages.tell(&format_args!("{name}: {why}; it {looks}"));
         }
-        (_, Some(looks)) => messages.tell(&format_args!("{name}: {why}; it {looks}")),
+        _ => messages.tell(&format_args!("{name}: {why}")),
     }
 }
 
@@ -67,7 +57,7 @@ fn tell_file<E: Display>(messages: Messages<'_>, due: Due, name: &str, why: &E) 
 pub(crate) fn may_hold_games(messages: Messages<'_>, name: &str) -> bool {
     let may = matches!(looks_of_file(messages.rt, name), None | Some(Looks::Games));
     if !may {
-        tell_file(messages, Due::Games, name, &"it holds no game");
+        tell_file(messages, Looks::Games, name, &"it holds no game");
     }
     may
 }
@@ -77,11 +67,13 @@ pub(crate) fn may_hold_games(messages: Messages<'_>, name: &str) -> bool {
 pub(crate) fn spare_games(messages: Messages<'_>, book: &str) -> Result<(), Stop> {
     match looks_of_file(messages.rt, book) {
         Some(Looks::Games) => {
-            messages.tell(&Message::HoldsGames(book));
+            messages.tell(&format_args!("{book} holds games, and stays"));
             return Err(Stop::NotOpened);
         }
         Some(Looks::Book) | None => {}
-        Some(looks) => messages.warn(&Message::Replaced(book, looks)),
+        Some(looks) => {
+            messages.warn(&format_args!("{book}: a book takes its place; it {looks}"));
+        }
     }
     Ok(())
 }

@@ -1,7 +1,7 @@
 //! The program `pbook`: hands the words of its command line on.
 #![tactic(auto)]
 
-use pb_program::{USAGE_STATUS, run, tell_no_memory};
+use pb_program::{run, tell_no_memory, tell_not_text};
 use std::alloc::AllocError;
 use std::process::ExitCode;
 use std::{env, io};
@@ -15,7 +15,7 @@ fn status(rt: &HostRuntime) -> u8 {
     let given = match arguments(rt) {
         Ok(given) => given,
         Err(error) if error.kind() == io::ErrorKind::OutOfMemory => return tell_no_memory(rt),
-        Err(_) => return USAGE_STATUS,
+        Err(_) => return tell_not_text(rt),
     };
     let words: Result<Vec<&str>, AllocError> = given
         .iter()
