@@ -1,9 +1,10 @@
 #!/bin/sh
 # Makes submissions of the games in PGN files, also of packed ones (.gz, .zst, .bz2, .xz): a line
-# for each game, with the ids NAME-1, NAME-2 and so on over all files. So give each run a name of
-# its own. Standard error tells of each file how many games it has, how many of them pgn-extract
-# left out, as one with an illegal move, and how many it cut, as their text doesn't lead to a
-# result. What a cut game gives is no whole game: mend the file, or leave that game out.
+# for each game, with the ids NAME-1, NAME-2 and so on over all files. So give each PGN file, or
+# each list of them, a name of its own, which it keeps as it grows. Standard error tells of each
+# file how many games it has, how many of them pgn-extract left out, as one with an illegal move,
+# and how many it cut, as their text doesn't lead to a result. What a cut game gives is no whole
+# game: mend the file, or leave that game out.
 # Usage: pgn_to_lines.sh NAME FILE.. > lines
 set -eu
 PATH=$PATH:/usr/games

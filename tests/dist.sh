@@ -165,6 +165,50 @@ from_pgn() {
     note "$(wc -l < "$work/book.bin.entries") entries"
 }
 
+# runs HEADING: the commands below this heading of GUIDE, up to one that begins with `ssh` and without
+# a crontab's line, end with status 0
+runs() {
+    awk -v heading="## $1" '/^## / { is_due = $0 == heading }
+        is_due && /^    ssh / { exit }
+        is_due && /^    [^0-9]/ { print substr($0, 5) }' ../docs/GUIDE.md > commands
+    holds test -s commands
+    holds env PATH="$PWD/../bin:$PWD:$PATH" START="$start" bash -eu -o pipefail commands \
+        > printed 2> errors < /dev/null
+}
+
+# guide: the commands of GUIDE, run as they stand there over the bundled games
+guide() {
+    start='rnbqkbnr/pppppppp/8/8/8/8/PPPPPPPP/RNBQKBNR w KQkq - 0 1'
+    mkdir "$work/unpacked/top/guide"
+    cd "$work/unpacked/top/guide"
+    ln -s ../examples .
+    cp ../examples/table.txt .
+    for name in lines tonight.txt a.journal; do cp ../examples/games.txt "$name"; done
+    head -n 9 lines > b.journal
+    for name in games 2023 2024; do
+        sed 's/^\[Result/[WhiteElo "3500"]\n[BlackElo "3500"]\n&/' ../examples/games.pgn > "$name.pgn"
+    done
+    printf '#!/bin/sh\nexec cat\n' > less
+    chmod +x less
+    runs 'Every night'
+    runs 'Looking at the book, and using it'
+    runs 'A service'
+    runs 'Several collectors, and more than a million games'
+    holds cmp book.bin ../examples/book.bin
+    runs 'An opening suite'
+    holds grep -q "there are $(wc -l < suite.epd):" ../docs/GUIDE.md
+    runs 'Choosing games'
+    for name in lines kept.pgn sicilian decided kept.ledger by_content; do holds test -s "$name"; done
+}
+
+# figures: what README says of the time beside PolyGlot stands in PERFORMANCE
+figures() {
+    sed -n 's/^| one PGN file //p' README.md | grep -o '[0-9][0-9.]*' | grep -vx 24 > "$work/due"
+    holds test "$(wc -l < "$work/due")" -eq 4
+    awk '/^## / { is_due = /PolyGlot/ } is_due' docs/PERFORMANCE.md > "$work/found"
+    while read -r number; do holds grep -qw -e "$number" "$work/found"; done < "$work/due"
+}
+
 # shared: what converts games is packed twice, in examples and where `make install` puts it
 shared() {
     cd "$work/unpacked/top"
@@ -228,6 +272,7 @@ else
     leave_out 'objdump is wanted' 'the C library'
 fi
 check "README's first commands print what stands there" first_run
+check "README's figures are those of PERFORMANCE" figures
 check 'two workers make the bundled book' workers
 check 'submissions.awk makes submissions' submissions
 check 'another table is refused' table_refused
@@ -241,6 +286,7 @@ fi
 if has pgn-extract && has polyglot; then
     check 'from PGN to a book by the commands of README' from_bundled_pgn
     check "over other games they make PolyGlot's entries" from_pgn
+    check 'the commands of GUIDE' guide
 else
     leave_out 'pgn-extract and polyglot are wanted' 'from PGN to a book'
 fi

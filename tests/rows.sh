@@ -19,11 +19,15 @@ slow="$tab(moves${tab}count|table${tab}cut)$tab|[0-9]{3}[*][a-z]*#|^line-of-218-
 # rows_of PATTERN: the rows in which this is found
 rows_of() { grep -v '^#' "$given/data/rows.txt" | grep -E "$1"; }
 
-# due_to FILE: the lines that are due to the rows of this file. Each begins with its row's name.
+# due_to FILE: what is due to the rows of this file. The first line of an answer begins with its
+# row's name, and those of a run that printed more come after it.
 due_to() {
-    awk 'NR == FNR { sub(/\t.*/, ""); named[$0]; next }
+    awk 'part == 1 && sub(/\t.*/, "") { is_row[$0] }
+        part == 2 && sub(/\t.*/, "") { is_due_row[$0] }
+        part < 3 { next }
         { name = $0; sub(/: .*/, "", name) }
-        name in named' "$1" "$given/stdout"
+        name in is_row { is_due = name in is_due_row }
+        is_due' part=1 "$given/data/rows.txt" part=2 "$1" part=3 "$given/stdout"
 }
 
 # answers PATTERN [PATTERN]: the rows in which the first pattern is found, and the second one isn't,
@@ -33,9 +37,10 @@ answers() {
     cp -R "$given/data" "$work/run"
     rows_of "$1" | grep -Ev "${2-^$}" > "$work/run/rows.txt"
     due_to "$work/run/rows.txt" > "$work/due"
-    rows=$(wc -l < "$work/run/rows.txt")
-    note "$rows rows, $(wc -l < "$work/due") lines"
-    holds test "$(sed 's/: .*//' "$work/due" | sort -u | wc -l)" -eq "$rows"
+    note "$(wc -l < "$work/run/rows.txt") rows, $(wc -l < "$work/due") lines"
+    cut -f 1 "$work/run/rows.txt" | LC_ALL=C sort > "$work/names"
+    sed 's/: .*//' "$work/due" | LC_ALL=C sort -u | LC_ALL=C comm -23 "$work/names" - > "$work/without"
+    holds test ! -s "$work/without"
     cd "$work/run"
     status=0
     timeout "$patience" env -i "$PROGRAM" < "$given/stdin" > "$work/put" 2> "$work/errors" ||
