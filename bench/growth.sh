@@ -17,7 +17,7 @@ grow() {
     awk -F'\t' '{ printf "[Event \"?\"]\n[Result \"%s\"]\n\n%s %s\n\n", $2, $4, $2 }' "$work/lines" |
         pgn-extract -s -Wsan > "$work/games.pgn"
     bash bench/pair.sh "$1" "build/pbook collect examples/table.txt $work/book < $work/lines" \
-        "polyglot make-book -pgn $work/games.pgn -bin $work/other -max-ply 1024 -min-game 1"
+        "polyglot make-book -pgn $work/games.pgn -bin $work/other -max-ply 1024 -min-game 1" 2>&1
 }
 
 for count in 5000 20000 100000; do
