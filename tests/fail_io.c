@@ -3,7 +3,7 @@
 // FAIL_AT is the number, from 1, of the call that fails with EIO and moves nothing. SHORT_AT is that of the call that moves at most one byte; a
 // sync that it hits does what it would do else. Calls of read, pread, readv, write, pwrite, writev, fsync and fdatasync count together, in their
 // order, from the start of this object, which comes after the loader's work and before any function of the program, to its end, which comes after
-// `main`.
+// `main`. Notes of the system on open files (/proc/self/fdinfo) don't count.
 //
 // IO_TOLD is a file that is made at the end. It has one line: the number of calls, what the call was that FAIL_AT or SHORT_AT hit (`read`, `write`
 // or `sync`, or `none`), the number of its file, and the name that this file had, without its folder.
@@ -51,14 +51,25 @@ __attribute__((destructor)) static void tell(void) {
     if (!file || fprintf(file, "%lu %s %d %s\n", calls, hit, hit_file, hit_name) < 0 || fclose(file)) _exit(99);
 }
 
+// Gives the open file's name, or an empty text where it has none.
+static void name_of(int file, char path[PATH_MAX]) {
+    char link[64];
+    snprintf(link, sizeof link, "/proc/self/fd/%d", file);
+    const ssize_t length = readlink(link, path, PATH_MAX - 1);
+    path[length > 0 ? length : 0] = 0;
+}
+
+// Whether the file is a note of the system's on an open file: no run depends on it.
+static bool is_note(int file) {
+    char path[PATH_MAX];
+    name_of(file, path);
+    return strstr(path, "/fdinfo/") != NULL;
+}
+
 // Keeps the last part of the open file's name.
 static void keep_name(int file) {
-    char link[64];
     char path[PATH_MAX];
-    snprintf(link, sizeof link, "/proc/self/fd/%d", file);
-    const ssize_t length = readlink(link, path, sizeof path - 1);
-    if (length <= 0) return;
-    path[length] = 0;
+    name_of(file, path);
     const char *slash = strrchr(path, '/');
     strcpy(hit_name, slash ? slash + 1 : path);
 }
@@ -66,7 +77,7 @@ static void keep_name(int file) {
 // Counts a call, and says what becomes of it.
 static enum fate fate_of(enum kind kind, int file) {
     static const char *const names[] = {"read", "write", "sync"};
-    if (!counting) return PASSES;
+    if (!counting || is_note(file)) return PASSES;
     calls++;
     if (calls != failing && calls != shortened) return PASSES;
     hit = names[kind];
