@@ -47,11 +47,7 @@ impl Fen {
     pub fn new(setup: Setup, half: u16, full: u16) -> Option<Fen>
         ensures { SomeIff result (0 < full) (record_of setup half full) }
     {
-        if full == 0 {
-            None
-        } else {
-            Some(Fen::with_clocks(setup, half, full))
-        }
+        (full > 0).then(|| Fen::with_clocks(setup, half, full))
     }
 
     /// Gives the setup.

@@ -1,7 +1,6 @@
 //! The text of one rank.
 
-ghost use Rattle.std.specs.Prelude.{◌≡◌, ◌≢◌, ◌↔◌, ◌≤◌, ◌+◌, ◌-◌, ◌<◌, List, length, MatchOption};
-ghost use Rattle.std.specs.Prelude.{SomeIff};
+ghost use Rattle.std.specs.Prelude.{◌≡◌, ◌≢◌, ◌↔◌, List, length, MatchOption};
 ghost use Rattle.pb_board.specs.Board.{Place};
 ghost use Rattle.pb_board.specs.Ranks.{RankText};
 ghost use Rattle.pb_board.specs.Text.{piece_letter};
@@ -30,31 +29,22 @@ pub(crate) fn read_rank(text: &[u8]) -> Option<[Option<Piece>; 8]>
     let mut file = 0;
     let mut after_digit = false;
     for byte in text {
-        if let Some(piece) = piece_of(*byte) {
+        if let b'1'..=b'8' = *byte {
+            let run = (*byte - b'0') as usize;
+            if after_digit || file + run > 8 {
+                return None;
+            }
+            file += run;
+            after_digit = true;
+        } else {
+            let piece = piece_of(*byte)?;
             if file == 8 {
                 return None;
             }
             squares[file] = Some(piece);
             file += 1;
             after_digit = false;
-        } else {
-            let run = digit(*byte)?;
-            if after_digit || file + run > 8 {
-                return None;
-            }
-            file += run;
-            after_digit = true;
         }
     }
     if file == 8 { Some(squares) } else { None }
-}
-
-fn digit(byte: u8) -> Option<usize>
-    ensures { SomeIff result ((49 ≤ byte) × (byte ≤ 56)) (byte - 48) }
-{
-    if (b'1'..=b'8').contains(&byte) {
-        Some((byte - b'0') as usize)
-    } else {
-        None
-    }
 }

@@ -1,55 +1,34 @@
 //! Reads FEN records.
 
 ghost use Rattle.std.specs.Prelude.{◌≡◌, map, take, Ok, IfOk, IfErr, MatchResult};
-ghost use Rattle.pb_board.specs.Position.{Position, Record, IsSetup, position_of};
+ghost use Rattle.pb_board.specs.Position.{Position, Record, IsSetup};
 ghost use Rattle.pb_board.specs.Fields.{fields, space};
 ghost use Rattle.pb_board.specs.FourFields.{SpellFour};
 ghost use Rattle.pb_board.specs.Position.{IsRecord};
-ghost use Rattle.pb_board.specs.Refusal.{IsDueFen, IsFirstOf, fen_errors, of_setup};
+ghost use Rattle.pb_board.specs.Refusal.{IsDueFen, IsFirstFault, IsFirstOf, fen_errors, of_setup};
 ghost use Rattle.pb_board.specs.Text.{fen_text, setup_fields};
 
 use crate::fen::Fen;
 use crate::fields::cut_fields;
 use crate::number::read_number;
-use crate::piece::{Colour, Piece};
 use crate::placement::read_placement;
-use crate::refusal::FenError;
-use crate::setup::{Rights, Setup};
-use crate::square::Square;
+use crate::refusal::{FenError, SetupError};
+use crate::setup::Setup;
 use crate::state_fields::{read_en_passant, read_rights, read_turn};
 
-#[derive(Clone, Copy)]
-struct FourFields {
-    board: [Option<Piece>; 64],
-    turn: Colour,
-    rights: Rights,
-    ep: Option<Square>,
-}
-
-fn read_four(four: [&[u8]; 4]) -> Result<FourFields, FenError>
+/// The fault of the setup is apart, since those of the clocks come before it.
+fn read_four(four: [&[u8]; 4]) -> Result<Result<Setup, SetupError>, FenError>
     ensures { let texts = map (λ t. t.now) four.entry in
-        MatchResult result (λ p. SpellFour (position_of p.board p.turn p.rights p.ep) texts)
+        MatchResult result (λ setup. (p : Position) × SpellFour p texts
+        × MatchResult setup (λ s. (s ≡ p) × IsSetup p) (λ e. IsFirstFault e p))
         (IsFirstOf (take 4 of_setup) (IsDueFen texts)) }
 {
     let [placement, turn, castling, en_passant] = four;
-    let Some(board) = read_placement(placement) else {
-        return Err(FenError::Placement);
-    };
-    let Some(turn) = read_turn(turn) else {
-        return Err(FenError::Turn);
-    };
-    let Some(rights) = read_rights(castling) else {
-        return Err(FenError::Castling);
-    };
-    let Some(ep) = read_en_passant(en_passant, turn) else {
-        return Err(FenError::EnPassantText);
-    };
-    Ok(FourFields {
-        board,
-        turn,
-        rights,
-        ep,
-    })
+    let board = read_placement(placement).ok_or(FenError::Placement)?;
+    let turn = read_turn(turn).ok_or(FenError::Turn)?;
+    let rights = read_rights(castling).ok_or(FenError::Castling)?;
+    let ep = read_en_passant(en_passant, turn).ok_or(FenError::EnPassantText)?;
+    Ok(Setup::build(board, turn, rights, ep))
 }
 
 /// Reads the setup that the first four fields of a record spell (PGN Standard 16.1.3.1 to 16.1.3.4).
@@ -64,8 +43,7 @@ pub fn read_setup(four: [&[u8]; 4]) -> Result<Setup, FenError>
         → result ≡ Ok p }
     ensures refused { IfErr result (IsFirstOf of_setup (IsDueFen (map (λ t. t.now) four.entry))) }
 {
-    let spelt = read_four(four)?;
-    Ok(Setup::build(spelt.board, spelt.turn, spelt.rights, spelt.ep)?)
+    Ok(read_four(four)??)
 }
 
 /// Reads the record that the text spells: six fields with single spaces between (PGN Standard 16.1).
@@ -78,17 +56,12 @@ pub fn read_fen(text: &[u8]) -> Result<Fen, FenError>
     ensures only { (f : Record) → IsRecord f → text.now ≡ fen_text f → result ≡ Ok f }
     ensures refused { IfErr result (IsFirstOf fen_errors (IsDueFen (fields space text.now))) }
 {
-    let Some((placement, turn, castling, en_passant, half, full)) = cut_fields(text) else {
-        return Err(FenError::Fields);
-    };
-    let spelt = read_four([placement, turn, castling, en_passant])?;
-    let Some(half) = read_number(half) else {
-        return Err(FenError::Half);
-    };
+    let (placement, turn, castling, ep, half, full) = cut_fields(text).ok_or(FenError::Fields)?;
+    let setup = read_four([placement, turn, castling, ep])?;
+    let half = read_number(half).ok_or(FenError::Half)?;
     let full = read_number(full).unwrap_or(0);
     if full == 0 {
         return Err(FenError::Full);
     }
-    let setup = Setup::build(spelt.board, spelt.turn, spelt.rights, spelt.ep)?;
-    Ok(Fen::with_clocks(setup, half, full))
+    Ok(Fen::with_clocks(setup?, half, full))
 }

@@ -42,9 +42,7 @@ pub fn cut_line(line: &[u8]) -> Result<LineFields<'_>, Refusal>
     if line.len() > MAX_BYTES {
         return Err(Refusal::Long);
     }
-    let Some(fields) = cut_fields(line) else {
-        return Err(Refusal::Shape);
-    };
+    let fields = cut_fields(line).ok_or(Refusal::Shape)?;
     if !is_id(fields.id) {
         return Err(Refusal::Id);
     }

@@ -48,11 +48,7 @@ impl Id {
     pub fn new(bytes: &[u8]) -> Option<Id>
         ensures { SomeIff result (IsId bytes.now) bytes.now }
     {
-        if is_id(bytes) {
-            Some(Id::of(bytes))
-        } else {
-            None
-        }
+        is_id(bytes).then(|| Id::of(bytes))
     }
 
     pub(crate) fn of(bytes: &[u8]) -> Id

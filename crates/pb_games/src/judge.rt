@@ -54,9 +54,7 @@ pub fn judge_fields<'a, P: MoveVisitor>(
         (λ s. P.holds visitor.new s.1.outcome (plies s.1) (last_setup s.1)) }
     ensures fixed { P.fixed visitor.new ≡ P.fixed visitor.old }
 {
-    let Some(outcome) = read_outcome(fields.outcome) else {
-        return Err(Refusal::Result);
-    };
+    let outcome = read_outcome(fields.outcome).ok_or(Refusal::Result)?;
     let start = match read_start(fields.start) {
         Ok(start) => start,
         Err(error) => return Err(Refusal::Fen(error)),

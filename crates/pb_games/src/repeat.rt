@@ -28,10 +28,7 @@ fn spell(field: &[u8], moves: &[Move]) -> bool
 {
     let mut tokens = Tokens::of(field);
     for m in moves {
-        let Some(read) = tokens.next_move() else {
-            return false;
-        };
-        if read != Some(*m) {
+        if tokens.next_move() != Some(Some(*m)) {
             return false;
         }
     }

@@ -26,7 +26,7 @@ impl<'a> Tokens<'a> {
         ensures { result ≡ tokens_of field.now }
     {
         Tokens {
-            rest: if field.is_empty() { None } else { Some(field) },
+            rest: (!field.is_empty()).then_some(field),
         }
     }
 
