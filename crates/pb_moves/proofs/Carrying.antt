@@ -1,47 +1,33 @@
 -- The moves of two pieces: a pawn that takes another en passant goes by way of that pawn's square,
 -- and a rook goes after its king.
-use Rattle.std.proofs.Common.{◌≡◌, ◌≢◌, ℕ, ◌+◌, ◌*◌, ◌<◌, arith, refl, sym, ap, subst, ◌∙◌, inl, inr, Some, None, [], ◌∷◌, length}
+use Rattle.std.proofs.Common.{◌≡◌, ◌≢◌, ◌↔◌, ℕ, ◌+◌, ◌*◌, ◌<◌, arith, refl, sym, ap, subst, ◌∙◌, inl, inr, Option, Some, None, List, [], ◌∷◌, length}
+use Rattle.std.specs.Prelude.{IsSome, unwrap_or}
 use Rattle.std.proofs.lemmas.List.{set-set}
 use Rattle.std.proofs.lemmas.List.Elements.{All-nil, All-cons}
 use Rattle.pb_board.specs.declared.piece.Colour.{Colour}
-use Rattle.pb_board.specs.declared.piece.Colour.TheVariants.{White, Black}
 use Rattle.pb_board.specs.declared.piece.Kind.{Kind}
 use Rattle.pb_board.specs.declared.piece.Kind.TheVariants.{Pawn, King}
 use Rattle.pb_board.specs.declared.piece.Piece.{Piece}
 use Rattle.pb_board.specs.Piece.{king_of, pawn_of, piece_of, rook_of}
-use Rattle.pb_board.specs.Board.{Board, Place, at, file, rank, IsForward}
+use Rattle.pb_board.specs.Board.{Board, Place, at, file, rank, rank_for}
 use Rattle.pb_board.specs.declared.setup.MovedPiece.{MovedPiece}
 use Rattle.pb_board.specs.MovedPiece.{with_moved, with_pieces_moved}
-use Rattle.pb_board.specs.Position.{Position, IsSetup, beyond, with_piece_moved}
+use Rattle.pb_board.specs.Position.{Position, IsSetup}
 use Rattle.pb_board.specs.declared.castling.Castling.{Castling}
 use Rattle.pb_board.specs.Castling.{castling_row}
 use Rattle.pb_moves.specs.Attacks.{Attacks, files_apart, ranks_apart}
-use Rattle.pb_moves.specs.Candidate.{HoldsOwn}
-use Rattle.pb_moves.specs.Castling.{RowAllows, rook_goes}
-use Rattle.pb_moves.specs.Cases.{Becomes, Castles, EnPassant, Goes, last_rank}
-use Rattle.pb_moves.specs.Successor.{Differs}
+use Rattle.pb_moves.specs.Candidate.{IsOwn, TakesEnPassant}
+use Rattle.pb_moves.specs.Legal.{Castles, PseudoLegal}
+use Rattle.pb_moves.specs.Successor.{Differs, after, besides}
 use Rattle.pb_moves.specs.MovedPieces.{LeadsTo}
 use Rattle.pb_moves.specs.Moved.{Moved, IsMove}
-use Rattle.pb_moves.proofs.MovedPiece.{put}
-use Rattle.pb_moves.proofs.Castlings.{rook_home_is, rows}
-use Rattle.pb_moves.proofs.SameCastling.{castles_to}
-use Rattle.pb_moves.proofs.Differing.{All-two, at_put_other, at_put_same, carried_put, differs_put, length_put, lifted_put, off_one, off_two}
-use Rattle.pb_moves.proofs.Kept.{en_passant_rank_inside}
-use Rattle.pb_moves.proofs.Kings.{castling_unpinned, castling_king, gone_is_beyond, holds_one, pawn_reach}
-use Rattle.pb_moves.proofs.Successors.{castled_writes}
-use Rattle.pb_moves.proofs.Unique.{en_passant_at, pawn_files, piece_is, step_ranks}
-
--- a piece that goes where it may, in the place of what stood there
-pub goes_normal : (s : Position) (m : Moved) (p : Piece) (kind : Kind) → length s.board ≡ 64 → IsMove m → p.colour ≡ s.turn → Becomes p.colour m p.kind kind
-    → Goes s m p [] (with_piece_moved s.board m.from m.to (piece_of p.colour kind))
-goes_normal s m p kind full is own becomes =
-    let B : Colour → Type 0 = λ c. Becomes c m p.kind kind in
-    let G : Colour → Type 0 = λ c. Goes s m p [] (with_piece_moved s.board m.from m.to (piece_of c kind)) in
-    subst G (sym own) (record {
-      kind = kind;
-      becomes = subst B own becomes;
-      board = carried_put s.board m.from m.to (piece_of s.turn kind) full is.from_on_board is.to_on_board is.moves;
-    })
+use Rattle.pb_moves.proofs.MovedPiece.{put, puts}
+use Rattle.pb_moves.proofs.Castlings.{asked_by, rook_home_is, row_told, rows}
+use Rattle.pb_moves.proofs.Differing.{All-two, at_put_other, at_put_same, differs_one, differs_put, length_put, lifted_put, off_one, off_two}
+use Rattle.pb_moves.proofs.Kings.{castling_unpinned, holds_one}
+use Rattle.pb_moves.proofs.Successors.{beside_castling, taken_is}
+use Rattle.pb_moves.proofs.Unique.{en_passant_at, piece_is}
+use Rattle.pb_moves.proofs.Ways.{after_differs, carried_is, own_is, own_kind, passes, pseudo_legal, two_goes, unpromoted}
 
 -- what stands on the squares after a piece has gone
 arrives_at : (board : Board) (c : MovedPiece) → length board ≡ 64 → c.to < 64 → at (with_moved board c) c.to ≡ Some c.piece
@@ -79,47 +65,56 @@ goes_past p old from to gone full on_from on_to on_gone ne apart_from apart_to =
     let same = ap (λ (x : Board). put x to (Some p)) (set-set left gone (Some p) None) in
     subst P (sym same) (past_in_order old (put (put left gone None) to (Some p)) a b c three)
 
-not_last : (side : Colour) (q : ℕ) → (0 < rank q) × (rank q < 7) → rank q ≢ last_rank side
-not_last White q h e = absurd (omega (arith, e, h.1))
-not_last Black q h e = absurd (omega (arith, e, h.0))
-
 -- a pawn that takes another en passant isn't promoted
-pub passes_unpromoted : (s : Position) (m : Moved) (pawn : Piece) (new : Board) → IsSetup s → EnPassant s m pawn new → m.promo ≡ None
-passes_unpromoted s m pawn new ok x =
-    elim x.after.becomes [
-      | inl promotes ↦ absurd (not_last s.turn m.to (en_passant_rank_inside s.turn m.to (en_passant_at s m.to ok x.square).0) promotes.1)
-      | inr stays ↦ stays.1
-    ]
+pub passes_unpromoted : (s : Position) (m : Moved) → IsSetup s → PseudoLegal s m → s.ep ≡ Some m.to → m.promo ≡ None
+passes_unpromoted s m ok h square =
+    let on : rank_for s.turn m.to ≡ 5 = (en_passant_at s m.to ok square).0 in
+    unpromoted s.turn m h.kind h.promotes (λ last. let seven = last.1 in omega (arith, on, seven))
+
+-- nothing is named where nothing is to be
+unnamed : (o : Option Kind) (Q : Type 0) → o ≡ None → ¬ Q → IsSome o ↔ Q
+unnamed None Q none out = ((λ h. absurd cc), λ q. absurd (out q))
+unnamed (Some k) Q none out = absurd cc
 
 pawn_no_king : (p : Piece) (side : Colour) → p.kind ≡ Pawn → p ≢ king_of side
 pawn_no_king p side pawn king = let kind = ap (λ (x : Piece). x.kind) king in absurd cc
 
-pub takes_past : (s : Position) (m : Moved) (pawn : Piece) (from to gone : ℕ) → IsSetup s → IsMove m → HoldsOwn s m.from pawn → pawn.kind ≡ Pawn
+pub takes_past : (s : Position) (m : Moved) (pawn : Piece) (from to gone : ℕ) → IsSetup s → IsMove m → IsOwn s m.from pawn → pawn.kind ≡ Pawn
     → m.promo ≡ None → s.ep ≡ Some m.to → Attacks pawn.colour pawn.kind s.board m.from m.to → from ≡ m.from → to ≡ m.to → gone ≡ 8 * rank m.from + file m.to
-    → LeadsTo (EnPassant s m pawn) s m (going from gone pawn, Some (going gone to pawn))
+    → (PseudoLegal s m × TakesEnPassant s m) × LeadsTo s m (going from gone pawn, Some (going gone to pawn))
 takes_past s m pawn from to gone ok is own is_pawn none square reaches from_is to_is gone_is =
     let side = s.turn in
-    let rank_is = en_passant_at s m.to ok square in
-    let inside = en_passant_rank_inside side m.to rank_is.0 in
-    let pawn_stays : Becomes side m pawn.kind Pawn = inr ((λ pawn. not_last side m.to inside), none, sym is_pawn) in
-    let F : Colour → Type 0 = λ c. IsForward c 1 m.from m.to in
-    let forward = subst F own.own (pawn_reach pawn.colour pawn.kind s.board m.from m.to reaches is_pawn) in
-    let files : files_apart m.from m.to ≡ 1 = pawn_files pawn.colour pawn.kind s.board m.from m.to reaches is_pawn in
-    let ranks : ranks_apart m.from m.to ≡ 1 = step_ranks side 1 m.from m.to forward in
+    let piece : pawn ≡ pawn_of side = piece_is pawn side Pawn own.own is_pawn in
+    let A : Piece → Type 0 = λ p. Attacks p.colour p.kind s.board m.from m.to in
+    let takes : TakesEnPassant s m = (square, subst A piece reaches) in
+    let x = passes s m takes in
+    let there = en_passant_at s m.to ok square in
+    let on : rank_for side m.to ≡ 5 = there.0 in
+    let pseudo : PseudoLegal s m = record {
+      is_move = is;
+      kind = pawn.kind;
+      stands = own_kind s m.from pawn own;
+      goes = two_goes s m pawn.kind (inl (is_pawn, takes));
+      promotes = unnamed m.promo ((pawn.kind ≡ Pawn) × (rank_for side m.to ≡ 7)) none (λ last. let seven = last.1 in omega (arith, on, seven));
+    } in
+    let files : files_apart m.from m.to ≡ 1 = x.files in
+    let ranks : ranks_apart m.from m.to ≡ 1 = x.ranks in
     let on_from = is.from_on_board in
     let on_to = is.to_on_board in
-    let beyond_is : gone ≡ beyond side m.to = gone_is_beyond side m.from m.to gone forward (omega arith) (omega arith) in
     let on_gone : gone < 64 = omega arith in
     let off_from : gone ≢ m.from = λ e. omega arith in
     let off_to : gone ≢ m.to = λ e. omega arith in
     let first = going m.from gone pawn in
     let second = going gone m.to pawn in
-    let piece : pawn ≡ pawn_of side = piece_is pawn side Pawn own.own is_pawn in
     let new = with_pieces_moved s.board first (Some second) in
-    let P : Piece → Type 0 = λ p. Differs s.board new ((m.from, None) ∷ (m.to, Some p) ∷ (gone, None) ∷ []) in
-    let D : ℕ → Type 0 = λ g. Differs s.board new ((m.from, None) ∷ (m.to, Some (pawn_of side)) ∷ (g, None) ∷ []) in
-    let moved = subst P piece (goes_past pawn s.board m.from m.to gone ok.places on_from on_to on_gone is.moves off_from off_to) in
-    let L : ℕ → ℕ → Type 0 = λ f t. LeadsTo (EnPassant s m pawn) s m (going f gone pawn, Some (going gone t pawn)) in
+    let D : Piece → List (ℕ × Place) → Type 0 = λ p bs. Differs s.board (after s m).board ((m.from, None) ∷ (m.to, Some p) ∷ bs) in
+    let arrives : piece_of side (unwrap_or m.promo pawn.kind) ≡ pawn = ap (λ (o : Option Kind). piece_of side (unwrap_or o pawn.kind)) none ∙ sym (own_is s m pawn pseudo own.stands) in
+    let besides_are : besides s.board m side pawn.kind ≡ (gone, None) ∷ [] =
+    taken_is s m side pawn.kind ok is_pawn x.files x.forward square ∙ ap (λ (g : ℕ). let goes : List (ℕ × Place) = (g, None) ∷ [] in goes) (sym (gone_is ∙ x.gone)) in
+    let differs = subst (λ (p : Piece). D p ((gone, None) ∷ [])) arrives (subst (D (piece_of side (unwrap_or m.promo pawn.kind))) besides_are (after_differs s m ok pseudo)) in
+    let board = differs_one s.board (after s m).board new ((m.from, None) ∷ (m.to, Some pawn) ∷ (gone, None) ∷ []) differs
+    (goes_past pawn s.board m.from m.to gone ok.places on_from on_to on_gone is.moves off_from off_to) in
+    let L : ℕ → ℕ → Type 0 = λ f t. LeadsTo s m (going f gone pawn, Some (going gone t pawn)) in
     let leads : L m.from m.to = (
       record {
         leaves = refl;
@@ -128,65 +123,49 @@ takes_past s m pawn from to gone ok is own is_pawn none square reaches from_is t
         follows = record {
           arrives = record { own = own.own; on_board = on_to; moves = off_to };
           stands = arrives_at s.board first ok.places on_gone;
-          empty = stays_at s.board first m.to (λ e. is.moves (sym e)) (λ e. off_to (sym e)) ∙ rank_is.1.0;
+          empty = stays_at s.board first m.to (λ e. is.moves (sym e)) (λ e. off_to (sym e)) ∙ there.1.0;
         };
         castles = λ king. absurd (pawn_no_king pawn side is_pawn (holds_one s.board m.from pawn (king_of side) own.stands king));
       },
-      record { pawn = is_pawn; reaches = reaches; square = square; after = record { kind = Pawn; becomes = pawn_stays; board = subst D beyond_is moved } },
+      board,
     ) in
-    subst (λ (f : ℕ). L f to) (sym from_is) (subst (L m.from) (sym to_is) leads)
+    ((pseudo, takes), subst (λ (f : ℕ). L f to) (sym from_is) (subst (L m.from) (sym to_is) leads))
 
-pub castles_so : (c : Castling) (s : Position) (m : Moved) (king rook : Piece) (from to rook_from rook_to : ℕ) → IsSetup s → IsMove m → HoldsOwn s m.from king → king.kind ≡ King
-    → m.promo ≡ None → m.from ≡ (castling_row c).king_from → m.to ≡ (castling_row c).king_to → RowAllows (castling_row c) s
+pub castles_so : (c : Castling) (s : Position) (m : Moved) (king rook : Piece) (from to rook_from rook_to : ℕ) → IsSetup s → IsMove m → IsOwn s m.from king → king.kind ≡ King
+    → m.promo ≡ None → m.from ≡ (castling_row c).king_from → m.to ≡ (castling_row c).king_to → Castles s m
     → from ≡ m.from → to ≡ m.to → rook ≡ rook_of (castling_row c).colour → rook_from ≡ (castling_row c).rook_from → rook_to ≡ (castling_row c).rook_to
-    → LeadsTo (λ b. (d : Castling) × Castles (castling_row d) s m king b) s m (going from to king, Some (going rook_from rook_to rook))
+    → (PseudoLegal s m × Castles s m) × LeadsTo s m (going from to king, Some (going rook_from rook_to rook))
 castles_so c s m king rook from to rook_from rook_to ok is own is_king none home target may from_is to_is rook_is rook_from_is rook_to_is =
     let row = castling_row c in
     let squares = rows c in
     let first = going m.from m.to king in
-    let second = going row.rook_from row.rook_to (rook_of row.colour) in
-    let unpinned = castling_unpinned c s may in
-    let the_king = castling_king s m king row own.stands own.own is_king home may in
+    let by = row_told c s m home target may in
+    let asks = asked_by c s m by may in
+    let unpinned = castling_unpinned c s asks in
+    let pseudo = pseudo_legal s m king own is (inr (inr (is_king, may)))
+    (unnamed m.promo ((king.kind ≡ Pawn) × (rank_for s.turn m.to ≡ 7)) none (λ last. let pawn = last.0 in cc)) in
     let off_from : (q : ℕ) → row.king_from ≢ q → q ≢ m.from = λ q ne e. ne (sym (e ∙ home)) in
     let off_to : (q : ℕ) → row.king_to ≢ q → q ≢ m.to = λ q ne e. ne (sym (e ∙ target)) in
     let kept : (q : ℕ) → row.king_from ≢ q → row.king_to ≢ q → at (with_moved s.board first) q ≡ at s.board q = λ q f t. stays_at s.board first q (off_from q f) (off_to q t) in
-    let new = with_pieces_moved s.board first (Some second) in
-    let after : (d : Castling) × Castles (castling_row d) s m king new = (
-      c,
-      record {
-        king = is_king;
-        from_home = home;
-        to_table = target;
-        allowed = may;
-        after = record {
-          kind = King;
-          becomes = inr ((λ pawn. absurd cc), none, sym is_king);
-          board =
-              (let B : ℕ → ℕ → Piece → Type 0 = λ f t p.
-              Differs s.board (with_pieces_moved s.board (going f t p) (Some second)) ((f, None) ∷ (t, Some (king_of s.turn)) ∷ rook_goes row) in
-              let side : king_of row.colour ≡ king_of s.turn = ap king_of (sym may.side) in
-              let D : Piece → Type 0 = λ p. Differs s.board (with_pieces_moved s.board (going row.king_from row.king_to (king_of row.colour)) (Some second)) ((row.king_from, None) ∷ (row.king_to, Some p) ∷ rook_goes row) in
-              let made : B row.king_from row.king_to (king_of row.colour) = subst D side (castled_writes row s.board squares ok.places) in
-              subst (λ (p : Piece). B m.from m.to p) (sym the_king.0)
-              (subst (λ (t : ℕ). B m.from t (king_of row.colour)) (sym target) (subst (λ (f : ℕ). B f row.king_to (king_of row.colour)) (sym home) made)));
-        };
-      },
-    ) in
-    let L : ℕ → ℕ → ℕ → ℕ → Piece → Type 0 = λ f t g u p. LeadsTo (λ b. (d : Castling) × Castles (castling_row d) s m king b) s m (going f t king, Some (going g u p)) in
+    let B : Option Kind → List (ℕ × Place) → Board = λ o bs. puts s.board ((m.from, None) ∷ (m.to, Some (piece_of king.colour (unwrap_or o king.kind))) ∷ bs) in
+    let L : ℕ → ℕ → ℕ → ℕ → Piece → Type 0 = λ f t g u p. LeadsTo s m (going f t king, Some (going g u p)) in
     let leads : L m.from m.to row.rook_from row.rook_to (rook_of row.colour) = (
       record {
         leaves = refl;
         arrives = record { own = own.own; on_board = is.to_on_board; moves = is.moves };
         reaches = λ e. refl;
         follows = record {
-          arrives = record { own = sym may.side; on_board = squares.rook_to; moves = squares.rook_moves };
-          stands = kept row.rook_from squares.from_rook squares.to_rook ∙ may.rook;
+          arrives = record { own = sym by.side_is; on_board = squares.rook_to; moves = squares.rook_moves };
+          stands = kept row.rook_from squares.from_rook squares.to_rook ∙ asks.1;
           empty = kept row.rook_to squares.from_rook_to squares.to_rook_to ∙ unpinned.1;
         };
-        castles = λ king. ((castles_to c s m home target may).goes, sym (rook_home_is s.turn m c (record { side_is = may.side; from_is = home; to_is = target })));
+        castles = λ king. (may.goes, sym (rook_home_is s.turn m c by));
       },
-      after,
-    ) in
-    subst (λ (f : ℕ). L f to rook_from rook_to rook) (sym from_is) (subst (λ (t : ℕ). L m.from t rook_from rook_to rook) (sym to_is)
-    (subst (λ (g : ℕ). L m.from m.to g rook_to rook) (sym rook_from_is) (subst (λ (u : ℕ). L m.from m.to row.rook_from u rook) (sym rook_to_is)
-    (subst (L m.from m.to row.rook_from row.rook_to) (sym rook_is) leads))))
+      carried_is s m king own.stands ∙ ap (λ (o : Option Kind). B o (besides s.board m king.colour king.kind)) none
+          ∙ ap (B None) (beside_castling c king.colour s.board m king.kind is_king (own.own ∙ by.side_is) home target asks.1),
+    ) in (
+      (pseudo, may),
+      subst (λ (f : ℕ). L f to rook_from rook_to rook) (sym from_is) (subst (λ (t : ℕ). L m.from t rook_from rook_to rook) (sym to_is)
+          (subst (λ (g : ℕ). L m.from m.to g rook_to rook) (sym rook_from_is) (subst (λ (u : ℕ). L m.from m.to row.rook_from u rook) (sym rook_to_is)
+          (subst (L m.from m.to row.rook_from row.rook_to) (sym rook_is) leads)))),
+    )

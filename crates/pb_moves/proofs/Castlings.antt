@@ -1,5 +1,6 @@
 -- The rows of the castling table.
-use Rattle.std.proofs.Common.{◌≡◌, ◌≢◌, ℕ, ◌<◌, ◌≤◌, ◌⊎◌, ◌+◌, inl, inr, ap, ◌∙◌, refl, sym, arith, Bool, true, false, ◌&&◌, ◌||◌, ◌==◌, Option, Some, None, List, [], ◌∷◌, cond}
+use Rattle.std.proofs.Common.{◌≡◌, ◌≢◌, ℕ, ◌<◌, ◌≤◌, ◌⊎◌, ◌+◌, inl, inr, ap, ◌∙◌, refl, sym, arith, Bool, true, false, ◌&&◌, ◌||◌, ◌==◌, Option, Some, None, List, [], ◌∷◌, cond, ◌↔◌, subst}
+use Rattle.std.specs.Prelude.{IsTrue, nat_lt}
 use Rattle.std.specs.List.{find}
 use Rattle.std.proofs.lemmas.Bool.{and_parts, eqb-true, or_cases}
 use Rattle.pb_board.specs.declared.piece.Colour.{Colour}
@@ -7,9 +8,13 @@ use Rattle.pb_board.specs.declared.piece.Colour.TheVariants.{White, Black}
 use Rattle.pb_board.specs.declared.castling.Castling.{Castling}
 use Rattle.pb_board.specs.declared.castling.Castling.TheVariants.{WhiteShort, WhiteLong, BlackShort, BlackLong}
 use Rattle.pb_board.specs.Castling.{CastlingRow, castling_from_home, castling_of, castling_row, castlings}
-use Rattle.pb_moves.specs.Attacks.{IsBetween, Pattern, files_apart, ranks_apart}
+use Rattle.pb_board.specs.Piece.{opponent, rook_of}
+use Rattle.pb_board.specs.Board.{Holds, Place}
+use Rattle.pb_board.specs.Position.{Position}
+use Rattle.pb_moves.specs.Attacks.{Clear, IsAttacked, IsBetween, Pattern, files_apart, ranks_apart}
+use Rattle.pb_moves.specs.Legal.{Castles, has_right}
 use Rattle.pb_moves.specs.Moved.{Moved, moved_of}
-use Rattle.pb_moves.specs.Successor.{is_castling, rook_home}
+use Rattle.pb_moves.specs.Successor.{is_castling, middle, rook_home}
 use Rattle.pb_board.specs.declared.piece.Kind.TheVariants.{Rook}
 
 -- the four squares of a row lie on the board and differ, and king and rook go between where they
@@ -28,6 +33,10 @@ pub record IsRow (row : CastlingRow) : Type 0 where
   pub line : Pattern Rook (files_apart row.king_from row.rook_from) (ranks_apart row.king_from row.rook_from)
   pub king_crosses : IsBetween row.king_from row.king_to row.rook_from
   pub rook_crosses : IsBetween row.king_from row.rook_to row.rook_from
+
+-- what castling changes besides the king's two squares: the rook goes too
+abbrev pub rook_goes : CastlingRow → List (ℕ × Place)
+rook_goes row = (row.rook_from, None) ∷ (row.rook_to, Some (rook_of row.colour)) ∷ []
 
 pub rows : (c : Castling) → IsRow (castling_row c)
 rows WhiteShort = record {
@@ -118,6 +127,12 @@ castling_found from to c e =
     let both = and_parts (row.king_from == from) (row.king_to == to) (found_passes (λ d. (castling_row d).king_from == from && (castling_row d).king_to == to) castlings c e) in
     (sym (eqb-true row.king_from from both.0), sym (eqb-true row.king_to to both.1))
 
+pub found_by : (c : Castling) (from to : ℕ) → from ≡ (castling_row c).king_from → to ≡ (castling_row c).king_to → castling_of from to ≡ Some c
+found_by WhiteShort from to f t = rw (f, t) refl
+found_by WhiteLong from to f t = rw (f, t) refl
+found_by BlackShort from to f t = rw (f, t) refl
+found_by BlackLong from to f t = rw (f, t) refl
+
 -- the same of those that are found by where king and rook begin
 pub home_found : (king rook : ℕ) (c : Castling) → castling_from_home king rook ≡ Some c → (king ≡ (castling_row c).king_from) × (rook ≡ (castling_row c).rook_from)
 home_found king rook c e =
@@ -196,3 +211,51 @@ near_is_none side m near = none (is_castling side m) refl
     none true is =
         let x = by_row side m is in
         absurd (let two = class_of_castling x.0 m.from m.to x.1.from_is x.1.to_is in omega arith)
+
+-- ---- what castling asks for
+
+-- what castling asks of the right, the rook and the squares, by the row
+abbrev pub Asks : CastlingRow → Position → Type 0
+Asks row s = IsTrue (row.right s.rights) × Holds s.board row.rook_from (rook_of row.colour) × Clear s.board row.king_from row.rook_from
+    × (¬ IsAttacked s.board (opponent row.colour) row.king_from) × (¬ IsAttacked s.board (opponent row.colour) row.rook_to)
+
+-- and by the squares between which the king of a side goes
+abbrev AsksFor : Position → Colour → ℕ → ℕ → Type 0
+AsksFor s side from to = let m : Moved = moved_of from to None in
+    IsTrue (has_right s.rights side (nat_lt from to)) × Holds s.board (rook_home m) (rook_of side) × Clear s.board from (rook_home m)
+    × (¬ IsAttacked s.board (opponent side) from) × (¬ IsAttacked s.board (opponent side) (middle m))
+
+asks_same : (c : Castling) (s : Position) → Asks (castling_row c) s ↔ AsksFor s (castling_row c).colour (castling_row c).king_from (castling_row c).king_to
+asks_same WhiteShort s = ((λ h. h), λ h. h)
+asks_same WhiteLong s = ((λ h. h), λ h. h)
+asks_same BlackShort s = ((λ h. h), λ h. h)
+asks_same BlackLong s = ((λ h. h), λ h. h)
+
+along : (P : Colour → ℕ → ℕ → Type 0) (c d : Colour) (a b x y : ℕ) → c ≡ d → a ≡ x → b ≡ y → P c a b → P d x y
+along P c d a b x y e f g h = subst (λ (z : Colour). P z x y) e (subst (λ (z : ℕ). P c z y) f (subst (λ (z : ℕ). P c a z) g h))
+
+pub castles_by : (c : Castling) (s : Position) (m : Moved) → IsByRow s.turn m.from m.to c → Asks (castling_row c) s → Castles s m
+castles_by c s m is h =
+    let row = castling_row c in
+    let asks = along (AsksFor s) row.colour s.turn row.king_from row.king_to m.from m.to (sym is.side_is) (sym is.from_is) (sym is.to_is) ((asks_same c s).0 h) in
+    let G : Colour → ℕ → ℕ → Type 0 = λ side a b. IsTrue (is_castling side (moved_of a b None)) in
+    record {
+      goes = along G row.colour s.turn row.king_from row.king_to m.from m.to (sym is.side_is) (sym is.from_is) (sym is.to_is) (castling_goes c);
+      right = asks.0;
+      rook = asks.1;
+      way = asks.2;
+      unchecked = asks.3;
+      crosses = asks.4;
+    }
+
+pub asked_by : (c : Castling) (s : Position) (m : Moved) → IsByRow s.turn m.from m.to c → Castles s m → Asks (castling_row c) s
+asked_by c s m is h =
+    let row = castling_row c in
+    (asks_same c s).1 (along (AsksFor s) s.turn row.colour m.from m.to row.king_from row.king_to is.side_is is.from_is is.to_is (h.right, h.rook, h.way, h.unchecked, h.crosses))
+
+-- the squares of the king tell the row
+pub row_told : (c : Castling) (s : Position) (m : Moved) → m.from ≡ (castling_row c).king_from → m.to ≡ (castling_row c).king_to → Castles s m → IsByRow s.turn m.from m.to c
+row_told c s m from to h =
+    let found = by_row s.turn m h.goes in
+    let same = castling_one found.0 c (sym found.1.to_is ∙ to) in
+    subst (IsByRow s.turn m.from m.to) same found.1

@@ -10,14 +10,13 @@ use Rattle.pb_board.specs.MovedPiece.{with_moved, with_pieces_moved}
 use Rattle.pb_board.specs.Position.{Position, IsSetup, IsOnlyKing}
 use Rattle.pb_moves.specs.declared.attackers.Sight.{Sight}
 use Rattle.pb_moves.specs.Moved.{Moved}
-use Rattle.pb_moves.specs.MovedPieces.{Arrives, Fits, LeadsTo}
+use Rattle.pb_moves.specs.MovedPieces.{CanArrive, Fits, LeadsTo}
 use Rattle.pb_moves.specs.Attacks.{InCheck, IsAttacked}
-use Rattle.pb_moves.specs.Candidate.{HoldsOwn}
-use Rattle.pb_moves.specs.Cases.{CaseOf, SafeCase}
-use Rattle.pb_moves.specs.Successor.{Differs}
+use Rattle.pb_moves.specs.Candidate.{IsOwn}
+use Rattle.pb_moves.specs.Legal.{Legal, PseudoLegal}
+use Rattle.pb_moves.specs.Successor.{Differs, after}
 use Rattle.pb_moves.specs.Attackers.{IsSight}
 use Rattle.pb_moves.proofs.Differing.{carried_put, holds_on_board, length_put}
-use Rattle.pb_moves.proofs.Legality.{not_legal_in_check, legal_out_of_check}
 use Rattle.pb_moves.proofs.Pins.{differ}
 
 pub own_differs : (side enemy colour : Colour) → enemy ≡ opponent side → colour ≡ side → colour ≢ enemy
@@ -37,13 +36,13 @@ follows s seen from to after carries old new piece own sees moved arrives stands
     carries s.board old new (opponent s.turn) piece own sees moved (other piece arrives) stands (other own leaves)
 
 -- what is seen after a piece has gone
-sees_going : (s : Position) (board : Board) (c : MovedPiece) (own : Piece) (seen after : Sight) → length board ≡ 64 → Arrives s.turn c → Holds board c.from own → own.colour ≡ s.turn
+sees_going : (s : Position) (board : Board) (c : MovedPiece) (own : Piece) (seen after : Sight) → length board ≡ 64 → CanArrive s.turn c → Holds board c.from own → own.colour ≡ s.turn
     → IsSight s.board board (opponent s.turn) seen → Follows s seen c.from c.to after → IsSight s.board (with_moved board c) (opponent s.turn) after
 sees_going s board c own seen after full arrives stands leaves sees carries =
     carries board (with_moved board c) c.piece own sees
     (carried_put board c.from c.to c.piece full (holds_on_board board c.from own full stands) arrives.on_board arrives.moves) arrives.own stands leaves
 
-pub sees_first : (s : Position) (m : Moved) (piece : Piece) (first : MovedPiece) (second : Option MovedPiece) (seen one : Sight) → IsSetup s → HoldsOwn s m.from piece → Fits s m first second
+pub sees_first : (s : Position) (m : Moved) (piece : Piece) (first : MovedPiece) (second : Option MovedPiece) (seen one : Sight) → IsSetup s → IsOwn s m.from piece → Fits s m first second
     → IsSight s.board s.board (opponent s.turn) seen → Follows s seen first.from first.to one → IsSight s.board (with_moved s.board first) (opponent s.turn) one
 sees_first s m piece first second seen one ok own fits sees carries =
     let H : ℕ → Type 0 = λ q. Holds s.board q piece in
@@ -69,23 +68,23 @@ attack_by_check new side enemy king e only check =
     subst P (sym e) (subst K ((only check.0).0 check.1) check.2)
 
 -- the mover is safe, and the move legal, just where the test finds no attack on its king
-test_tells : (s : Position) (m : Moved) (piece : Piece) (new : Board) (enemy : Colour) (king : ℕ) (hit : Bool) → IsSetup s → HoldsOwn s m.from piece → CaseOf s m piece new
-    → enemy ≡ opponent s.turn → IsOnlyKing new s.turn king → (IsTrue hit ↔ IsAttacked new enemy king) → (IsTrue (not hit) ↔ SafeCase s m)
-test_tells s m piece new enemy king true ok own case e only tells = (
-  λ h. absurd (false≢true h),
-  λ legal. absurd (not_legal_in_check s m new piece ok own case (check_by_attack new s.turn enemy king e only (tells.0 refl)) legal),
+test_tells : (s : Position) (m : Moved) (enemy : Colour) (king : ℕ) (hit : Bool) → PseudoLegal s m → enemy ≡ opponent s.turn → IsOnlyKing (after s m).board s.turn king
+    → (IsTrue hit ↔ IsAttacked (after s m).board enemy king) → (IsTrue (not hit) ↔ Legal s m)
+test_tells s m enemy king true h e only tells = (
+  λ no. absurd (false≢true no),
+  λ legal. absurd (legal.safe (check_by_attack (after s m).board s.turn enemy king e only (tells.0 refl))),
 )
-test_tells s m piece new enemy king false ok own case e only tells = (
-  λ h. legal_out_of_check s m new piece own case (λ check. false≢true (tells.1 (attack_by_check new s.turn enemy king e only check))),
+test_tells s m enemy king false h e only tells = (
+  λ no. record { moves = h; safe = λ check. false≢true (tells.1 (attack_by_check (after s m).board s.turn enemy king e only check)) },
   λ legal. refl,
 )
 
-pub safe_test : (s : Position) (m : Moved) (piece : Piece) (moved : MovedPiece × Option MovedPiece) (side enemy : Colour) (king : ℕ) (sight : Sight) (hit : Bool) → IsSetup s
-    → HoldsOwn s m.from piece → LeadsTo (CaseOf s m piece) s m moved → side ≡ s.turn → enemy ≡ opponent side
-    → ((b : Board) → CaseOf s m piece b → IsOnlyKing b s.turn king) → IsSight s.board (with_pieces_moved s.board moved.0 moved.1) (opponent s.turn) sight
-    → ((b : Board) → IsSight s.board b enemy sight → (IsTrue hit ↔ IsAttacked b enemy king)) → (IsTrue (not hit) ↔ SafeCase s m)
-safe_test s m piece moved side enemy king sight hit ok own leads same e only sees tells =
-    let new = with_pieces_moved s.board moved.0 moved.1 in
+pub safe_test : (s : Position) (m : Moved) (moved : MovedPiece × Option MovedPiece) (side enemy : Colour) (king : ℕ) (sight : Sight) (hit : Bool)
+    → PseudoLegal s m × LeadsTo s m moved → side ≡ s.turn → enemy ≡ opponent side → (PseudoLegal s m → IsOnlyKing (after s m).board s.turn king)
+    → IsSight s.board (with_pieces_moved s.board moved.0 moved.1) (opponent s.turn) sight
+    → ((b : Board) → IsSight s.board b enemy sight → (IsTrue hit ↔ IsAttacked b enemy king)) → (IsTrue (not hit) ↔ Legal s m)
+safe_test s m moved side enemy king sight hit (h, leads) same e only sees tells =
     let other : enemy ≡ opponent s.turn = e ∙ ap opponent same in
-    let S : Colour → Type 0 = λ x. IsSight s.board new x sight in
-    test_tells s m piece new enemy king hit ok own leads.1 other (only new leads.1) (tells new (subst S (sym other) sees))
+    let S : Colour → Type 0 = λ x. IsSight s.board (with_pieces_moved s.board moved.0 moved.1) x sight in
+    let B : Board → Type 0 = λ b. IsSight s.board b enemy sight in
+    test_tells s m enemy king hit h other (only h) (tells (after s m).board (subst B (sym leads.1) (subst S (sym other) sees)))

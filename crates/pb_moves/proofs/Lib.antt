@@ -10,12 +10,9 @@ pub mod Unique
 pub mod Kings
 pub mod Passing
 pub mod Kept
-pub mod Legality
-pub mod LegalMoves
 pub mod Successors
+pub mod Ways
 pub mod Lines
-pub mod SameCastling
-pub mod SameMoves
 pub mod Aiming
 pub mod Reached
 pub mod Usual

@@ -111,10 +111,6 @@ no_near board a b near q on h =
 
 -- products of the differences
 
-pub knight_to : (f r : ℕ) → ((f ≡ 1) × (r ≡ 2)) ⊎ ((f ≡ 2) × (r ≡ 1)) → f * r ≡ 2
-knight_to f r (inl h) = rw (h.0, h.1) refl
-knight_to f r (inr h) = rw (h.0, h.1) refl
-
 pub knight_from : (f r : ℕ) → f * r ≡ 2 → ((f ≡ 1) × (r ≡ 2)) ⊎ ((f ≡ 2) × (r ≡ 1))
 knight_from zero r h = absurd (omega arith)
 knight_from (suc zero) r h = inl (refl, omega arith)
@@ -132,14 +128,6 @@ pub straight_from : (f r : ℕ) → f * r ≡ 0 → 0 < f + r → ((f ≡ 0) × 
 straight_from zero r h some = inl (refl, omega arith)
 straight_from (suc f) zero h some = inr (omega arith, refl)
 straight_from (suc f) (suc r) h some = absurd (omega arith)
-
-pub queen_to : (f r : ℕ) → ((f ≡ r) × (0 < f)) ⊎ (((f ≡ 0) × (0 < r)) ⊎ ((0 < f) × (r ≡ 0))) → ((f ≡ r) ⊎ (f * r ≡ 0)) × (0 < f + r)
-queen_to f r (inl h) = (inl h.0, omega (arith, h.1))
-queen_to f r (inr h) = let x = straight_to f r h in (inr x.0, x.1)
-
-pub queen_from : (f r : ℕ) → (f ≡ r) ⊎ (f * r ≡ 0) → 0 < f + r → ((f ≡ r) × (0 < f)) ⊎ (((f ≡ 0) × (0 < r)) ⊎ ((0 < f) × (r ≡ 0)))
-queen_from f r (inl h) some = inl (h, omega arith)
-queen_from f r (inr h) some = inr (straight_from f r h some)
 
 -- ---- what a test tells
 

@@ -1,18 +1,10 @@
--- The square that a double step crosses, told by the case.
-use Rattle.std.proofs.Common.{◌≡◌, ℕ, ◌+◌, ◌*◌, ◌/◌, ◌<◌, arith, Option, Some, None}
+-- The square that a double step crosses.
+use Rattle.std.proofs.Common.{◌≡◌, ℕ, ◌+◌, ◌*◌, ◌/◌, ◌<◌, arith}
 use Rattle.pb_board.specs.declared.piece.Colour.{Colour}
 use Rattle.pb_board.specs.declared.piece.Colour.TheVariants.{White, Black}
-use Rattle.pb_board.specs.declared.piece.Piece.{Piece}
-use Rattle.pb_board.specs.Board.{Board, file, IsEmpty, IsForward}
+use Rattle.pb_board.specs.Board.{file, IsEmpty, IsForward}
 use Rattle.pb_board.specs.Position.{Position}
 use Rattle.pb_moves.specs.Attacks.{Clear, IsBetween, files_apart, ranks_apart}
-use Rattle.pb_moves.specs.Moved.{Moved}
-use Rattle.pb_moves.specs.Cases.{CaseOf, pawn_double}
-
--- the square half way, exactly after a double step
-abbrev pub crossed : (s : Position) (m : Moved) (piece : Piece) (new : Board) → CaseOf s m piece new → Option ℕ
-crossed s m piece new (pawn_double x) = Some ((m.from + m.to) / 2)
-crossed s m piece new _ = None
 
 none_aside : (f m r n : ℕ) → f ≡ 0 → n ≡ 0 → f * m ≡ r * n
 none_aside f m r n e k = rw (e, k) (omega arith)

@@ -1,4 +1,4 @@
--- What changes by a case on the board, and the rights and the en passant square after it.
+-- What changes besides by a move, and the rights and the en passant square after it.
 use Rattle.std.proofs.Common.{◌≡◌, ◌≢◌, ℕ, ◌+◌, ◌*◌, ◌/◌, ◌≤◌, refl, arith, inl, inr, sym, ap, subst, ◌∙◌, Some, None, [], ◌∷◌, List, length, Bool, true, false, not, ◌&&◌, ◌||◌, eqb}
 use Rattle.std.proofs.lemmas.List.Elements.{All-nil, All-cons}
 use Rattle.std.proofs.lemmas.Bool.{eq-eqb}
@@ -16,17 +16,14 @@ use Rattle.pb_board.specs.declared.castling.Castling.TheVariants.{WhiteShort, Wh
 use Rattle.pb_moves.specs.Attacks.{files_apart, ranks_apart}
 use Rattle.pb_moves.specs.Moved.{Moved, moved_of}
 use Rattle.pb_board.specs.Castling.{CastlingRow, castling_row}
-use Rattle.pb_moves.specs.Castling.{rook_goes}
-use Rattle.pb_moves.specs.Cases.{Becomes, CaseOf, piece_move, pawn_step, pawn_double, pawn_capture, en_passant, castles}
 use Rattle.pb_moves.specs.Attackers.{In}
 use Rattle.pb_moves.specs.Successor.{Differs}
-use Rattle.pb_moves.specs.Successor.{besides, changes, rights_after, touches}
-use Rattle.pb_moves.proofs.MovedPiece.{put, puts, arriving, ep_of_kind}
-use Rattle.pb_moves.proofs.Castlings.{IsRow, near_is_none}
+use Rattle.pb_moves.specs.Successor.{besides, en_passant_after, rights_after, touches}
+use Rattle.pb_moves.proofs.MovedPiece.{put, puts}
+use Rattle.pb_moves.proofs.Castlings.{IsRow, near_is_none, rook_goes}
 use Rattle.pb_moves.proofs.Differing.{All-two, carried_put, differs_put, moved_board, off_two}
-use Rattle.pb_moves.proofs.Unique.{besides_of, goes_of, piece_is, king_near, pawn_files, step_ranks, en_passant_at}
-use Rattle.pb_moves.proofs.Kings.{gone_is_beyond, pawn_reach}
-use Rattle.pb_moves.proofs.Passing.{crossed}
+use Rattle.pb_moves.proofs.Unique.{step_ranks, en_passant_at}
+use Rattle.pb_moves.proofs.Kings.{gone_is_beyond}
 
 -- a board on which a king and a rook were moved
 pub castled_writes : (row : CastlingRow) (old : Board) → IsRow row → length old ≡ 64
@@ -98,16 +95,6 @@ beside_castling c side board m k king own from to rook =
     ∙ rook_at c board
     ∙ ap (λ (place : Place). let goes : List (ℕ × Place) = (row.rook_from, None) ∷ (row.rook_to, place) ∷ [] in goes) rook
 
--- what arrives is what the piece becomes
-pub arriving_becomes : (side : Colour) (m : Moved) (k : Kind) (p : Piece) → p.colour ≡ side → Becomes side m p.kind k
-    → arriving p m.promo ≡ record { colour = side; kind = k }
-arriving_becomes side m k p own (inl x) =
-    ap (arriving p) x.2 ∙ ap (λ (c : Colour). let q : Piece = record { colour = c; kind = k } in q) own
-arriving_becomes side m k p own (inr x) = ap (arriving p) x.1 ∙ piece_is p side k own (sym x.2)
-
-pub king_no_pawn : (k : Kind) → k ≡ King → k ≢ Pawn
-king_no_pawn k king pawn = cc
-
 -- en passant, the pawn beyond the square goes
 pub taken_is : (s : Position) (m : Moved) (side : Colour) (k : Kind) → IsSetup s → k ≡ Pawn → files_apart m.from m.to ≡ 1 → IsForward s.turn 1 m.from m.to → s.ep ≡ Some m.to
     → besides s.board m side k ≡ (beyond s.turn m.to, None) ∷ []
@@ -118,63 +105,24 @@ taken_is s m side k ok pawn files forward square =
     beside_passing side k s.board m pawn (λ e. omega arith) (en_passant_at s m.to ok square).1.0
     ∙ ap (λ (g : ℕ). let goes : List (ℕ × Place) = (g, None) ∷ [] in goes) same
 
--- what a case changes besides
-pub besides_are : (s : Position) (m : Moved) (p : Piece) (new : Board) → IsSetup s → p.colour ≡ s.turn → (x : CaseOf s m p new)
-    → besides s.board m p.colour p.kind ≡ besides_of s m p new x
-besides_are s m p new ok own (piece_move x) = beside_piece p.colour p.kind s.board m x.no_pawn (king_near p.colour p.kind s.board m.from m.to x.reaches)
-besides_are s m p new ok own (pawn_step x) = beside_straight p.colour p.kind s.board m x.pawn x.same_file
-besides_are s m p new ok own (pawn_double x) = beside_straight p.colour p.kind s.board m x.pawn x.same_file
-besides_are s m p new ok own (pawn_capture x) = beside_taking p.colour p.kind s.board m _ x.pawn x.target.stands
-besides_are s m p new ok own (en_passant x) =
-    let P : Colour → Type 0 = λ z. IsForward z 1 m.from m.to in
-    let reach = pawn_reach p.colour p.kind s.board m.from m.to x.reaches x.pawn in
-    taken_is s m p.colour p.kind ok x.pawn (pawn_files p.colour p.kind s.board m.from m.to x.reaches x.pawn) (subst P own reach) x.square
-besides_are s m p new ok own (castles c x) = beside_castling c p.colour s.board m p.kind x.king (own ∙ x.allowed.side) x.from_home x.to_table x.allowed.rook
+-- the square stepped over, where it is one
+pub ep_other : (side : Colour) (k : Kind) (m : Moved) → k ≢ Pawn → en_passant_after m (piece_of side k) ≡ None
+ep_other side Pawn m other = absurd (other refl)
+ep_other side Knight m other = refl
+ep_other side Bishop m other = refl
+ep_other side Rook m other = refl
+ep_other side Queen m other = refl
+ep_other side King m other = refl
 
--- all that a case changes
-pub changes_are : (s : Position) (m : Moved) (p : Piece) (new : Board) → IsSetup s → p.colour ≡ s.turn → (x : CaseOf s m p new)
-    → changes s.board m p ≡ (m.from, None) ∷ (m.to, Some (piece_of s.turn (goes_of s m p new x).kind)) ∷ besides_of s m p new x
-changes_are s m p new ok own x =
-    let goes = goes_of s m p new x in
-    let L : Piece → List (ℕ × Place) → List (ℕ × Place) = λ q bs. (m.from, None) ∷ (m.to, Some q) ∷ bs in
-    ap (λ (q : Piece). L q (besides s.board m p.colour p.kind)) (arriving_becomes s.turn m goes.kind p own goes.becomes)
-    ∙ ap (L (piece_of s.turn goes.kind)) (besides_are s m p new ok own x)
-
--- so the board of the case differs by these changes, square by square
-pub case_differs : (s : Position) (m : Moved) (p : Piece) (new : Board) → IsSetup s → p.colour ≡ s.turn → CaseOf s m p new
-    → Differs s.board new (changes s.board m p)
-case_differs s m p new ok own x =
-    let D : List (ℕ × Place) → Type 0 = λ now. Differs s.board new now in
-    subst D (sym (changes_are s m p new ok own x)) (goes_of s m p new x).board
-
--- the square stepped over is the one that the function gives
-pub ep_other : (k : Kind) (m : Moved) → k ≢ Pawn → ep_of_kind k m ≡ None
-ep_other Pawn m other = absurd (other refl)
-ep_other Knight m other = refl
-ep_other Bishop m other = refl
-ep_other Rook m other = refl
-ep_other Queen m other = refl
-ep_other King m other = refl
-
-pub ep_single : (k : Kind) (m : Moved) → k ≡ Pawn → ranks_apart m.from m.to ≡ 1 → ep_of_kind k m ≡ None
-ep_single Pawn m pawn one =
+pub ep_single : (side : Colour) (m : Moved) → ranks_apart m.from m.to ≡ 1 → en_passant_after m (piece_of side Pawn) ≡ None
+ep_single side m one =
     elim (eqb_tells (ranks_apart m.from m.to) 2) [
       | inl two ↦ absurd (let e = two.1 in omega arith)
       | inr other ↦ rw other.0 refl
     ]
-ep_single k m pawn one = absurd (cc)
 
-pub ep_double : (k : Kind) (m : Moved) → k ≡ Pawn → ranks_apart m.from m.to ≡ 2 → ep_of_kind k m ≡ Some ((m.from + m.to) / 2)
-ep_double Pawn m pawn two = let e = eq-eqb (ranks_apart m.from m.to) 2 two in rw e refl
-ep_double k m pawn two = absurd (cc)
-
-pub ep_is : (s : Position) (m : Moved) (p : Piece) (new : Board) (x : CaseOf s m p new) → ep_of_kind p.kind m ≡ crossed s m p new x
-ep_is s m p new (piece_move x) = ep_other p.kind m x.no_pawn
-ep_is s m p new (pawn_step x) = ep_single p.kind m x.pawn (step_ranks s.turn 1 m.from m.to x.forward)
-ep_is s m p new (pawn_double x) = ep_double p.kind m x.pawn (step_ranks s.turn 2 m.from m.to x.forward)
-ep_is s m p new (pawn_capture x) = ep_single p.kind m x.pawn (step_ranks p.colour 1 m.from m.to (pawn_reach p.colour p.kind s.board m.from m.to x.reaches x.pawn))
-ep_is s m p new (en_passant x) = ep_single p.kind m x.pawn (step_ranks p.colour 1 m.from m.to (pawn_reach p.colour p.kind s.board m.from m.to x.reaches x.pawn))
-ep_is s m p new (castles c x) = ep_other p.kind m (king_no_pawn p.kind x.king)
+pub ep_double : (side : Colour) (m : Moved) → ranks_apart m.from m.to ≡ 2 → en_passant_after m (piece_of side Pawn) ≡ Some ((m.from + m.to) / 2)
+ep_double side m two = let e = eq-eqb (ranks_apart m.from m.to) 2 two in rw e refl
 
 -- where no home is touched each right is kept as it is
 all_but : (flag : Bool) → (flag && not (false || false || (false || false))) ≡ flag

@@ -9,7 +9,7 @@ use Rattle.pb_board.specs.Board.{file, rank, rank_for, IsForward}
 use Rattle.pb_moves.specs.declared.target_tables.TheConstants.{TARGETS}
 use Rattle.pb_board.specs.declared.piece.Kind.{Kind}
 use Rattle.pb_board.specs.declared.piece.Kind.TheVariants.{Pawn, Knight, Bishop, Rook, Queen, King}
-use Rattle.pb_moves.specs.Candidate.{MayTarget, Steps, row_of}
+use Rattle.pb_moves.specs.Candidate.{MayTarget, Steps, target_row}
 use Rattle.pb_moves.specs.Attacks.{Pattern, files_apart, ranks_apart}
 use Rattle.pb_moves.proofs.Below.{all_below, all_below_at}
 
@@ -147,7 +147,7 @@ bit_tells targets passes a b P right on_a on_b pass back = (
 abbrev pub entry : ℕ → ℕ → ℕ
 entry row a = get_or (get_or TARGETS row []) a 0
 
-rows_right : (side : Colour) (kind : Kind) → is_right (entry (row_of kind side)) (target_test side kind) ≡ true
+rows_right : (side : Colour) (kind : Kind) → is_right (entry (target_row kind side)) (target_test side kind) ≡ true
 rows_right White Pawn = refl
 rows_right Black Pawn = refl
 rows_right side Knight = refl
@@ -156,9 +156,9 @@ rows_right side Rook = refl
 rows_right side Queen = refl
 rows_right side King = refl
 
-pub row_tells : (side : Colour) (kind : Kind) (a b : ℕ) → a < 64 → b < 64 → (bit_at (entry (row_of kind side) a) b ≡ 1) ↔ MayTarget side kind a b
+pub row_tells : (side : Colour) (kind : Kind) (a b : ℕ) → a < 64 → b < 64 → (bit_at (entry (target_row kind side) a) b ≡ 1) ↔ MayTarget side kind a b
 row_tells side kind a b x y =
-    bit_tells (entry (row_of kind side)) (target_test side kind) a b (MayTarget side kind a b) (rows_right side kind) x y (piece_passes side kind a b) (piece_passed side kind a b)
+    bit_tells (entry (target_row kind side)) (target_test side kind) a b (MayTarget side kind a b) (rows_right side kind) x y (piece_passes side kind a b) (piece_passed side kind a b)
 
 -- ---- squares by shifts
 

@@ -7,8 +7,6 @@ pub mod Spelling
 pub mod Listing
 pub mod Played
 pub mod Packed
-pub mod Castling
-pub mod Cases
 pub mod Attackers
 pub mod MovedPieces
 pub mod Effect

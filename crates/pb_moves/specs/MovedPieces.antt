@@ -7,17 +7,17 @@ use Rattle.pb_board.specs.MovedPiece.{with_moved, with_pieces_moved}
 use Rattle.pb_board.specs.Piece.{king_of}
 use Rattle.pb_board.specs.Position.{Position}
 use Rattle.pb_moves.specs.Moved.{Moved}
-use Rattle.pb_moves.specs.Successor.{is_castling, rook_home}
+use Rattle.pb_moves.specs.Successor.{after, is_castling, rook_home}
 
 -- what arrives is of this side, on another square than the one that is left
-pub record Arrives (side : Colour) (c : MovedPiece) : Type 0 where
+pub record CanArrive (side : Colour) (c : MovedPiece) : Type 0 where
   pub own : c.piece.colour ≡ side
   pub on_board : c.to < 64
   pub moves : c.from ≢ c.to
 
 -- the piece, of this side, goes from where it stands to an empty square
 pub record CanFollow (board : Board) (side : Colour) (c : MovedPiece) : Type 0 where
-  pub arrives : Arrives side c
+  pub arrives : CanArrive side c
   pub stands : Holds board c.from c.piece
   pub empty : IsEmpty board c.to
 
@@ -26,18 +26,18 @@ pub record CanFollow (board : Board) (side : Colour) (c : MovedPiece) : Type 0 w
 pub record Fits (s : Position) (m : Moved) (first : MovedPiece) (second : Option MovedPiece)
     : Type 0 where
   pub leaves : first.from ≡ m.from
-  pub arrives : Arrives s.turn first
+  pub arrives : CanArrive s.turn first
   pub reaches : second ≡ None → first.to ≡ m.to
   pub follows : IfSome second (CanFollow (with_moved s.board first) s.turn)
   pub castles : Holds s.board m.from (king_of s.turn) → MatchOption second
       (¬ IsTrue (is_castling s.turn m))
       (λ c. IsTrue (is_castling s.turn m) × (c.from ≡ rook_home m))
 
--- they fit, and the board after the move has the property
-abbrev pub LeadsTo : (Board → Type 0) → Position → Moved → MovedPiece × Option MovedPiece → Type 0
-LeadsTo P s m moved = Fits s m moved.0 moved.1 × P (with_pieces_moved s.board moved.0 moved.1)
+-- they fit, and make the board after the move
+abbrev pub LeadsTo : Position → Moved → MovedPiece × Option MovedPiece → Type 0
+LeadsTo s m moved = Fits s m moved.0 moved.1
+    × ((after s m).board ≡ with_pieces_moved s.board moved.0 moved.1)
 
--- those that lead to the property, or none where no board has it
-abbrev pub Finds : (Board → Type 0) → Position → Moved → Option (MovedPiece × Option MovedPiece)
-    → Type 0
-Finds P s m found = MatchOption found ((new : Board) → ¬ P new) (LeadsTo P s m)
+-- those that make the board after the move, or none exactly where the move isn't so
+abbrev pub Finds : Type 0 → Position → Moved → Option (MovedPiece × Option MovedPiece) → Type 0
+Finds So s m found = MatchOption found (¬ So) (λ moved. So × LeadsTo s m moved)

@@ -6,7 +6,7 @@ ghost use Rattle.pb_board.specs.declared.piece.Kind.TheVariants.{Pawn, Bishop, R
 ghost use Rattle.pb_board.specs.Board.{Board};
 ghost use Rattle.pb_moves.specs.Attackers.{In};
 ghost use Rattle.pb_moves.specs.Attacks.{Attacks, IsBetween, Pattern, files_apart, ranks_apart};
-ghost use Rattle.pb_moves.specs.Candidate.{GoesTo, MayGo, MayTarget, row_of};
+ghost use Rattle.pb_moves.specs.Candidate.{GoesTo, MayReach, MayTarget, target_row};
 
 use crate::board::{has, is_empty};
 use crate::target_tables::{BLACK_PAWN, TARGETS};
@@ -15,7 +15,7 @@ use pb_board::{Colour, Kind, Piece, Setup, Square};
 /// The row of the piece in the table of targets.
 #[inline(always)]
 fn row(piece: Piece) -> usize
-    ensures { result ≡ row_of piece.kind piece.colour }
+    ensures { result ≡ target_row piece.kind piece.colour }
 {
     match piece {
         Piece {
@@ -109,7 +109,7 @@ pub(crate) fn pawn_takes(pawn: Piece, from: Square, to: Square) -> bool
 /// The squares to one of which each legal move of the piece goes.
 #[inline(always)]
 pub(crate) fn candidates(piece: Piece, from: Square) -> u64
-    ensures { (to : ℕ) → to < 64 → (In result to ↔ MayGo piece.colour piece.kind from to) }
+    ensures { (to : ℕ) → to < 64 → (In result to ↔ MayReach piece.colour piece.kind from to) }
 {
     let squares = targets(piece, from);
     if piece.kind == Kind::King {

@@ -5,9 +5,9 @@ ghost use Rattle.pb_board.specs.Board.{Holds, IsEmpty};
 ghost use Rattle.pb_board.specs.Position.{IsSetup};
 ghost use Rattle.pb_moves.specs.Attackers.{In};
 ghost use Rattle.pb_moves.specs.Candidate.{AreOwn};
-ghost use Rattle.pb_moves.specs.Cases.{IsCapturable};
+ghost use Rattle.pb_moves.specs.Legal.{IsCapturable};
 
-use pb_board::{Colour, Kind, Piece, Setup, Square};
+use pb_board::{Kind, Piece, Setup, Square};
 
 #[inline(always)]
 pub(crate) fn has(set: u64, square: Square) -> bool
@@ -35,11 +35,12 @@ pub(crate) fn own_squares(setup: &Setup) -> u64
 
 /// Which of the two is the case can't be foretold, so one test tells both.
 #[inline(always)]
-pub(crate) fn is_target(setup: &Setup, side: Colour, square: Square) -> bool
+pub(crate) fn is_target(setup: &Setup, square: Square) -> bool
     ensures value { IsTrue result ↔ (IsEmpty setup.now.board square
-        ⊎ IsCapturable setup.now.board side square) }
+        ⊎ IsCapturable setup.now square) }
     ensures rules { IsSetup setup.now }
 {
+    let side = setup.turn();
     let colour = side.opponent();
     let kind = Kind::King;
     let king = setup.by_piece(Piece { colour, kind });

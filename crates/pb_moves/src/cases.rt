@@ -1,10 +1,10 @@
 //! The cases of a move: what each does, where it applies.
 
-ghost use Rattle.std.specs.Prelude.{◌≡◌, MatchOption};
+ghost use Rattle.std.specs.Prelude.{◌≡◌, MatchOption, unwrap_or};
 ghost use Rattle.pb_board.specs.declared.piece.Kind.{Kind};
 ghost use Rattle.pb_board.specs.declared.piece.Kind.TheVariants.{Pawn};
-ghost use Rattle.pb_moves.specs.Cases.{Becomes, UsualMove, EnPassant};
-ghost use Rattle.pb_moves.specs.Candidate.{HoldsOwn};
+ghost use Rattle.pb_moves.specs.Candidate.{GoesAlone, IsOwn, Promotes, TakesEnPassant};
+ghost use Rattle.pb_moves.specs.Legal.{PseudoLegal};
 ghost use Rattle.pb_moves.specs.MovedPieces.{Finds};
 
 use crate::attack::{pawn_takes, reaches};
@@ -16,8 +16,8 @@ use pb_board::{Colour, Kind, MovedPiece, Piece, Setup};
 /// The kind on the target square. None where the promotion doesn't fit the rank.
 #[inline(always)]
 fn becomes(piece: Piece, m: Move) -> Option<Kind>
-    ensures { MatchOption result ((k : Kind) → ¬ Becomes piece.colour m piece.kind k)
-        (Becomes piece.colour m piece.kind) }
+    ensures { let promotes = Promotes piece.colour m piece.kind in
+        MatchOption result (¬ promotes) (λ k. promotes × (k ≡ unwrap_or m.promo piece.kind)) }
 {
     let last_rank = match piece.colour {
         Colour::White => 7,
@@ -34,11 +34,11 @@ fn becomes(piece: Piece, m: Move) -> Option<Kind>
 /// them.
 #[inline(always)]
 pub(crate) fn usual_move(setup: &Setup, m: Move, piece: Piece) -> Option<MovedPieces>
-    requires own { HoldsOwn setup.now m.from piece }
-    ensures { Finds (UsualMove setup.now m piece) setup.now m result }
+    requires own { IsOwn setup.now m.from piece }
+    ensures { Finds (PseudoLegal setup.now m × GoesAlone setup.now m piece) setup.now m result }
 {
     let (from, to) = (m.from(), m.to());
-    let goes = is_target(setup, piece.colour, to) & reaches(piece, setup, from, to);
+    let goes = is_target(setup, to) & reaches(piece, setup, from, to);
     if !goes {
         return None;
     }
@@ -50,9 +50,9 @@ pub(crate) fn usual_move(setup: &Setup, m: Move, piece: Piece) -> Option<MovedPi
 
 /// The pawn goes by way of the square of the one that it takes.
 pub(crate) fn en_passant(setup: &Setup, m: Move, pawn: Piece) -> Option<MovedPieces>
-    requires own { HoldsOwn setup.now m.from pawn }
+    requires own { IsOwn setup.now m.from pawn }
     requires pawn { pawn.kind ≡ Pawn }
-    ensures { Finds (EnPassant setup.now m pawn) setup.now m result }
+    ensures { Finds (PseudoLegal setup.now m × TakesEnPassant setup.now m) setup.now m result }
 {
     let (from, to) = (m.from(), m.to());
     let square = setup.ep();

@@ -1,15 +1,14 @@
 //! Castling.
 
 ghost use Rattle.std.specs.Prelude.{◌≡◌, ◌↔◌, IsTrue};
-ghost use Rattle.pb_board.specs.declared.castling.Castling.{Castling};
 ghost use Rattle.pb_board.specs.declared.piece.Kind.TheVariants.{King};
 ghost use Rattle.pb_board.specs.Piece.{opponent};
 ghost use Rattle.pb_board.specs.Castling.{castling_row};
 ghost use Rattle.pb_board.specs.Position.{IsSetup};
 ghost use Rattle.pb_moves.specs.Attacks.{Clear, IsAttacked};
-ghost use Rattle.pb_moves.specs.Castling.{RowAllows};
-ghost use Rattle.pb_moves.specs.Cases.{Castles};
-ghost use Rattle.pb_moves.specs.Candidate.{HoldsOwn};
+ghost use Rattle.pb_moves.specs.Legal.{Castles, PseudoLegal};
+ghost use Rattle.pb_moves.specs.Moved.{Moved};
+ghost use Rattle.pb_moves.specs.Candidate.{IsOwn};
 ghost use Rattle.pb_moves.specs.MovedPieces.{Finds};
 
 use crate::attack::between;
@@ -40,7 +39,9 @@ fn way_is_safe(castling: Castling, setup: &Setup) -> bool
 /// Whether the setup allows the castling, but for the square that the king reaches.
 fn may_castle(castling: Castling, setup: &Setup) -> bool
     ensures rules { IsSetup setup.now }
-    ensures allows { IsTrue result ↔ RowAllows (castling_row castling) setup.now }
+    ensures allows { let row = castling_row castling in
+        (m : Moved) → m.from ≡ row.king_from → m.to ≡ row.king_to
+        → (IsTrue result ↔ Castles setup.now m) }
 {
     let colour = castling.colour();
     let rook = Piece {
@@ -57,10 +58,9 @@ fn may_castle(castling: Castling, setup: &Setup) -> bool
 }
 
 pub(crate) fn castles(setup: &Setup, m: Move, king: Piece) -> Option<MovedPieces>
-    requires own { HoldsOwn setup.now m.from king }
+    requires own { IsOwn setup.now m.from king }
     requires king { king.kind ≡ King }
-    ensures { Finds (λ b. (c : Castling) × Castles (castling_row c) setup.now m king b) setup.now m
-        result }
+    ensures { Finds (PseudoLegal setup.now m × Castles setup.now m) setup.now m result }
 {
     let (from, to) = (m.from(), m.to());
     match Castling::of(from, to) {

@@ -3,14 +3,14 @@
 ghost use Rattle.std.specs.Prelude.{◌≡◌, ◌↔◌, IsTrue, MatchOption};
 ghost use Rattle.pb_board.specs.declared.piece.Kind.TheVariants.{Pawn, King};
 ghost use Rattle.pb_board.specs.declared.piece.Piece.{Piece};
-ghost use Rattle.pb_board.specs.Board.{Board};
 ghost use Rattle.pb_board.specs.Piece.{opponent};
 ghost use Rattle.pb_board.specs.MovedPiece.{with_pieces_moved};
 ghost use Rattle.pb_board.specs.Position.{IsOnlyKing, IsSetup};
-ghost use Rattle.pb_moves.specs.Candidate.{HoldsOwn};
-ghost use Rattle.pb_moves.specs.Cases.{CaseOf, SafeCase, UnusualMove};
+ghost use Rattle.pb_moves.specs.Candidate.{GoesInTwo, IsOwn};
+ghost use Rattle.pb_moves.specs.Legal.{Legal, PseudoLegal};
 ghost use Rattle.pb_moves.specs.MovedPieces.{Finds, Fits, LeadsTo};
 ghost use Rattle.pb_moves.specs.Moved.{Moved};
+ghost use Rattle.pb_moves.specs.Successor.{after};
 ghost use Rattle.pb_moves.specs.Attackers.{IsSight};
 ghost use Rattle.pb_moves.specs.Unpinned.{IsUnpinned};
 
@@ -25,8 +25,8 @@ use pb_board::{Kind, MovedPiece, Piece, Setup, Square};
 #[inline(always)]
 pub(crate) fn own_piece(setup: &Setup, square: Square) -> Option<Piece>
     ensures rules { IsSetup setup.now }
-    ensures found { MatchOption result ((p : Piece) → ¬ HoldsOwn setup.now square p)
-        (HoldsOwn setup.now square) }
+    ensures found { MatchOption result ((p : Piece) → ¬ IsOwn setup.now square p)
+        (IsOwn setup.now square) }
 {
     // One test tells that a piece stands there, and whose it is.
     has(own_squares(setup), square).then_some(Piece {
@@ -38,8 +38,8 @@ pub(crate) fn own_piece(setup: &Setup, square: Square) -> Option<Piece>
 /// Few moves need it, so it isn't inlined.
 #[inline(never)]
 fn unusual_move(setup: &Setup, m: Move, piece: Piece) -> Option<MovedPieces>
-    requires own { HoldsOwn setup.now m.from piece }
-    ensures { Finds (UnusualMove setup.now m piece) setup.now m result }
+    requires own { IsOwn setup.now m.from piece }
+    ensures { Finds (PseudoLegal setup.now m × GoesInTwo setup.now m piece.kind) setup.now m result }
 {
     match piece.kind {
         Kind::Pawn => en_passant(setup, m, piece),
@@ -50,8 +50,8 @@ fn unusual_move(setup: &Setup, m: Move, piece: Piece) -> Option<MovedPieces>
 
 #[inline(always)]
 pub(crate) fn change_of(setup: &Setup, m: Move, piece: Piece) -> Option<MovedPieces>
-    requires own { HoldsOwn setup.now m.from piece }
-    ensures { Finds (CaseOf setup.now m piece) setup.now m result }
+    requires own { IsOwn setup.now m.from piece }
+    ensures { Finds (PseudoLegal setup.now m) setup.now m result }
 {
     match usual_move(setup, m, piece) {
         Some(moved) => Some(moved),
@@ -61,8 +61,9 @@ pub(crate) fn change_of(setup: &Setup, m: Move, piece: Piece) -> Option<MovedPie
 
 #[inline(always)]
 pub(crate) fn king_after(setup: &Setup, m: Move, piece: Piece) -> Square
-    requires { HoldsOwn setup.now m.from piece }
-    ensures { (b : Board) → CaseOf setup.now m piece b → IsOnlyKing b setup.now.turn result }
+    requires { IsOwn setup.now m.from piece }
+    ensures { PseudoLegal setup.now m
+        → IsOnlyKing (after setup.now m).board setup.now.turn result }
 {
     let king = setup.king(setup.turn());
     if piece.kind == Kind::King {
@@ -76,7 +77,7 @@ pub(crate) fn king_after(setup: &Setup, m: Move, piece: Piece) -> Square
 /// attacked if it were gone.
 #[inline(always)]
 pub(crate) fn is_unpinned(setup: &Setup, enemy: Sight, from: Square, piece: Piece) -> bool
-    requires own { HoldsOwn setup.now from piece }
+    requires own { IsOwn setup.now from piece }
     requires seen { IsSight setup.now.board setup.now.board (opponent setup.now.turn) enemy }
     ensures { IsTrue result → IsUnpinned setup.now from piece }
 {
@@ -95,7 +96,7 @@ pub(crate) fn is_unpinned(setup: &Setup, enemy: Sight, from: Square, piece: Piec
 /// What is seen of the enemy after the pieces have gone.
 #[inline(always)]
 fn sight_after(setup: &Setup, first: MovedPiece, second: Option<MovedPiece>) -> Sight
-    requires { (m : Moved) × ((p : Piece) × HoldsOwn setup.now m.from p)
+    requires { (m : Moved) × ((p : Piece) × IsOwn setup.now m.from p)
         × Fits setup.now m first second }
     ensures { IsSight setup.now.board (with_pieces_moved setup.now.board first second)
         (opponent setup.now.turn) result }
@@ -110,9 +111,9 @@ fn sight_after(setup: &Setup, first: MovedPiece, second: Option<MovedPiece>) -> 
 
 #[inline(always)]
 pub(crate) fn is_safe(setup: &Setup, m: Move, piece: Piece, moved: MovedPieces) -> bool
-    requires own { HoldsOwn setup.now m.from piece }
-    requires leads { LeadsTo (CaseOf setup.now m piece) setup.now m moved }
-    ensures { IsTrue result ↔ SafeCase setup.now m }
+    requires own { IsOwn setup.now m.from piece }
+    requires leads { PseudoLegal setup.now m × LeadsTo setup.now m moved }
+    ensures { IsTrue result ↔ Legal setup.now m }
 {
     let (first, second) = moved;
     let sight = sight_after(setup, first, second);
@@ -122,12 +123,10 @@ pub(crate) fn is_safe(setup: &Setup, m: Move, piece: Piece, moved: MovedPieces) 
 
 #[inline(always)]
 pub(crate) fn is_legal_for(setup: &Setup, m: Move, piece: Piece, unpinned: bool) -> bool
-    requires own { HoldsOwn setup.now m.from piece }
+    requires own { IsOwn setup.now m.from piece }
     requires unpinned { IsTrue unpinned → IsUnpinned setup.now m.from piece }
-    ensures { IsTrue result ↔ SafeCase setup.now m }
+    ensures { IsTrue result ↔ Legal setup.now m }
 {
-    // The reader tells that the move meets its rules.
-    let _from = m.from();
     match change_of(setup, m, piece) {
         Some((_, None)) if unpinned => true,
         Some(moved) => is_safe(setup, m, piece, moved),

@@ -7,7 +7,7 @@ ghost use Rattle.pb_moves.specs.Moved.{IsPromotion, promotion_number};
 ghost use Rattle.pb_moves.specs.Listing.{ListsLegal};
 ghost use Rattle.pb_moves.specs.Unpinned.{IsUnpinned};
 ghost use Rattle.pb_moves.specs.Attackers.{IsSight};
-ghost use Rattle.pb_moves.specs.Candidate.{AreOwn, HoldsOwn, MayPromote, ListsBelow};
+ghost use Rattle.pb_moves.specs.Candidate.{AreOwn, IsOwn, MayPromote, ListsBelow};
 
 use crate::attack::candidates;
 use crate::attackers::{Sight, sight_of};
@@ -92,7 +92,7 @@ impl<'a> Lister<'a> {
     fn push_to(&self, mover: &Mover, to: Square, moves: &mut Vec<Move>) -> Result<(), AllocError>
         requires unpinned { IsTrue mover.now.unpinned
             → IsUnpinned self.now.setup.now mover.now.from mover.now.piece }
-        requires own { HoldsOwn self.now.setup.now mover.now.from mover.now.piece }
+        requires own { IsOwn self.now.setup.now mover.now.from mover.now.piece }
         requires before { ListsBelow self.now.setup.now moves.old.items
             (320 * mover.now.from + 5 * to) }
         ensures { OnOk result (ListsBelow self.now.setup.now moves.new.items
@@ -120,7 +120,7 @@ impl<'a> Lister<'a> {
     ) -> Result<(), AllocError>
         requires unpinned { IsTrue mover.now.unpinned
             → IsUnpinned self.now.setup.now mover.now.from mover.now.piece }
-        requires own { HoldsOwn self.now.setup.now mover.now.from mover.now.piece }
+        requires own { IsOwn self.now.setup.now mover.now.from mover.now.piece }
         requires promotion { ForSome promotion IsPromotion }
         requires before { ListsBelow self.now.setup.now moves.old.items
             (320 * mover.now.from + 5 * to + promotion_number promotion) }

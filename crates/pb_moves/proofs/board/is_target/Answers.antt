@@ -35,15 +35,16 @@ pub returns-clause-value : goal.returns-clause-value
 returns-clause-value c =
     let b = c.args.setup.now.board in
     let q = c.args.square in
-    let side = c.args.side in
+    let side = c.args.setup.now.turn in
     let out = untold c.has.result _ c.has.ensures.inside in
-    let king = subst (λ (enemy : Colour). In c.by_piece-king.result q ↔ Holds b q (king_of enemy)) c.opponent-colour.ensures (c.by_piece-king.ensures q) in
-    let own = c.by_colour.ensures.squares q in (
+    let turn : c.turn-side.result ≡ side = c.turn-side.ensures.value in
+    let king = subst (λ (enemy : Colour). In c.by_piece-king.result q ↔ Holds b q (king_of enemy)) (c.opponent-colour.ensures ∙ ap opponent turn) (c.by_piece-king.ensures q) in
+    let own = subst (λ (x : Colour). In c.by_colour.result q ↔ ((kind : Kind) × Holds b q (piece_of x kind))) turn (c.by_colour.ensures.squares q) in (
       λ h.
           let none = out.0 h in
           elim (enemy_there (at b q) side (λ held. none (in_first _ _ q (own.1 held))) (λ stands. none (in_second _ _ q (king.1 stands)))) [
             | inl empty ↦ inl empty
-            | inr prey ↦ inr (record { kind = prey.0; no_king = prey.1; stands = prey.2 })
+            | inr prey ↦ inr prey
           ],
       λ target. out.1 (λ inside.
           elim (in_or _ _ q inside) [
@@ -51,11 +52,11 @@ returns-clause-value c =
                 (let held = own.0 mine in
                 elim target [
                   | inl empty ↦ absurd (none_held (at b q) _ empty held.1)
-                  | inr prey ↦ own_differs side (opponent side) side refl refl (ap (λ (p : Piece). p.colour) (same_Some _ _ (sym held.1 ∙ prey.stands)))
+                  | inr prey ↦ own_differs side (opponent side) side refl refl (ap (λ (p : Piece). p.colour) (same_Some _ _ (sym held.1 ∙ prey.2)))
                 ])
             | inr stands ↦ elim target [
               | inl empty ↦ absurd (none_held (at b q) _ empty (king.0 stands))
-              | inr prey ↦ prey.no_king (ap (λ (p : Piece). p.kind) (same_Some _ _ (sym prey.stands ∙ king.0 stands)))
+              | inr prey ↦ prey.1 (ap (λ (p : Piece). p.kind) (same_Some _ _ (sym prey.2 ∙ king.0 stands)))
             ]
           ]),
     )

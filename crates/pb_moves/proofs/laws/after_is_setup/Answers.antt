@@ -1,4 +1,4 @@
-use Rattle.pb_moves.proofs.SameMoves as same
+use Rattle.pb_moves.proofs.Kept as same
 use Rattle.pb_moves.proofs.laws.after_is_setup.Goals as goal
 
 pub returns : goal.returns

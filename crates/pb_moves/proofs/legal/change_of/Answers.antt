@@ -5,4 +5,4 @@ pub returns-in-Some : goal.returns-in-Some
 returns-in-Some c = usual_case c.args.setup.now c.args.m c.args.piece _ c.in-Some.ensures
 
 pub returns-in-None : goal.returns-in-None
-returns-in-None c = unusual_case c.args.setup.now c.args.m c.args.piece c.unusual_move.result c.in-None.ensures c.unusual_move.ensures
+returns-in-None c = unusual_case c.args.setup.now c.args.m c.args.piece c.unusual_move.result c.requires.own c.in-None.ensures c.unusual_move.ensures

@@ -7,7 +7,7 @@ pub returns : goal.returns
 returns c =
     let end : c.loop-index.index ≡ 64 = omega arith in
     let P : ℕ → Type 0 = λ i. ListsBelow c.args.setup.now c.loop-index.moves.items (320 * i) in
-    lists_all c.args.setup.now c.loop-index.moves.items c.turn.ensures.rules (subst P end c.loop-index.invariant)
+    lists_all c.args.setup.now c.loop-index.moves.items (subst P end c.loop-index.invariant)
 
 pub loop-index-preserved : goal.loop-index-preserved
 loop-index-preserved c =

@@ -1,6 +1,6 @@
 use Rattle.std.proofs.Common.{subst, sym}
 use Rattle.pb_board.specs.Position.{Position, IsSetup}
-use Rattle.pb_moves.proofs.SameMoves.{after_is_setup}
+use Rattle.pb_moves.proofs.Kept.{after_is_setup}
 use Rattle.pb_moves.proofs.playing.try_play.Goals as goal
 
 pub returns-in-Some-clause-setup : goal.returns-in-Some-clause-setup
