@@ -82,10 +82,7 @@ impl Epd {
             ((operands : List Operand) → ¬ Contains self.now.operations (opcode.now, operands))
             (λ operands. Contains self.now.operations (opcode.now, operands.now)) }
     {
-        match self.operations.get(opcode) {
-            Some(operands) => Some(operands.as_slice()),
-            None => None,
-        }
+        Some(self.operations.get(opcode)?.as_slice())
     }
 
     /// Adds an operation, or answers the first refusal that is due, in the order of `PutError`'s

@@ -22,7 +22,7 @@ use pb_board::{Setup, read_setup};
 use std::alloc::{AllocError, Global};
 
 #[derive(Drop)]
-pub(crate) enum Taken<'a> {
+enum Taken<'a> {
     Done,
     Unended,
     /// It doesn't begin with an opcode.
@@ -37,10 +37,10 @@ pub(crate) enum Taken<'a> {
 
 /// `repeated` is the first operation, from 1, whose opcode stood before.
 #[derive(Drop)]
-pub(crate) struct SoFar {
-    pub(crate) epd: Epd,
-    pub(crate) count: usize,
-    pub(crate) repeated: Option<usize>,
+struct SoFar {
+    epd: Epd,
+    count: usize,
+    repeated: Option<usize>,
 }
 
 fn next_word<'a>(before: Lexeme<'_>, text: &'a [u8]) -> Option<(&'a [u8], &'a [u8])>
@@ -200,22 +200,22 @@ fn read_operations(
     let mut before = before;
     let mut left = text;
     loop {
-        match next_operation(alloc, before, left) {
-            Ok(Taken::Done) => break,
-            Ok(Taken::Unended) => return Err(EpdError::Unended),
-            Ok(Taken::Unnamed) => return Err(EpdError::Opcode(so_far.count + 1)),
-            Ok(
-                Taken::Operation {
-                    opcode,
-                    operands,
-                    rest,
-                },
-            ) => {
+        let Ok(taken) = next_operation(alloc, before, left) else {
+            return Err(EpdError::Memory);
+        };
+        match taken {
+            Taken::Done => break,
+            Taken::Unended => return Err(EpdError::Unended),
+            Taken::Unnamed => return Err(EpdError::Opcode(so_far.count + 1)),
+            Taken::Operation {
+                opcode,
+                operands,
+                rest,
+            } => {
                 note(&mut so_far, opcode, operands)?;
                 before = Lexeme::End;
                 left = rest;
             }
-            Err(_) => return Err(EpdError::Memory),
         }
     }
     match so_far.repeated {

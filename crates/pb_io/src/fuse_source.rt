@@ -30,7 +30,7 @@ impl<'a> FuseSource<'a> {
         FuseSource {
             source: MemSource::new(bytes, piece),
             good,
-            fills: FillCounts::none(),
+            fills: FillCounts::default(),
             failed: false,
         }
     }

@@ -24,7 +24,7 @@ impl NeverSource {
         NeverSource {
             byte,
             history: History::new(),
-            fills: FillCounts::none(),
+            fills: FillCounts::default(),
         }
     }
 }

@@ -9,7 +9,7 @@ use crate::narrow::NarrowRow;
 use std::alloc::{AllocError, Global};
 use std::mem;
 
-const BLOCK: usize = 64;
+pub(crate) const BLOCK: usize = 64;
 
 /// The full blocks, and beside their list the last one, so that adding a row reads no block before.
 #[derive(Drop)]
@@ -27,13 +27,6 @@ pub(crate) fn no_blocks(alloc: Global) -> Blocks
         full: Vec::new(alloc),
         last: Vec::new(alloc),
     }
-}
-
-pub(crate) fn new_block(alloc: Global) -> Result<Vec<NarrowRow>, AllocError>
-    ensures none { IfOk result (λ b. b.items ≡ []) }
-    ensures room { IfOk result (λ b. vec_capacity b ≡ 64) }
-{
-    Vec::with_capacity(alloc, BLOCK)
 }
 
 /// Adds a block, in place of the last one if that has no rows.
@@ -60,7 +53,7 @@ pub(crate) fn push_row(alloc: Global, blocks: &mut Blocks, row: NarrowRow) -> Re
         blocks.last.push_reserved(row);
         return Ok(());
     }
-    let mut block = new_block(alloc)?;
+    let mut block = Vec::with_capacity(alloc, BLOCK)?;
     block.push_reserved(row);
     put_block(blocks, block)
 }

@@ -80,14 +80,14 @@ fn sort_group(entries: &mut [Entry])
 
 /// Scales points to a weight: where `greatest`, the greatest points of the key, fits 16 bits, they
 /// stay as they are, else it becomes 65535 and the others are rounded down.
-pub fn scale(count: u64, greatest: u64) -> u16
-    requires { count ≤ greatest }
-    ensures { result ≡ scaled count greatest }
+pub fn scale(points: u64, greatest: u64) -> u16
+    requires { points ≤ greatest }
+    ensures { result ≡ scaled points greatest }
 {
     let limit = u64::from(u16::MAX);
     if greatest <= limit {
-        count as u16
+        points as u16
     } else {
-        (u128::from(count) * u128::from(limit) / u128::from(greatest)) as u16
+        (u128::from(points) * u128::from(limit) / u128::from(greatest)) as u16
     }
 }

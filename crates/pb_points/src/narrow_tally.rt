@@ -10,7 +10,7 @@ ghost use Rattle.pb_points.specs.Rows.{IsBelow};
 ghost use Rattle.pb_points.specs.Tally.{MakesRow, held};
 
 use crate::blocks::{
-    Blocks, add_ply, held_in_blocks, listed, new_block, no_blocks, push_row, put_block,
+    BLOCK, Blocks, add_ply, held_in_blocks, listed, no_blocks, push_row, put_block,
 };
 use crate::list_tally::find_held;
 use crate::narrow::{NarrowRow, add_rows};
@@ -108,7 +108,7 @@ impl NarrowTally {
         ensures same { all_of self.new.rows self.new.wide ≡ all_of self.old.rows self.old.wide }
         ensures room { OnOk result (vec_len self.new.rows.last < vec_capacity self.new.rows.last) }
     {
-        let block = new_block(self.alloc)?;
+        let block = Vec::with_capacity(self.alloc, BLOCK)?;
         let before = self.before + self.rows.last.len();
         reserve_wide(self.alloc, &mut self.wide, before + block.capacity())?;
         put_block(&mut self.rows, block)?;
@@ -164,11 +164,9 @@ impl Tally for NarrowTally {
     }
 
     fn ensure(&mut self, key: u64, code: u16) -> Result<(), AllocError> {
-        if self.rows.last.len() < self.rows.last.capacity() {
-            self.push_empty(key, code);
-            return Ok(());
+        if self.rows.last.len() >= self.rows.last.capacity() {
+            self.make_room()?;
         }
-        self.make_room()?;
         self.push_empty(key, code);
         Ok(())
     }
