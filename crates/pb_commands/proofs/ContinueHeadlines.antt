@@ -1,6 +1,5 @@
 -- The theorem of a run that goes on from games that are held first, from what it does.
 use Rattle.std.proofs.Common.{◌≡◌, ◌∙◌, ℕ, List, [], ◌++◌, All, Result, Ok, Err, ap, refl, subst, sym}
-use Rattle.std.specs.Prelude.{IfOk}
 use Rattle.pb_io.specs.Lines.{lines}
 use Rattle.pb_io.specs.LineTask.{AtEnd}
 use Rattle.pb_io.specs.declared.fault.Fault.{Fault}
@@ -10,7 +9,7 @@ use Rattle.pb_poly.proofs.ToldReads.{handed_out}
 use Rattle.pb_poly.specs.Book.{book_bytes}
 use Rattle.pb_poly.specs.Entry.{IsEntry}
 use Rattle.pb_poly.specs.declared.entry.Entry.{Entry}
-use Rattle.pb_poly.proofs.ReadRows.{found_table}
+use Rattle.pb_poly.proofs.Told.{found_table}
 use Rattle.pb_poly.specs.TableReading.{ReadsTable}
 use Rattle.pb_games.specs.Submissions.{Submission}
 use Rattle.pb_accepted.specs.Basis.{Basis}
@@ -49,15 +48,15 @@ module _ (rules : CountingRules) (fills : ℕ) (e : EndStates) (randoms : List �
       let T : Basis = record { randoms = randoms; rules = rules } in
       record {
         at = record {
-          file = table.came;
+          file = table.0;
           bytes = took.came;
           put = replies (lines took.came) collects.answers;
-          table = handed_out _ _ _ _ _ table.reads;
+          table = handed_out _ _ _ _ _ table.1;
           lines = handed_out _ _ _ _ _ took.reads;
           replies = collects.put;
         };
         randoms = randoms;
-        table = table.is;
+        table = table.2;
         answers = collects.answers;
         run = leads.run;
         replied = refl;
@@ -94,11 +93,6 @@ module _ (rules : CountingRules) (fills : ℕ) (e : EndStates) (source : Change 
   headline taken (held, (new, (randoms, read, counting, is), loads, like), takes) entries made =
       by_end randoms held taken.ledger taken.end entries read (subst (λ (l : LedgerState). across (AtEnd fills) source (Makes Loads (from_to l held))) is loads)
       (subst (λ (l : LedgerState). held ≡ record l { accepted = held.accepted }) is like) takes made
-
-  pub headline_of_book : (taken : Taken) → ContinueRun rules fills e source (Ok taken) → (book : Result (List Entry) Fault) → MakesBook taken book
-      → IfOk book (λ entries. HasHeadlineOfBoth rules e source taken.ledger entries (book_bytes entries))
-  headline_of_book taken run (Ok entries) made = headline taken run entries made
-  headline_of_book taken run (Err fault) made = tt
 
   -- from the games of a saved ledger on the submissions were taken so
   pub continued_so : (mid : SinkState) (held : LedgerState) (taken : Taken) → HoldsSaved rules fills e.table source held → mid ≡ e.replies.old

@@ -1,6 +1,6 @@
 -- What a run of the command `export` blames, from how it ends.
-use Rattle.std.proofs.Common.{◌≡◌, ◌∙◌, ◌≢◌, ℕ, Result, Ok, Err, ap, false, inl, inr, refl, subst, sym, true}
-use Rattle.std.specs.Prelude.{IfErr, IfOk, IsErrAnd, IsOk, MatchResult}
+use Rattle.std.proofs.Common.{◌≡◌, ◌∙◌, ◌≢◌, ℕ, Result, Ok, Err, ap, false, inl, inr, refl, subst, sym}
+use Rattle.std.specs.Prelude.{IfErr, IfOk, IsErrAnd, MatchResult}
 use Rattle.pb_io.specs.Sink.{SinkState}
 use Rattle.pb_io.specs.Source.{SourceState}
 use Rattle.pb_io.specs.declared.fault.Fault.{Fault}

@@ -7,7 +7,7 @@ use Rattle.pb_poly.proofs.ToldReads.{handed_out}
 use Rattle.pb_poly.specs.Book.{BookBytes, book_bytes}
 use Rattle.pb_poly.specs.Entry.{IsEntry}
 use Rattle.pb_poly.specs.declared.entry.Entry.{Entry}
-use Rattle.pb_poly.proofs.ReadRows.{found_table}
+use Rattle.pb_poly.proofs.Told.{found_table}
 use Rattle.pb_poly.specs.TableReading.{ReadsTable}
 use Rattle.pb_games.specs.Submissions.{Submission}
 use Rattle.pb_accepted.specs.Accepting.{Answer, Run}
@@ -59,17 +59,17 @@ module _ (rules : CountingRules) (fills : ℕ) (e : EndStates) where
       let T : Basis = record { randoms = randoms; rules = rules } in (
         (
           record {
-            file = table.came;
+            file = table.0;
             bytes = bytes;
             put = replies (lines bytes) collects.answers;
-            table = handed_out _ _ _ _ _ table.reads;
+            table = handed_out _ _ _ _ _ table.1;
             lines = handed_out _ _ _ _ _ took.reads;
             replies = collects.put;
           },
           record {
             counting = counting;
             randoms = randoms;
-            table = table.is;
+            table = table.2;
             replies = reply_texts (lines bytes) collects.answers;
             games = left.accepted;
             effect = effect (lines bytes) collects.answers left.accepted collects.leads.run T entries bounds

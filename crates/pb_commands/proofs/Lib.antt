@@ -13,7 +13,6 @@ pub mod LookupClauses
 pub mod Lookups
 pub mod Moves
 pub mod MovesLines
-pub mod OneBook
 pub mod OneProbe
 pub mod Probing
 pub mod PutsInTurn

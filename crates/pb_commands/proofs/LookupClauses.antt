@@ -5,7 +5,10 @@ use Rattle.pb_io.specs.Lines.{lines}
 use Rattle.pb_io.specs.Sink.{SinkState}
 use Rattle.pb_io.specs.Source.{SourceState}
 use Rattle.pb_io.proofs.EndLemmas.{known_of}
-use Rattle.pb_commands.specs.BookJudged.{AsBook, book_verdict}
+use Rattle.pb_poly.proofs.Told.{book_told, table_told}
+use Rattle.pb_poly.specs.Reading.{AsBook}
+use Rattle.pb_poly.specs.TableReading.{AsTable}
+use Rattle.pb_commands.specs.BookJudged.{book_verdict}
 use Rattle.pb_commands.specs.Judged.{PutsText, Verdict}
 use Rattle.pb_commands.specs.LinesShown.{LinesShown}
 use Rattle.pb_commands.specs.LookupRun.{LooksUp}
@@ -13,9 +16,9 @@ use Rattle.pb_commands.specs.LookupShown.{LineFound, LookupShown}
 use Rattle.pb_commands.specs.Refused.{StopsOrEnds, refused_verdict, taken}
 use Rattle.pb_commands.specs.declared.refusal.Stopped.{Stopped}
 use Rattle.pb_commands.specs.declared.refusal.Stopped.TheVariants as stopped
-use Rattle.pb_commands.specs.TableJudged.{AsTable, table_verdict}
+use Rattle.pb_commands.specs.TableJudged.{table_verdict}
 use Rattle.pb_commands.proofs.Judging.{text_as}
-use Rattle.pb_commands.proofs.Told.{told_book, told_no_book, told_no_table, told_table}
+use Rattle.pb_commands.proofs.Told.{told_no_book, told_no_table}
 
 -- where all three sources tell their bytes
 module _ (fills : ℕ) (t t' b b' s s' : SourceState) (sink sink' : SinkState) (table book bytes : List ℕ)
@@ -37,7 +40,7 @@ module _ (fills : ℕ) (t t' b b' s s' : SourceState) (sink sink' : SinkState) (
   told_looked_up result (Err e, read, h) =
       refused_as (table_verdict e) (λ answer out is. (Err e, told_no_table fills t t' table told_t e (answer, out) is read.0, is)) result h.1
   told_looked_up result (Ok words, read_t, (Err e, read_b, h)) =
-      refused_as (book_verdict e) (λ answer out is. (Ok words, told_table fills t t' table told_t words read_t.0, (Err e, told_no_book fills b b' book told_b e (answer, out) is read_b, is))) result h.1
+      refused_as (book_verdict e) (λ answer out is. (Ok words, table_told fills t t' table told_t (Ok words) read_t.0, (Err e, told_no_book fills b b' book told_b e (answer, out) is read_b, is))) result h.1
   told_looked_up result (Ok words, read_t, (Ok entries, read_b, (Err fault, h, is))) =
       let P : Result Bool Stopped → Type 0 = λ r. IfOk (taken r) Puts in subst P (sym is) tt
   told_looked_up result (Ok words, read_t, (Ok entries, read_b, (Ok answer, h, is))) =
@@ -45,4 +48,4 @@ module _ (fills : ℕ) (t t' b b' s s' : SourceState) (sink sink' : SinkState) (
       let all = subst (λ (told : Option (List ℕ)). IfSome told (λ xs. (s'.to_come ≡ Some []) × Q (lines xs))) told_s (known_of fills s s' Q h.0) in
       let P : Result Bool Stopped → Type 0 = λ r. IfOk (taken r) Puts in
       subst P (sym is) (text_as (LinesShown (LineFound words entries) 1 (lines bytes)) Shows sink sink' answer
-      (λ out is. (Ok words, told_table fills t t' table told_t words read_t.0, (Ok entries, told_book fills b b' book told_b entries read_b, is))) all.1)
+      (λ out is. (Ok words, table_told fills t t' table told_t (Ok words) read_t.0, (Ok entries, book_told fills b b' book told_b (Ok entries) read_b, is))) all.1)

@@ -1,52 +1,24 @@
 -- Bytes show one text of a table, a book and a record.
-use Rattle.std.proofs.Common.{◌≡◌, ◌∙◌, ℕ, Bool, List, Result, Ok, Err, ap, arith, inl, inr, refl, sym, true}
+use Rattle.std.proofs.Common.{◌≡◌, ◌∙◌, ℕ, Bool, List, Result, Ok, Err, ap, inl, inr, sym, true}
 use Rattle.pb_board.specs.declared.refusal.FenError.{FenError}
 use Rattle.pb_board.specs.Position.{IsRecord, Record}
 use Rattle.pb_board.specs.Fields.{fields}
 use Rattle.pb_board.specs.Refusal.{IsDueFen, fen_errors}
-use Rattle.pb_board.proofs.Breaks.{all_unbroken, one_all_break}
 use Rattle.pb_board.proofs.Dues.{one_first}
 use Rattle.pb_board.proofs.Fens.{record_never_due}
 use Rattle.pb_board.proofs.Unique.{one_record}
-use Rattle.pb_io.specs.Lines.{lines}
-use Rattle.pb_poly.proofs.Tables.{only_memory}
-use Rattle.pb_poly.specs.Table.{IsRandomLine}
 use Rattle.pb_poly.specs.declared.entry.Entry.{Entry}
-use Rattle.pb_poly.specs.declared.table.TableError.TheVariants as poly
-use Rattle.pb_poly.specs.declared.table_file.TableFault.{TableFault}
-use Rattle.pb_poly.specs.declared.table_file.TableFault.TheVariants as table_fault
 use Rattle.pb_poly.proofs.Finding.{found_is_one}
-use Rattle.pb_poly.proofs.OnlyTables.{tables_are_one}
-use Rattle.pb_commands.specs.BookJudged.{AsBook, book_verdict}
+use Rattle.pb_poly.proofs.OneBook.{one_book}
+use Rattle.pb_poly.proofs.OneTable.{one_table}
+use Rattle.pb_poly.specs.Reading.{AsBook}
+use Rattle.pb_poly.specs.TableReading.{AsTable}
+use Rattle.pb_commands.specs.BookJudged.{book_verdict}
 use Rattle.pb_commands.specs.Judged.{ByInput, Verdict}
 use Rattle.pb_commands.specs.ProbeShown.{FoundShown, ProbeShown, probe_text}
 use Rattle.pb_commands.specs.RecordJudged.{AsRecord, record_verdict}
-use Rattle.pb_commands.specs.TableJudged.{AsTable, table_verdict}
+use Rattle.pb_commands.specs.TableJudged.{table_verdict}
 use Rattle.pb_commands.proofs.Judging.{by_one}
-use Rattle.pb_commands.proofs.OneBook.{one_book}
-
--- ---- tables
-
--- bytes are one table file, or none for one reason
-one_table : (bytes : List ℕ) (r x : Result (List ℕ) TableFault) → AsTable bytes r → AsTable bytes x → r ≡ x
-one_table bytes (Ok words) (Ok others) h k = ap (λ ws. Ok ws) (tables_are_one words others bytes h k)
-one_table bytes (Ok words) (Err table_fault.Long) h k = absurd (omega (arith, k, h.0))
-one_table bytes (Ok words) (Err (table_fault.Line m)) h k = absurd (cc (only_memory words bytes (poly.Line m) h.1 k.1))
-one_table bytes (Ok words) (Err (table_fault.Count m)) h k = absurd (cc (only_memory words bytes (poly.Count m) h.1 k.1))
-one_table bytes (Err table_fault.Long) (Ok others) h k = absurd (omega (arith, h, k.0))
-one_table bytes (Err table_fault.Long) (Err table_fault.Long) h k = refl
-one_table bytes (Err table_fault.Long) (Err (table_fault.Line m)) h k = absurd (omega (arith, h, k.0))
-one_table bytes (Err table_fault.Long) (Err (table_fault.Count m)) h k = absurd (omega (arith, h, k.0))
-one_table bytes (Err (table_fault.Line n)) (Ok others) h k = absurd (cc (only_memory others bytes (poly.Line n) k.1 h.1))
-one_table bytes (Err (table_fault.Line n)) (Err table_fault.Long) h k = absurd (omega (arith, k, h.0))
-one_table bytes (Err (table_fault.Line n)) (Err (table_fault.Line m)) h k = ap (λ number. Err (table_fault.Line number)) (one_all_break IsRandomLine (lines bytes) n m h.1 k.1)
-one_table bytes (Err (table_fault.Line n)) (Err (table_fault.Count m)) h k = absurd (all_unbroken IsRandomLine (lines bytes) n k.1.2 h.1)
-one_table bytes (Err (table_fault.Count n)) (Ok others) h k = absurd (cc (only_memory others bytes (poly.Count n) k.1 h.1))
-one_table bytes (Err (table_fault.Count n)) (Err table_fault.Long) h k = absurd (omega (arith, k, h.0))
-one_table bytes (Err (table_fault.Count n)) (Err (table_fault.Line m)) h k = absurd (all_unbroken IsRandomLine (lines bytes) m h.1.2 k.1)
-one_table bytes (Err (table_fault.Count n)) (Err (table_fault.Count m)) h k = ap (λ count. Err (table_fault.Count count)) (h.1.0 ∙ sym k.1.0)
-one_table bytes (Err (table_fault.Fault e)) x h k = absurd h
-one_table bytes r (Err (table_fault.Fault e)) h k = absurd k
 
 -- ---- records
 

@@ -1,15 +1,14 @@
 -- What the command `show` puts, from what its parts do.
-use Rattle.std.proofs.Common.{◌≡◌, ℕ, Bool, List, Result, Ok, Err, refl, subst, sym, true}
-use Rattle.pb_io.specs.Reads.{chunk_len}
+use Rattle.std.proofs.Common.{◌≡◌, ◌∙◌, ℕ, Bool, List, Result, Ok, Err, arith, refl, subst, sym, true}
 use Rattle.pb_io.specs.Sink.{SinkState}
 use Rattle.pb_io.specs.Source.{SourceState}
-use Rattle.pb_poly.specs.Reading.{ReadsBook, Tells}
-use Rattle.pb_poly.proofs.ReadRows.{found_no_book}
+use Rattle.pb_poly.specs.Reading.{AsBook, ReadsBook, Tells}
 use Rattle.pb_poly.specs.declared.entry.Entry.{Entry}
 use Rattle.pb_poly.specs.declared.reading.BookError.{BookError}
 use Rattle.pb_poly.specs.declared.reading.BookError.TheVariants as book_error
-use Rattle.pb_poly.proofs.ToldReads.{no_endless, no_fault}
-use Rattle.pb_commands.specs.BookJudged.{AsBook, book_verdict}
+use Rattle.pb_poly.proofs.OneBook.{one_book}
+use Rattle.pb_poly.proofs.Told.{book_told}
+use Rattle.pb_commands.specs.BookJudged.{book_verdict}
 use Rattle.pb_commands.specs.BookShown.{BookShown, show_text}
 use Rattle.pb_commands.specs.Judged.{Verdict}
 use Rattle.pb_commands.specs.Laws.{OnlyTextsOf}
@@ -19,10 +18,15 @@ use Rattle.pb_commands.specs.declared.refusal.Stopped.{Stopped}
 use Rattle.pb_commands.specs.declared.refusal.Stopped.TheVariants as stopped
 use Rattle.pb_io.specs.declared.fault.Fault.{Fault}
 use Rattle.pb_io.specs.declared.fault.Fault.TheVariants.{Memory}
-use Rattle.pb_commands.proofs.Judging.{only_texts, text_not_shown, text_shown}
-use Rattle.pb_commands.proofs.OneBook.{shown_is_one}
+use Rattle.pb_commands.proofs.Judging.{by_one, only_texts, text_not_shown, text_shown}
 use Rattle.pb_commands.proofs.Stopping.{stops_by}
 use Rattle.pb_commands.proofs.Told.{told_shown}
+
+-- bytes show one text as a book
+shown_is_one : (bytes : List ℕ) (a b : Bool × List ℕ) → BookShown (AsBook bytes) (Ok a) → BookShown (AsBook bytes) (Ok b) → a ≡ b
+shown_is_one bytes a b =
+    by_one (AsBook bytes) (one_book bytes) (λ entries. Ok a ≡ Ok (true, show_text entries)) (λ entries. Ok b ≡ Ok (true, show_text entries)) (λ e. Ok a ≡ book_verdict e)
+    (λ e. Ok b ≡ book_verdict e) (a ≡ b) (λ entries h is is'. cc (is ∙ sym is')) (λ e is is'. cc (is ∙ sym is'))
 
 -- of a source that tells its bytes, doesn't fail and ends within the fills only want of memory comes
 -- in place of a text
@@ -30,8 +34,8 @@ module _ (fills : ℕ) (s s' : SourceState) (bytes : List ℕ) (tells : Tells fi
   pub book_wants : (fault : Fault) (e : BookError) → ReadsBook fills s s' (Err e) → Err fault ≡ book_verdict e → fault ≡ Memory
   book_wants fault (book_error.Unsorted n) h is = absurd (cc is)
   book_wants fault (book_error.Cut n) h is = absurd (cc is)
-  book_wants fault book_error.Read read is = let h = found_no_book fills s s' book_error.Read read in absurd (no_fault chunk_len fills s s' bytes tells h.came h.reads)
-  book_wants fault book_error.Endless read is = let h = found_no_book fills s s' book_error.Endless read in absurd (no_endless chunk_len fills s s' bytes tells h.came h.reads)
+  book_wants fault book_error.Read h is = absurd (cc (sym (book_told fills s s' bytes tells.told (Err book_error.Read) h) ∙ tells.works))
+  book_wants fault book_error.Endless h is = absurd (omega (arith, book_told fills s s' bytes tells.told (Err book_error.Endless) h, tells.ends))
   book_wants fault book_error.Memory h is = cc is
 
   show_wants : (fault : Fault) → BookShown (ReadsBook fills s s') (Err fault) → fault ≡ Memory

@@ -1,12 +1,17 @@
 -- How a command ends whose input is judged, from what came of judging it.
-use Rattle.std.proofs.Common.{◌≡◌, ◌∙◌, Bool, Option, None, Some, Result, Ok, Err, ap, false, subst, sym, true}
+use Rattle.std.proofs.Common.{◌≡◌, ◌∙◌, ℕ, Bool, List, Option, None, Some, Result, Ok, Err, ap, false, subst, sym, true}
 use Rattle.std.specs.Option.{is_some}
 use Rattle.std.specs.Prelude.{MatchResult}
 use Rattle.std.specs.Result.{IsErrAnd}
 use Rattle.pb_io.specs.Sink.{SinkState}
+use Rattle.pb_io.specs.Source.{SourceState}
 use Rattle.pb_io.specs.declared.fault.Fault.{Fault}
+use Rattle.pb_poly.specs.declared.entry.Entry.{Entry}
+use Rattle.pb_commands.specs.BookJudged.{book_verdict}
 use Rattle.pb_commands.specs.Judged.{PutsOrEnds, Verdict}
 use Rattle.pb_commands.specs.Refused.{Accepts, StopsOrEnds, refused_verdict, unless_refused}
+use Rattle.pb_commands.specs.TableJudged.{table_verdict}
+use Rattle.pb_commands.specs.WithBook.{ReadsBoth, WithSources}
 use Rattle.pb_commands.specs.declared.refusal.Refused.{Refused}
 use Rattle.pb_commands.specs.declared.refusal.Stopped.{Stopped}
 use Rattle.pb_commands.specs.declared.refusal.Stopped.TheVariants as stopped
@@ -38,6 +43,14 @@ module _ {X E : Type 0} (why_of : E → Refused) (is : Result X E → Type 0) (s
   refused (Err e) (Err cause) (stopped.Fault fault) h named a =
       let same : a.0 ≡ why_of e = cc (named, a.1) in
       (e, h, subst (λ (why : Refused). PutsOrEnds (λ v. v ≡ refused_verdict why) sink sink' (Err fault)) same a.2)
+
+-- where the table or the book can't be had
+pub none_had : (fills : ℕ) (t t' b b' : SourceState) (sink sink' : SinkState) (stop : Stopped) → ReadsBoth fills t t' b b' sink sink' (Err stop)
+    → (goes : List ℕ → List Entry → Type 0) (ends : Verdict → Type 0) → ((refusal : Verdict) → StopsOrEnds (λ v. v ≡ refusal) sink sink' (Err stop) → ends refusal)
+    → WithSources fills t t' b b' goes ends
+none_had fills t t' b b' sink sink' stop (Err e, read, r) goes ends so = (Err e, read, so (table_verdict e) r)
+none_had fills t t' b b' sink sink' stop (Ok words, read, (Err e, read_too, r)) goes ends so = (Ok words, read, (Err e, read_too, so (book_verdict e) r))
+none_had fills t t' b b' sink sink' stop (Ok words, read, (Ok entries, read_too, r)) goes ends so = absurd r
 
 -- what is answered that tells no reason
 pub run_taken : (judges : Verdict → Type 0) (sink sink' : SinkState) (result : Result Bool Stopped) (found : Option Bool) (answer : Bool) → StopsOrEnds judges sink sink' result

@@ -1,19 +1,17 @@
 -- How a run stops at its inputs, and how it takes submissions.
-use Rattle.std.proofs.Common.{◌≡◌, ◌∙◌, ℕ, List, None, Option, Some, Result, Ok, Err, ap, false, inl, inr, refl, subst, sym, true}
+use Rattle.std.proofs.Common.{◌≡◌, ◌∙◌, ℕ, List, None, Some, Result, Ok, Err, ap, false, inl, inr, refl, subst, sym}
 use Rattle.std.specs.Prelude.{⊤, IfErr, IfOk, IsErrAnd, MatchResult}
 use Rattle.pb_io.specs.Sink.{SinkState}
 use Rattle.pb_io.specs.Source.{SourceState}
 use Rattle.pb_io.specs.declared.fault.Fault.{Fault}
 use Rattle.pb_io.specs.declared.fault.Fault.TheVariants.{Memory}
 use Rattle.pb_io.specs.declared.fault.ReadFault.TheVariants as of_read
-use Rattle.pb_poly.proofs.ReadRows.{found_table}
+use Rattle.pb_poly.proofs.Told.{found_table}
 use Rattle.pb_poly.specs.Streams.{at_end}
 use Rattle.pb_poly.specs.TableReading.{ReadsTable}
-use Rattle.pb_poly.specs.declared.table_file.TableFault.{TableFault}
 use Rattle.pb_poly.specs.declared.table_file.TableFault.TheVariants as table
 use Rattle.pb_accepted.specs.Basis.{Basis}
 use Rattle.pb_accepted.specs.Ledger.{LedgerState}
-use Rattle.pb_ledger.specs.Change.{across}
 use Rattle.pb_ledger.specs.Collecting.{CollectsStream, CollectsUntil}
 use Rattle.pb_ledger.specs.Journaling.{Gains, JournalsUntil}
 use Rattle.pb_ledger.specs.declared.totals.Totals.{Totals}
@@ -22,9 +20,8 @@ use Rattle.pb_commands.specs.declared.refusal.Refused.{Refused}
 use Rattle.pb_commands.specs.declared.refusal.Refused.TheVariants.{Table}
 use Rattle.pb_commands.specs.declared.refusal.Stopped.{Stopped}
 use Rattle.pb_commands.specs.declared.refusal.Stopped.TheVariants as stopped
-use Rattle.pb_commands.specs.Ends.{Change, IsSame}
+use Rattle.pb_commands.specs.Ends.{Change}
 use Rattle.pb_commands.specs.Runs.{OpensNone, StopsFor, Takes}
-use Rattle.pb_commands.specs.declared.run.Taken.{Taken}
 
 -- a ledger that differs from another one in its games alone
 pub same_but_games : (old new : LedgerState) → new.basis ≡ old.basis → new.cap ≡ old.cap → new ≡ record old { accepted = new.accepted }
@@ -72,7 +69,7 @@ stops_told tells (Err e) judged mid old new same stop is h =
 pub no_ledger : (fills : ℕ) (old new : SourceState) (sink sink' : SinkState) (randoms : List ℕ) → ReadsTable fills old new (Ok randoms) → sink' ≡ sink
     → OpensNone fills (record { old = old; new = new }) (record { old = sink; new = sink' }) (stopped.Fault Memory)
 no_ledger fills old new sink sink' randoms reads same =
-    let read = found_table fills old new randoms reads in (table.Fault of_read.Memory, inl (at_end, read.came, read.reads, (randoms, read.is)), (Table (table.Fault of_read.Memory), refl, (refl, same)))
+    let read = found_table fills old new randoms reads in (table.Fault of_read.Memory, inl (at_end, read.0, read.1, (randoms, read.2)), (Table (table.Fault of_read.Memory), refl, (refl, same)))
 
 module _ {X : Type 0} where
   pub was_refused : (made : Result X Stopped) → unless_refused made ≡ Ok None → (why : Refused) × (made ≡ Err (stopped.Refused why))

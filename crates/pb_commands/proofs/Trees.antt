@@ -19,7 +19,7 @@ use Rattle.pb_io.proofs.PutLemmas.{front_all, front_more}
 use Rattle.pb_moves.specs.Legal.{Legal}
 use Rattle.pb_moves.specs.Moved.{Moved}
 use Rattle.pb_moves.specs.Successor.{after}
-use Rattle.pb_moves.proofs.SameMoves.{after_is_setup}
+use Rattle.pb_moves.proofs.Kept.{after_is_setup}
 use Rattle.pb_poly.specs.declared.entry.Entry.{Entry}
 use Rattle.pb_poly.specs.Found.{Found}
 use Rattle.pb_poly.proofs.Finding.{found_is_one}

@@ -1,16 +1,14 @@
 -- How a run of the command `lookup` ends, over the states of its three sources and its sink before
 -- and after.
-use Rattle.std.specs.Prelude.{◌≡◌, ℕ, Bool, Result, OnErr}
+use Rattle.std.specs.Prelude.{◌≡◌, ℕ, Bool, Result}
 use Rattle.std.specs.Result.{result_map_both}
 use Rattle.pb_io.specs.Sink.{SinkState}
 use Rattle.pb_io.specs.Source.{SourceState}
 use Rattle.pb_io.specs.declared.fault.Fault.{Fault}
-use Rattle.pb_poly.specs.Reading.{ReadsBook}
-use Rattle.pb_poly.specs.TableReading.{ReadsTable}
 use Rattle.pb_commands.specs.LinesRun.{AnswersOrEnds}
 use Rattle.pb_commands.specs.LookupShown.{LineFound}
 use Rattle.pb_commands.specs.Refused.{StopsOrEnds}
-use Rattle.pb_commands.specs.WithBook.{WithBook}
+use Rattle.pb_commands.specs.WithBook.{WithSources}
 use Rattle.pb_commands.specs.declared.refusal.Stopped.{Stopped}
 use Rattle.pb_commands.specs.declared.refusal.Stopped.TheVariants as stopped
 
@@ -19,8 +17,7 @@ use Rattle.pb_commands.specs.declared.refusal.Stopped.TheVariants as stopped
 abbrev pub LooksUp : ℕ → SourceState → SourceState → SourceState → SourceState → SourceState
     → SourceState → SinkState → SinkState → Result Bool Stopped → Type 0
 LooksUp fills t t' b b' s s' sink sink' result =
-    WithBook (λ table. ReadsTable fills t t' table × OnErr table (b' ≡ b)) (ReadsBook fills b b')
-    (λ words entries. (ended : Result Bool Fault)
+    WithSources fills t t' b b' (λ words entries. (ended : Result Bool Fault)
     × AnswersOrEnds (LineFound words entries) fills s s' sink sink' ended
     × (result ≡ result_map_both (λ answer. answer) (λ fault. stopped.Fault fault) ended))
     (λ refusal. (s' ≡ s) × StopsOrEnds (λ verdict. verdict ≡ refusal) sink sink' result)

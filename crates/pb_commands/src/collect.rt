@@ -1,10 +1,9 @@
 //! The command `collect`: submissions are answered, and the book of the games is made.
 
-ghost use Rattle.std.specs.Prelude.{IfOk, IfSome};
 ghost use Rattle.pb_poly.specs.Book.{book_bytes};
 ghost use Rattle.pb_commands.specs.Answered.{IsAnswered};
-ghost use Rattle.pb_commands.specs.Ends.{between};
-ghost use Rattle.pb_commands.specs.Run.{Answers, MakesBook};
+ghost use Rattle.pb_commands.specs.Ends.{EndStates, between};
+ghost use Rattle.pb_commands.specs.Run.{Answers, Headed, MakesBook};
 ghost use Rattle.pb_commands.specs.Runs.{CollectRun};
 
 use crate::refusal::unless_refused;
@@ -30,18 +29,14 @@ pub fn run_collect<Table: Source, In: Source, Out: Sink>(
     sink: &mut Out,
     fills: u32,
 ) -> Result<Option<Book>, Fault>
-    ensures ends { Answers (CollectRun rules fills (record {
-      table = between Table.state table_source.old table_source.new;
-      lines = between In.state source.old source.new;
-      replies = between Out.state sink.old sink.new;
-    })) MakesBook result }
     // Which lines are accepted, that each game counts once, and that the book has one text.
-    ensures headline { IfOk result (λ answer. IfSome answer (λ book. IsAnswered rules (record {
+    ensures { let e : EndStates = record {
       table = between Table.state table_source.old table_source.new;
       lines = between In.state source.old source.new;
       replies = between Out.state sink.old sink.new;
-    })
-        book (book_bytes book))) }
+    } in
+        Answers (Headed (CollectRun rules fills e)
+        (λ _ entries. IsAnswered rules e entries (book_bytes entries))) MakesBook result }
 {
     let Some(ledger) = unless_refused(open(alloc, rules, table_source, sink, fills))? else {
         return Ok(None);

@@ -1,9 +1,9 @@
 //! The command `collect` that goes on from a saved ledger, also up to the stores.
 
-ghost use Rattle.std.specs.Prelude.{IfOk, IfSome, MatchResult};
+ghost use Rattle.std.specs.Prelude.{MatchResult};
 ghost use Rattle.pb_poly.specs.Book.{book_bytes};
 ghost use Rattle.pb_commands.specs.ContinueHeadline.{HasHeadlineOfBoth};
-ghost use Rattle.pb_commands.specs.Ends.{IsSame, between, states};
+ghost use Rattle.pb_commands.specs.Ends.{EndStates, IsSame, between, states};
 ghost use Rattle.pb_commands.specs.Into.{Into, KeepsBoth};
 ghost use Rattle.pb_commands.specs.Run.{Answers, Headed, MakesContinued};
 ghost use Rattle.pb_commands.specs.Runs.{ContinueRun, HoldsSaved, HoldsNone};
@@ -43,19 +43,15 @@ pub fn run_continue<Table: Source, Saved: Source, In: Source, Out: Sink>(
     sink: &mut Out,
     fills: u32,
 ) -> Result<Option<Continued>, Fault>
-    ensures ends { Answers (ContinueRun rules fills (record {
+    ensures { let e : EndStates = record {
       table = between Table.state table_source.old table_source.new;
       lines = between In.state source.old source.new;
       replies = between Out.state sink.old sink.new;
-    })
-        (between Saved.state saved.old saved.new)) MakesContinued result }
-    ensures headline { IfOk result (λ answer. IfSome answer (λ run.
-        IfOk run.book (λ book. HasHeadlineOfBoth rules (record {
-          table = between Table.state table_source.old table_source.new;
-          lines = between In.state source.old source.new;
-          replies = between Out.state sink.old sink.new;
-        })
-        (between Saved.state saved.old saved.new) run.ledger book (book_bytes book)))) }
+    } in
+        let earlier = between Saved.state saved.old saved.new in
+        Answers (Headed (ContinueRun rules fills e earlier) (λ left entries.
+        HasHeadlineOfBoth rules e earlier left entries (book_bytes entries)))
+        MakesContinued result }
 {
     let began = load_first(alloc, rules, table_source, saved, sink, fills);
     let Some(ledger) = unless_refused(began)? else {

@@ -47,12 +47,11 @@ pub fn journal_into<
         Into (Headed (JournalRun rules fills e j)
         (λ _ entries. HasHeadlineOfJournal rules e j entries (book_bytes entries)))
         (KeepsBook store) (IsSame store) result }
-    // No submission was read, or the journal holds each game that a reply calls `ok`.
-    ensures survives { LosesNone (states Table.state In.state Out.state ends.old ends.new)
-        (journal_states Kept.state Journal.state journal.old journal.new) }
-    // Nor by whatever ends the run, where what the journal had before lasts.
-    ensures outlives { LosesNoneLater (states Table.state In.state Out.state ends.old ends.new)
-        (journal_states Kept.state Journal.state journal.old journal.new) }
+    // No submission was read, or the journal holds each game that a reply calls `ok`; and so it is
+    // whatever ends the run, where what the journal had before lasts.
+    ensures survives { let e = states Table.state In.state Out.state ends.old ends.new in
+        let j = journal_states Kept.state Journal.state journal.old journal.new in
+        LosesNone e j × LosesNoneLater e j }
 {
     let mut ledger = open(alloc, rules, &mut ends.table, &mut ends.replies, fills)?;
     replay(

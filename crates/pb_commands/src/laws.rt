@@ -8,8 +8,8 @@ ghost use Rattle.pb_io.specs.Sink.{SinkState};
 ghost use Rattle.pb_io.specs.Source.{SourceState};
 ghost use Rattle.pb_io.specs.declared.fault.Fault.{Fault};
 ghost use Rattle.pb_io.specs.declared.fault.Fault.TheVariants.{Write};
-ghost use Rattle.pb_poly.specs.Reading.{ReadsBook, Tells};
-ghost use Rattle.pb_commands.specs.BookJudged.{AsBook};
+ghost use Rattle.pb_poly.specs.Reading.{AsBook, ReadsBook, Tells};
+ghost use Rattle.pb_poly.specs.TableReading.{AsTable};
 ghost use Rattle.pb_commands.specs.BookShown.{BookShown};
 ghost use Rattle.pb_commands.specs.EpdRun.{RewritesOrEnds};
 ghost use Rattle.pb_commands.specs.EpdShown.{LineShown};
@@ -21,7 +21,6 @@ ghost use Rattle.pb_commands.specs.LookupRun.{LooksUp};
 ghost use Rattle.pb_commands.specs.LookupShown.{LookupShown};
 ghost use Rattle.pb_commands.specs.ProbeShown.{ProbeShown, ProbesSources};
 ghost use Rattle.pb_commands.specs.Refused.{taken};
-ghost use Rattle.pb_commands.specs.TableJudged.{AsTable};
 ghost use Rattle.pb_commands.specs.declared.refusal.Stopped.{Stopped};
 
 use crate::refusal::Stopped;

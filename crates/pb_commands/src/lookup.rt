@@ -11,27 +11,19 @@ use crate::line_answer::LineAnswer;
 use crate::line_refusal::{is_blank, put_refusal, refuse_line};
 use crate::lines::answer_lines;
 use crate::output::put_line;
-use crate::probe::put_found;
-use crate::refusal::{Refused, Stopped, accept};
+use crate::probe::{Finder, put_found};
+use crate::refusal::Stopped;
 use pb_board::{Setup, read_fen, without_return};
 use pb_epd::{EpdError, read_epd};
 use pb_io::{Failed, Fault, Sink, Source};
 use pb_moves::Move;
-use pb_poly::{Book, Table, probe, read_book, take_table};
+use pb_poly::probe;
 use std::alloc::Global;
 
-/// Finds what a book has for setups.
-#[derive(Drop)]
-pub(crate) struct Finder<'a> {
-    pub(crate) alloc: Global,
-    pub(crate) table: &'a Table,
-    pub(crate) book: &'a Book,
-}
-
-impl LineAnswer for Finder<'_> {
+impl LineAnswer for Finder {
     ghost use Rattle.pb_commands.specs.LookupShown.{LineFound};
 
-    ghost shows = { λ f. LineFound f.table.now f.book.now };
+    ghost shows = { λ f. LineFound f.table f.book };
 
     fn answer<K: Sink>(
         &mut self,
@@ -48,7 +40,7 @@ impl LineAnswer for Finder<'_> {
         }
         match read_setup(self.alloc, text) {
             Ok(setup) => {
-                let found = probe(self.alloc, self.book, self.table, &setup)?;
+                let found = probe(self.alloc, &self.book, &self.table, &setup)?;
                 put_moves(sink, found.as_slice())?;
                 Ok(true)
             }
@@ -72,19 +64,7 @@ pub fn answer_lookup<TableIn: Source, BookIn: Source, In: Source, Out: Sink>(
         (BookIn.state book_source.old) (BookIn.state book_source.new) (In.state source.old)
         (In.state source.new) (Out.state sink.old) (Out.state sink.new) result }
 {
-    let table = accept(
-        sink,
-        take_table(alloc, table_source, fills).map_err(Refused::Table),
-    )?;
-    let book = accept(
-        sink,
-        read_book(alloc, book_source, fills).map_err(Refused::Book),
-    )?;
-    let finder = Finder {
-        alloc,
-        table: &table,
-        book: &book,
-    };
+    let finder = Finder::read(alloc, table_source, book_source, sink, fills)?;
     Ok(answer_lines(alloc, source, sink, finder, fills)?)
 }
 

@@ -4,13 +4,12 @@ ghost use Rattle.pb_board.specs.Position.{IsSetup};
 ghost use Rattle.pb_commands.specs.Tree.{PutsTree, Tree};
 ghost use Rattle.pb_commands.specs.TreeRun.{GrowsTree};
 
-use crate::lookup::Finder;
-use crate::probe::put_found;
+use crate::probe::{Finder, put_found};
 use crate::refusal::{Refused, Stopped, accept};
 use pb_board::{Setup, read_fen};
 use pb_io::{Fault, Sink, Source};
 use pb_moves::play;
-use pb_poly::{probe, read_book, take_table};
+use pb_poly::probe;
 use std::alloc::Global;
 
 /// Shows the moves that a book has for a record's setup, each with its weight, in the book's order,
@@ -29,26 +28,14 @@ pub fn answer_tree<TableIn: Source, BookIn: Source, Out: Sink>(
         (BookIn.state book_source.old) (BookIn.state book_source.new) fen.now plies
         (Out.state sink.old) (Out.state sink.new) result }
 {
-    let table = accept(
-        sink,
-        take_table(alloc, table_source, fills).map_err(Refused::Table),
-    )?;
-    let book = accept(
-        sink,
-        read_book(alloc, book_source, fills).map_err(Refused::Book),
-    )?;
+    let finder = Finder::read(alloc, table_source, book_source, sink, fills)?;
     let record = accept(sink, read_fen(fen).map_err(Refused::Fen))?;
-    let finder = Finder {
-        alloc,
-        table: &table,
-        book: &book,
-    };
     finder.put_tree(sink, &record.setup(), plies, 0)?;
     sink.flush().map_err(Fault::from)?;
     Ok(true)
 }
 
-impl Finder<'_> {
+impl Finder {
     /// Puts the lines of a setup that stands so many moves deep.
     fn put_tree<K: Sink>(
         &self,
@@ -59,14 +46,14 @@ impl Finder<'_> {
     ) -> Result<(), Fault>
         requires rules { IsSetup setup.now }
         requires few { depth + plies < 2 ^ 32 }
-        ensures { PutsTree (Tree self.now.table.now self.now.book.now plies depth setup.now)
+        ensures { PutsTree (Tree self.now.table self.now.book plies depth setup.now)
             (K.state sink.old) (K.state sink.new) result }
     {
         if plies == 0 {
             return Ok(());
         }
         let indent = b"  ".repeat(self.alloc, depth)?;
-        for (m, weight) in probe(self.alloc, self.book, self.table, setup)?.as_slice() {
+        for (m, weight) in probe(self.alloc, &self.book, &self.table, setup)?.as_slice() {
             put_found(sink, indent.as_slice(), m, *weight, b"\n")?;
             // What is found is legal.
             let next = play(setup, *m).unwrap();

@@ -6,7 +6,7 @@ use Rattle.pb_board.specs.declared.piece.Colour.{Colour}
 use Rattle.pb_board.specs.declared.piece.Kind.{Kind}
 use Rattle.pb_board.specs.declared.piece.Kind.TheVariants.{Pawn, Knight, Bishop, Rook, Queen, King}
 use Rattle.pb_board.specs.declared.piece.Piece.{Piece}
-use Rattle.pb_board.specs.Position.{Position}
+use Rattle.pb_board.specs.Position.{IsSetup, Position}
 use Rattle.pb_board.specs.Board.{Place, at, is_piece}
 use Rattle.pb_board.proofs.PieceTests.{is_piece-is}
 use Rattle.pb_board.specs.Piece.{colour_number, kind_number, king_of, piece_of}
@@ -18,7 +18,7 @@ use Rattle.pb_moves.specs.Packed.{promotion_back}
 use Rattle.pb_moves.specs.Legal.{Legal, MayGo}
 use Rattle.pb_moves.specs.Successor.{is_castling, rook_home}
 use Rattle.pb_moves.proofs.Castlings.{by_row, class_of_castling, home_found, home_is, home_is_far, rook_home_is, rows}
-use Rattle.pb_poly.specs.Code.{HasCode, encoded_to, CodeIsOne}
+use Rattle.pb_poly.specs.Code.{HasCode, encoded_to}
 use Rattle.pb_poly.specs.Decoding.{king_or, reached}
 
 -- a king goes two files at most
@@ -113,7 +113,7 @@ same_moves : (m n : Moved) → m.from ≡ n.from → m.to ≡ n.to → m.promo �
 same_moves m n from to promo =
     ap (λ a. moved_of a m.to m.promo) from ∙ ap (λ b. moved_of n.from b m.promo) to ∙ ap (λ (p : Option Kind). moved_of n.from n.to p) promo
 
-pub code_is_one : CodeIsOne
+pub code_is_one : (s : Position) (m n : Moved) (number : ℕ) → IsSetup s → HasCode s m number → HasCode s n number → m ≡ n
 code_is_one s m n number setup x y =
     let p = parts s m number x in
     let q = parts s n number y in

@@ -8,7 +8,7 @@ use Rattle.pb_board.specs.Refusal.{BreaksAt}
 use Rattle.pb_board.proofs.Breaks.{unbroken}
 use Rattle.pb_poly.specs.declared.entry.Entry.{Entry}
 use Rattle.pb_poly.specs.Entry.{IsEntry, entry_bytes}
-use Rattle.pb_poly.specs.Book.{BookIsOne, BytesAreOne, NeverFall, NeverFallsFrom, book_bytes, keys_of}
+use Rattle.pb_poly.specs.Book.{BookBytes, NeverFall, NeverFallsFrom, book_bytes, keys_of}
 
 -- two texts of fronts of one length
 apart : (xs ys us vs : List ℕ) → length xs ≡ length us → xs ++ ys ≡ us ++ vs → (xs ≡ us) × (ys ≡ vs)
@@ -56,12 +56,12 @@ pub length-book_bytes : (entries : List Entry) → length (book_bytes entries) �
 length-book_bytes [] = refl
 length-book_bytes (e ∷ entries) = let more = length-book_bytes entries in let both = length-append (entry_bytes e) (book_bytes entries) in omega (arith, more, both)
 
-pub book_is_one : BookIsOne
+pub book_is_one : (entries others : List Entry) (bytes : List ℕ) → BookBytes entries bytes → BookBytes others bytes → entries ≡ others
 book_is_one entries others bytes x y =
     let cut = begins entries others [] x.bounds y.bounds (sym x.are ∙ y.are ∙ sym (append-nil (book_bytes others))) in
     cut.1 ∙ ap (λ es. others ++ es) (none_without_bytes cut.0 cut.2) ∙ append-nil others
 
-pub bytes_are_one : BytesAreOne
+pub bytes_are_one : (entries : List Entry) (bytes others : List ℕ) → BookBytes entries bytes → BookBytes entries others → bytes ≡ others
 bytes_are_one entries bytes others x y = x.are ∙ sym y.are
 
 front_never_falls : (floor : ℕ) (front back : List ℕ) → NeverFallsFrom floor (front ++ back) → NeverFallsFrom floor front

@@ -1,19 +1,20 @@
 -- Entries out of bytes that come in pieces.
-use Rattle.std.proofs.Common.{Ok, Err, take-append-drop, ◌≡◌, ℕ, ◌-◌, ◌<◌, ◌≤◌, List, [], ◌∷◌, ◌++◌, length, take, drop, refl, sym, ap, inl, ◌∙◌, subst, append_assoc, arith}
+use Rattle.std.proofs.Common.{Ok, Err, take-append-drop, ◌≡◌, ℕ, ◌-◌, ◌<◌, ◌≤◌, List, [], ◌∷◌, ◌++◌, length, take, drop, sym, ap, inl, ◌∙◌, subst, append_assoc, arith}
 use Rattle.std.proofs.lemmas.List.{append-nil, nil_from_length, take_all, take_rest}
-use Rattle.pb_board.proofs.Breaks.{breaks_from}
 use Rattle.pb_io.specs.Source.{Fill, SourceState}
-use Rattle.pb_io.specs.Reads.{ReadsFront, ReadsOn, ReadsSome, chunk_len}
+use Rattle.pb_io.specs.Reads.{ReadsOn, ReadsSome, chunk_len}
 use Rattle.pb_io.proofs.ReadsLemmas.{ReadsSome-more}
 use Rattle.pb_poly.specs.declared.entry.Entry.{Entry}
 use Rattle.pb_poly.specs.declared.reading.BookError.{BookError}
-use Rattle.pb_poly.specs.declared.reading.BookError.TheVariants.{Unsorted, Cut, Read, Endless, Memory}
 use Rattle.pb_poly.specs.Entry.{IsEntry, entry_bytes}
-use Rattle.pb_poly.specs.Book.{NeverFall, book_bytes}
-use Rattle.pb_poly.specs.Feeding.{FailsWithin, MeetsWithin, RefusesEntry}
-use Rattle.pb_poly.specs.Reading.{ReadsBook, Splits}
+use Rattle.pb_poly.specs.Book.{BookBytes, NeverFall, book_bytes}
+use Rattle.pb_poly.specs.Reading.{BookIs, FailsWithin, ReadsBook, Splits}
 use Rattle.pb_poly.specs.Streams.{so_far}
 use Rattle.pb_poly.proofs.Entries.{book_bytes-push, bounds-push}
+
+-- one entry more gives this fault
+abbrev Refuses : List Entry → Entry → BookError → Type 0
+Refuses before entry e = (bytes : List ℕ) → BookBytes (before ++ entry ∷ []) bytes → BookIs so_far bytes (Err e)
 
 -- the piece is whole with these bytes
 whole_bytes : (came : List ℕ) (entries : List Entry) (piece bytes : List ℕ) (entry : Entry) → came ≡ book_bytes entries ++ piece → piece ++ bytes ≡ entry_bytes entry
@@ -31,18 +32,12 @@ Splits-whole came entries piece bytes entry h whole one ordered = record {
 }
 
 pub Fails-whole : (came : List ℕ) (entries : List Entry) (piece bytes : List ℕ) (n : ℕ) (entry : Entry) (e : BookError) → Splits came entries piece → piece ++ take n bytes ≡ entry_bytes entry
-    → IsEntry entry → RefusesEntry entries entry e → FailsWithin came bytes e
+    → IsEntry entry → Refuses entries entry e → FailsWithin came bytes e
 Fails-whole came entries piece bytes n entry e h whole one refuses = (
-  entries,
-  entry,
-  record {
-    front = take n bytes;
-    rest = drop n bytes;
-    cut = sym (take-append-drop n bytes);
-    bytes = record { bounds = bounds-push entries entry h.bounds one; are = whole_bytes came entries piece (take n bytes) entry h.bytes whole };
-    ordered = h.ordered;
-  },
-  refuses,
+  take n bytes,
+  drop n bytes,
+  sym (take-append-drop n bytes),
+  refuses (came ++ take n bytes) (record { bounds = bounds-push entries entry h.bounds one; are = whole_bytes came entries piece (take n bytes) entry h.bytes whole }),
 )
 
 abbrev Front : Type 0
@@ -53,10 +48,10 @@ pub held_whole : (entries : List Entry) (piece : List ℕ) (len : ℕ) (front : 
 held_whole entries piece len front full is = ap (λ (bytes : List ℕ). (entries, bytes)) (sym (take_all len piece full)) ∙ is
 
 pub Fails-held : (came bytes : List ℕ) (old held : Front) (n : ℕ) (entry : Entry) (e : BookError) → Splits came old.0 old.1 → held ≡ (old.0, old.1 ++ take n bytes)
-    → entry_bytes entry ≡ held.1 → IsEntry entry → RefusesEntry held.0 entry e → FailsWithin came bytes e
+    → entry_bytes entry ≡ held.1 → IsEntry entry → Refuses held.0 entry e → FailsWithin came bytes e
 Fails-held came bytes old held n entry e h is whole one refuses =
     Fails-whole came old.0 old.1 bytes n entry e h (sym (whole ∙ ap (λ (x : Front). x.1) is)) one
-    (subst (λ (es : List Entry). RefusesEntry es entry e) (ap (λ (x : Front). x.0) is) refuses)
+    (subst (λ (es : List Entry). Refuses es entry e) (ap (λ (x : Front). x.0) is) refuses)
 
 pub Splits-held : (came bytes : List ℕ) (old held new : Front) (n : ℕ) (entry : Entry) → Splits came old.0 old.1 → held ≡ (old.0, old.1 ++ take n bytes)
     → entry_bytes entry ≡ held.1 → IsEntry entry → new.0 ≡ held.0 ++ entry ∷ [] → new.1 ≡ [] → NeverFall new.0 → Splits (came ++ take n bytes) new.0 new.1
@@ -87,41 +82,24 @@ pub IsTaken-all : (old now : Front) (chunk rest : List ℕ) → IsTaken old chun
 IsTaken-all old now chunk rest h none came k =
     subst (λ (bytes : List ℕ). Splits (came ++ bytes) now.0 now.1) (sym (append-nil h.front) ∙ ap (λ xs. h.front ++ xs) (sym (nil_from_length rest none)) ∙ h.cut) (h.splits came k)
 
--- an entry that isn't added within the rest isn't added within the chunk
+-- a fault within the rest is one within the chunk
 pub IsTaken-fails : (old now : Front) (chunk rest : List ℕ) (e : BookError) → IsTaken old chunk rest now → ((came : List ℕ) → Splits came now.0 now.1 → FailsWithin came rest e)
     → (came : List ℕ) → Splits came old.0 old.1 → FailsWithin came chunk e
 IsTaken-fails old now chunk rest e h fails came k =
-    let f = fails (came ++ h.front) (h.splits came k) in
-    let m = f.2 in (
-      f.0,
+    let f = fails (came ++ h.front) (h.splits came k) in (
+      h.front ++ f.0,
       f.1,
-      record {
-        front = h.front ++ m.front;
-        rest = m.rest;
-        cut = sym h.cut ∙ ap (λ xs. h.front ++ xs) m.cut ∙ sym (append_assoc h.front m.front m.rest);
-        bytes = record { bounds = m.bytes.bounds; are = sym (append_assoc came h.front m.front) ∙ m.bytes.are };
-        ordered = m.ordered;
-      },
-      f.3,
+      sym h.cut ∙ ap (λ xs. h.front ++ xs) f.2 ∙ sym (append_assoc h.front f.0 f.1),
+      subst (λ (bytes : List ℕ). BookIs so_far bytes (Err e)) (append_assoc came h.front f.0) f.3,
     )
 
--- an entry that isn't added, in what a fill gave
-module _ {F : Type 0} (n fills : ℕ) (old mid new : SourceState) (came slice : List ℕ) (count : ℕ) (room : 0 < length slice) (fits : length slice ≤ chunk_len) (l : n < fills)
-    (on : ReadsOn chunk_len n old mid came) (fill : Fill {E = F} mid new (Ok count) slice) where
-  reads_front : (before : List Entry) (entry : Entry) (m : MeetsWithin came (take count slice) before entry) → ReadsFront chunk_len fills old new (came ++ m.front)
-  reads_front before entry m = (
-    m.rest,
-    subst (λ (bytes : List ℕ). ReadsSome chunk_len fills old new bytes) (ap (λ xs. came ++ xs) m.cut ∙ sym (append_assoc came m.front m.rest)) (ReadsSome-more chunk_len n old mid new came slice room fits on fills count l fill),
-  )
-
-  pub finds_no_book : (e : BookError) → FailsWithin came (take count slice) e → ReadsBook fills old new (Err e)
-  finds_no_book (Unsorted k) f = inl (
-    so_far,
-    came ++ f.2.front,
-    reads_front f.0 f.1 f.2,
-    (f.0 ++ f.1 ∷ [], f.2.bytes, breaks_from NeverFall (f.0 ++ f.1 ∷ []) f.0 f.1 [] k refl f.3.1 f.2.ordered f.3.0),
-  )
-  finds_no_book Memory f = inl (so_far, came ++ f.2.front, reads_front f.0 f.1 f.2, (f.0, f.1, record { are = f.2.bytes; ordered = f.3 }))
-  finds_no_book (Cut k) f = absurd f.3
-  finds_no_book Read f = absurd f.3
-  finds_no_book Endless f = absurd f.3
+-- a fault within what a fill gave
+pub finds_no_book : {F : Type 0} (n fills : ℕ) (old mid new : SourceState) (came slice : List ℕ) (count : ℕ) → 0 < length slice → length slice ≤ chunk_len → n < fills
+    → ReadsOn chunk_len n old mid came → Fill {E = F} mid new (Ok count) slice → (e : BookError) → FailsWithin came (take count slice) e → ReadsBook fills old new (Err e)
+finds_no_book n fills old mid new came slice count room fits l on fill e (front, rest, cut, due) =
+    let reads = ReadsSome-more chunk_len n old mid new came slice room fits on fills count l fill in inl (
+      so_far,
+      came ++ front,
+      (rest, subst (λ (bytes : List ℕ). ReadsSome chunk_len fills old new bytes) (ap (λ xs. came ++ xs) cut ∙ sym (append_assoc came front rest)) reads),
+      due,
+    )

@@ -5,11 +5,11 @@ use Rattle.std.proofs.lemmas.Bool.{eqb-true}
 use Rattle.std.proofs.lemmas.Bool.Decides.{eqb_tells}
 use Rattle.std.proofs.lemmas.List.{take_more}
 use Rattle.std.proofs.lemmas.List.Elements.{filter_passes}
-use Rattle.pb_board.specs.Position.{Position}
+use Rattle.pb_board.specs.Position.{IsSetup, Position}
 use Rattle.pb_moves.specs.Moved.{Moved}
 use Rattle.pb_poly.specs.declared.entry.Entry.{Entry}
 use Rattle.pb_poly.specs.Key.{key}
-use Rattle.pb_poly.specs.Found.{Found, FoundIsOne, IsFor}
+use Rattle.pb_poly.specs.Found.{Found, IsFor}
 use Rattle.pb_poly.proofs.Codes.{code_is_one}
 
 pub Found-append : (randoms : List ℕ) (s : Position) (front back : List Entry) (found later : List (Moved × ℕ))
@@ -60,7 +60,7 @@ Found-under randoms s key_of (e ∷ entries) found is h =
       | inr other ↦ inr ((λ m for. other.1 (for.key_is ∙ sym is)), Found-under randoms s key_of entries found is (subst P other.0 h))
     ]
 
-pub found_is_one : FoundIsOne
+pub found_is_one : (entries : List Entry) (randoms : List ℕ) (s : Position) (pairs others : List (Moved × ℕ)) → IsSetup s → Found entries randoms s pairs → Found entries randoms s others → pairs ≡ others
 found_is_one [] randoms s pairs others setup x y = x ∙ sym y
 found_is_one (e ∷ entries) randoms s pairs others setup (inl x) (inl y) =
     let move : x.0 ≡ y.0 = code_is_one s x.0 y.0 e.code setup x.2.has_code y.2.has_code in

@@ -11,11 +11,10 @@ pub mod KeyMoves
 pub mod KeyPlies
 pub mod Keys
 pub mod Offsets
-pub mod OnlyTables
+pub mod OneBook
+pub mod OneTable
 pub mod Parity
-pub mod ReadRows
 pub mod Runs
-pub mod TableFills
 pub mod Tables
 pub mod Told
 pub mod ToldReads

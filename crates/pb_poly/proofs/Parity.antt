@@ -6,8 +6,8 @@ use Rattle.std.proofs.lemmas.Bool.{cases_lt}
 use Rattle.std.proofs.lemmas.List.{get_or_past}
 use Rattle.std.proofs.lemmas.Nat.{xor_lt}
 use Rattle.std.proofs.lemmas.Nat.Bits.{bit_at-lt, bit_at-zero, bit_at_xor, same_from_bits_below}
-use Rattle.pb_board.specs.Position.{Position}
-use Rattle.pb_poly.specs.Key.{AreOffsets, KeyIsOne, KeyIsParity, key, offsets}
+use Rattle.pb_board.specs.Position.{IsSetup, Position}
+use Rattle.pb_poly.specs.Key.{AreOffsets, IsKey, key, offsets}
 use Rattle.pb_poly.specs.KeyChange.{toggled}
 use Rattle.pb_poly.specs.Table.{IsTable}
 use Rattle.pb_poly.proofs.Among.{among_contained, contains_among, pairs_distinct, sum_is_total, total, total_same}
@@ -39,7 +39,7 @@ toggled_same randoms xs ys table same =
     let parity = same (λ offset. bit_at (slice_index randoms offset) bit) in
     omega (arith, left, right, parity))
 
-pub key_is_parity : KeyIsParity
+pub key_is_parity : (randoms : List ℕ) (s : Position) → IsTable randoms → IsSetup s → IsKey randoms s (key randoms s)
 unfolding key
 key_is_parity randoms s table setup = record {
   below = toggled_below randoms 0 (offsets s) table (omega arith);
@@ -65,7 +65,7 @@ same_sums randoms s ps qs bit x y =
     (λ n among. among_contained ps n ((x.each n).1 ((y.each n).0 (contains_among qs n among))))
     ∙ sym (sum_is_total f qs)
 
-pub key_is_one : KeyIsOne
+pub key_is_one : (randoms : List ℕ) (s : Position) (k l : ℕ) → IsKey randoms s k → IsKey randoms s l → k ≡ l
 key_is_one randoms s k l x y =
     same_from_bits_below 64 k l x.below y.below (λ bit low.
     x.bits bit low ∙ ap (λ n. n % 2) (same_sums randoms s x.offsets y.offsets bit x.are y.are) ∙ sym (y.bits bit low))

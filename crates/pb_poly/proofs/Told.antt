@@ -1,62 +1,97 @@
--- What is read from a source that tells the bytes of a book.
-use Rattle.std.proofs.Common.{◌≡◌, ℕ, ◌*◌, ◌+◌, List, [], ◌++◌, length, length-append, Option, Some, None, Result, Ok, Err, refl, sym, ap, ◌∙◌, subst, append_assoc, arith}
-use Rattle.std.specs.Prelude.{MatchResult}
-use Rattle.std.specs.Io.KnownBytes.{Consumes, IsAtEnd}
-use Rattle.std.proofs.lemmas.List.{append-nil}
+-- What is read of a table file and of a book from a source that tells its bytes.
+use Rattle.std.proofs.Common.{◌≡◌, ◌∙◌, ℕ, ◌≤◌, List, ◌++◌, Some, Result, Ok, Err, ap, append_assoc, arith, length, length-append, refl, inl, inr, subst, sym, true}
+use Rattle.std.specs.Prelude.{⊤, MatchResult}
+use Rattle.pb_io.specs.Reads.{ReadsAll, chunk_len}
 use Rattle.pb_io.specs.Source.{SourceState}
+use Rattle.pb_io.specs.declared.fault.ReadFault.TheVariants as read
+use Rattle.pb_poly.specs.Book.{IsBookFile}
+use Rattle.pb_poly.specs.Reading.{AsBook, BookIs, ReadsBook, Tells}
+use Rattle.pb_poly.specs.Streams.{at_end, at_fault, at_no_end, just_so_far, so_far}
+use Rattle.pb_poly.specs.Table.{IsTableFile, table_limit}
+use Rattle.pb_poly.specs.TableReading.{AsTable, ReadsTable, TableIs}
 use Rattle.pb_poly.specs.declared.entry.Entry.{Entry}
 use Rattle.pb_poly.specs.declared.reading.BookError.{BookError}
 use Rattle.pb_poly.specs.declared.reading.BookError.TheVariants.{Unsorted, Cut, Read, Endless, Memory}
-use Rattle.pb_poly.specs.Book.{BookBytes, NeverFall, book_bytes}
-use Rattle.pb_poly.specs.BookFinds.{FindsBook, FindsNoBook}
-use Rattle.pb_poly.specs.Reading.{ReadsBook, Tells}
-use Rattle.pb_poly.proofs.ReadRows.{found_book, found_no_book}
-use Rattle.pb_poly.proofs.EntryBytes.{NeverFall-front, none_falls, begins, book_is_one, length-book_bytes}
+use Rattle.pb_poly.specs.declared.table_file.TableFault.{TableFault}
+use Rattle.pb_poly.specs.declared.table_file.TableFault.TheVariants.{Long, Line, Count, Fault}
+use Rattle.pb_poly.proofs.OneBook.{one_book}
+use Rattle.pb_poly.proofs.OneTable.{one_table}
+use Rattle.pb_poly.proofs.ToldReads.{all_came, came_first, long_enough}
 
--- what came is a front of what was told
-pub consumed : (old new : Option (List ℕ)) (bytes came : List ℕ) → old ≡ Some bytes → Consumes old new came → (rest : List ℕ) × (new ≡ Some rest) × (bytes ≡ came ++ rest)
-consumed None new bytes came told h = absurd (cc)
-consumed (Some xs) None bytes came told h = absurd h
-consumed (Some xs) (Some ys) bytes came told h = let same : bytes ≡ xs = cc in (ys, refl, same ∙ h)
+module _ (fills : ℕ) (old new : SourceState) (bytes : List ℕ) (told : old.to_come ≡ Some bytes) where
+  -- ---- books
 
-pub at_end : (new : Option (List ℕ)) (rest : List ℕ) → new ≡ Some rest → IsAtEnd new → rest ≡ []
-at_end None rest is h = absurd (cc)
-at_end (Some ys) rest is h = let same : rest ≡ ys = cc in same ∙ h
+  -- the bytes come to it, or they weren't all read
+  abbrev pub BookTold : Result (List Entry) BookError → Type 0
+  BookTold (Err Read) = new.failed ≡ true
+  BookTold (Err Endless) = fills ≤ length bytes
+  BookTold (Err Memory) = ⊤
+  BookTold result = AsBook bytes result
 
-pub all_came : (old new : Option (List ℕ)) (bytes came : List ℕ) → old ≡ Some bytes → Consumes old new came → IsAtEnd new → bytes ≡ came
-all_came old new bytes came told h ended =
-    let c = consumed old new bytes came told h in
-    c.2 ∙ ap (λ xs. came ++ xs) (at_end new c.0 c.1 ended) ∙ append-nil came
+  pub book_told : (result : Result (List Entry) BookError) → ReadsBook fills old new result → BookTold result
+  book_told (Ok entries) (inl (at_end, came, reads, is)) = subst (λ xs. IsBookFile entries xs) (sym (all_came chunk_len fills old new bytes told came reads)) is
+  book_told (Err (Unsorted n)) (inl (so_far, came, (more, some), is)) =
+      let c = came_first chunk_len fills old new bytes told (came ++ more) some.reads in (came, more ++ c.0, c.1 ∙ append_assoc came more c.0, is)
+  book_told (Err (Cut n)) (inl (at_end, came, reads, is)) = subst (λ xs. BookIs at_end xs (Err (Cut n))) (sym (all_came chunk_len fills old new bytes told came reads)) is
+  book_told (Err Read) (inl (at_fault, came, reads, is)) = reads.fails
+  book_told (Err Endless) (inl (at_no_end, came, reads, is)) = long_enough chunk_len fills old new bytes told came reads
+  book_told (Err Memory) h = tt
+  book_told result (inl (way, came, reads, is)) = absurd is
+  book_told result (inr (is, same)) = subst (λ r. BookTold r) (sym is) tt
 
-module _ (fills : ℕ) (old new : SourceState) (entries : List Entry) (bytes : List ℕ) (tells : Tells fills old new bytes) (are : BookBytes entries bytes) (ordered : NeverFall entries) where
-  found : (others : List Entry) → FindsBook fills old new others → others ≡ entries
-  found others h =
-      let all : bytes ≡ h.came = all_came old.to_come new.to_come bytes h.came tells.told h.reads.some.reads.bytes h.reads.ended in
-      book_is_one others entries h.came h.bytes (record { bounds = are.bounds; are = sym all ∙ are.are })
+  -- ---- table files
 
-  refused : (e : BookError) → FindsNoBook fills old new e → e ≡ Memory
-  refused (Unsorted number) h =
-      let c = consumed old.to_come new.to_come bytes (h.came ++ h.reads.0) tells.told h.reads.1.reads.bytes in
-      let is : book_bytes entries ≡ book_bytes h.due.0 ++ (h.reads.0 ++ c.0) =
-      sym are.are ∙ c.2 ∙ append_assoc h.came h.reads.0 c.0 ∙ ap (λ xs. xs ++ (h.reads.0 ++ c.0)) h.due.1.are in
-      let cut = begins entries h.due.0 (h.reads.0 ++ c.0) are.bounds h.due.1.bounds is in
-      let front : NeverFall h.due.0 = NeverFall-front h.due.0 cut.0 (subst (λ (es : List Entry). NeverFall es) cut.1 ordered) in
-      absurd (none_falls h.due.0 number front h.due.2)
-  refused (Cut extra) h =
-      let all : bytes ≡ h.came = all_came old.to_come new.to_come bytes h.came tells.told h.reads.some.reads.bytes h.reads.ended in
-      let splits = h.due.2 in
-      let cut = begins entries h.due.0 h.due.1 are.bounds splits.bounds (sym are.are ∙ all ∙ splits.bytes) in
-      let long : length h.due.1 ≡ 16 * length cut.0 = ap length (sym cut.2) ∙ length-book_bytes cut.0 in
-      absurd (omega (arith, splits.partial, h.due.3, h.due.4, long))
-  refused Read h = absurd (cc (sym h.reads.fails ∙ tells.works))
-  refused Endless h =
-      let c = consumed old.to_come new.to_come bytes h.came tells.told h.reads.reads.bytes in
-      let long : length bytes ≡ length h.came + length c.0 = ap length c.2 ∙ length-append h.came c.0 in
-      let many = h.reads.many in
-      let ends = tells.ends in
-      absurd (omega arith)
-  refused Memory h = refl
+  abbrev pub TableTold : Result (List ℕ) TableFault → Type 0
+  TableTold (Err (Fault read.Read)) = new.failed ≡ true
+  TableTold (Err (Fault read.Endless)) = fills ≤ length bytes
+  TableTold (Err (Fault read.Memory)) = ⊤
+  TableTold result = AsTable bytes result
 
-  pub only : (result : Result (List Entry) BookError) → ReadsBook fills old new result → MatchResult result (λ book. book ≡ entries) (λ e. e ≡ Memory)
-  only (Ok book) h = found book (found_book fills old new book h)
-  only (Err e) h = refused e (found_no_book fills old new e h)
+  pub table_told : (result : Result (List ℕ) TableFault) → ReadsTable fills old new result → TableTold result
+  table_told (Ok randoms) (inl (at_end, came, reads, is)) = subst (λ xs. IsTableFile randoms xs) (sym (all_came table_limit fills old new bytes told came reads)) is
+  table_told (Err Long) (inl (just_so_far, came, reads, is)) =
+      let c = came_first table_limit fills old new bytes told came reads.reads in omega (arith, is, ap length c.1, length-append came c.0)
+  table_told (Err (Line n)) (inl (at_end, came, reads, is)) = subst (λ xs. TableIs at_end xs (Err (Line n))) (sym (all_came table_limit fills old new bytes told came reads)) is
+  table_told (Err (Count n)) (inl (at_end, came, reads, is)) = subst (λ xs. TableIs at_end xs (Err (Count n))) (sym (all_came table_limit fills old new bytes told came reads)) is
+  table_told (Err (Fault read.Read)) (inl (at_fault, came, reads, is)) = reads.fails
+  table_told (Err (Fault read.Endless)) (inl (at_no_end, came, reads, is)) = long_enough table_limit fills old new bytes told came reads
+  table_told (Err (Fault read.Memory)) h = tt
+  table_told result (inl (way, came, reads, is)) = absurd is
+  table_told result (inr (is, same)) = subst (λ r. TableTold r) (sym is) tt
+
+-- the source of a table was read to its end
+pub found_table : (fills : ℕ) (old new : SourceState) (randoms : List ℕ) → ReadsTable fills old new (Ok randoms)
+    → (came : List ℕ) × ReadsAll table_limit fills old new came × IsTableFile randoms came
+found_table fills old new randoms (inl (at_end, came, reads, is)) = (came, reads, is)
+found_table fills old new randoms (inl (way, came, reads, is)) = absurd is
+found_table fills old new randoms (inr (is, same)) = absurd (cc is)
+
+-- ---- of a source that doesn't fail and ends within the fills
+
+module _ (fills : ℕ) (old new : SourceState) (bytes : List ℕ) (tells : Tells fills old new bytes) where
+  -- nothing but want of memory comes in place of a book
+  pub only_book : (entries : List Entry) → IsBookFile entries bytes → (result : Result (List Entry) BookError) → ReadsBook fills old new result
+      → MatchResult result (λ book. book ≡ entries) (λ e. e ≡ Memory)
+  only_book entries is result h = by result (book_told fills old new bytes tells.told result h)
+    where
+      by : (result : Result (List Entry) BookError) → BookTold fills old new bytes tells.told result → MatchResult result (λ book. book ≡ entries) (λ e. e ≡ Memory)
+      by (Err Read) fails = absurd (cc (sym fails ∙ tells.works))
+      by (Err Endless) many = absurd (omega (arith, many, tells.ends))
+      by (Err Memory) h = refl
+      by (Ok others) given = cc (one_book bytes (Ok others) (Ok entries) given is)
+      by (Err (Unsorted n)) given = absurd (cc (one_book bytes (Err (Unsorted n)) (Ok entries) given is))
+      by (Err (Cut n)) given = absurd (cc (one_book bytes (Err (Cut n)) (Ok entries) given is))
+
+  -- nor in place of a table
+  pub only_table : (randoms : List ℕ) → IsTableFile randoms bytes → (result : Result (List ℕ) TableFault) → ReadsTable fills old new result
+      → MatchResult result (λ table. table ≡ randoms) (λ e. e ≡ Fault read.Memory)
+  only_table randoms is result h = by result (table_told fills old new bytes tells.told result h)
+    where
+      by : (result : Result (List ℕ) TableFault) → TableTold fills old new bytes tells.told result → MatchResult result (λ table. table ≡ randoms) (λ e. e ≡ Fault read.Memory)
+      by (Err (Fault read.Read)) fails = absurd (cc (sym fails ∙ tells.works))
+      by (Err (Fault read.Endless)) many = absurd (omega (arith, many, tells.ends))
+      by (Err (Fault read.Memory)) h = refl
+      by (Ok others) given = cc (one_table bytes (Ok others) (Ok randoms) given is)
+      by (Err Long) given = absurd (cc (one_table bytes (Err Long) (Ok randoms) given is))
+      by (Err (Line n)) given = absurd (cc (one_table bytes (Err (Line n)) (Ok randoms) given is))
+      by (Err (Count n)) given = absurd (cc (one_table bytes (Err (Count n)) (Ok randoms) given is))

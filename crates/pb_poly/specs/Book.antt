@@ -29,15 +29,3 @@ pub record BookBytes (entries : List Entry) (bytes : List ℕ) : Type 0 where
 pub record IsBookFile (entries : List Entry) (bytes : List ℕ) : Type 0 where
   pub are : BookBytes entries bytes
   pub ordered : NeverFall entries
-
--- ---- laws
-
--- no two books have the same bytes
-abbrev pub BookIsOne : Type 0
-BookIsOne = (entries others : List Entry) (bytes : List ℕ) → BookBytes entries bytes
-    → BookBytes others bytes → entries ≡ others
-
--- no book has two texts
-abbrev pub BytesAreOne : Type 0
-BytesAreOne = (entries : List Entry) (bytes others : List ℕ) → BookBytes entries bytes
-    → BookBytes entries others → bytes ≡ others

@@ -5,7 +5,7 @@ use Rattle.std.specs.Prelude.{◌≡◌, ℕ, ◌+◌, ◌*◌, ◌&&◌, if◌t
 use Rattle.std.specs.Option.{option_map_or}
 use Rattle.pb_board.specs.Piece.{kind_number, piece_of}
 use Rattle.pb_board.specs.declared.piece.Kind.TheVariants.{King}
-use Rattle.pb_board.specs.Position.{Position, IsSetup}
+use Rattle.pb_board.specs.Position.{Position}
 use Rattle.pb_board.specs.Board.{file, rank, at, is_piece}
 use Rattle.pb_moves.specs.Moved.{Moved}
 use Rattle.pb_moves.specs.Legal.{Legal}
@@ -26,8 +26,3 @@ encode_move s m =
 pub record HasCode (s : Position) (m : Moved) (number : ℕ) : Type 0 where
   pub legal : Legal s m
   pub code_is : encode_move s m ≡ number
-
--- a code is that of one legal move at most
-abbrev pub CodeIsOne : Type 0
-CodeIsOne = (s : Position) (m n : Moved) (number : ℕ) → IsSetup s → HasCode s m number
-    → HasCode s n number → m ≡ n

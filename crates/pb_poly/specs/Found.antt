@@ -1,6 +1,6 @@
 -- What a book holds for a setup.
 use Rattle.std.specs.Prelude.{◌≡◌, ℕ, ◌⊎◌, List, [], ◌∷◌}
-use Rattle.pb_board.specs.Position.{Position, IsSetup}
+use Rattle.pb_board.specs.Position.{Position}
 use Rattle.pb_moves.specs.Moved.{Moved}
 use Rattle.pb_poly.specs.declared.entry.Entry.{Entry}
 use Rattle.pb_poly.specs.Code.{HasCode}
@@ -20,9 +20,3 @@ Found (e ∷ entries) randoms s pairs =
     ⊎ (((m : Moved) → ¬ IsFor randoms s e m) × Found entries randoms s pairs)
 
 -- ---- laws
-
--- a book holds one list of moves and weights for a setup
-abbrev pub FoundIsOne : Type 0
-FoundIsOne = (entries : List Entry) (randoms : List ℕ) (s : Position)
-    (pairs others : List (Moved × ℕ)) → IsSetup s → Found entries randoms s pairs
-    → Found entries randoms s others → pairs ≡ others

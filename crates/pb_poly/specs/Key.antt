@@ -10,11 +10,10 @@ use Rattle.pb_board.specs.declared.piece.Colour.TheVariants.{White}
 use Rattle.pb_board.specs.declared.piece.Piece.{Piece}
 use Rattle.pb_board.specs.declared.piece.Kind.TheVariants.{Pawn}
 use Rattle.pb_board.specs.Piece.{colour_number, piece_number, piece_of}
-use Rattle.pb_board.specs.Position.{Position, IsSetup, beyond}
+use Rattle.pb_board.specs.Position.{Position, beyond}
 use Rattle.pb_board.specs.Board.{Board, file, rank, at, Holds, is_piece}
 use Rattle.pb_board.specs.Rights.{of_rights, only_if}
 use Rattle.pb_moves.specs.Attacks.{files_apart}
-use Rattle.pb_poly.specs.Table.{IsTable}
 
 -- the offset of a piece on a square
 abbrev pub piece_offset : Piece → ℕ → ℕ
@@ -79,13 +78,3 @@ pub record IsKey (randoms : List ℕ) (s : Position) (key : ℕ) : Type 0 where
   pub are : AreOffsets s offsets
   pub bits : (bit : ℕ) → bit < 64
       → bit_at key bit ≡ sum_by (λ offset. bit_at (slice_index randoms offset) bit) offsets % 2
-
--- the function gives the key of a setup
-abbrev pub KeyIsParity : Type 0
-KeyIsParity = (randoms : List ℕ) (s : Position) → IsTable randoms → IsSetup s
-    → IsKey randoms s (key randoms s)
-
--- a setup has one key
-abbrev pub KeyIsOne : Type 0
-KeyIsOne = (randoms : List ℕ) (s : Position) (k l : ℕ) → IsKey randoms s k → IsKey randoms s l
-    → k ≡ l

@@ -1,9 +1,7 @@
 pub mod Book
-pub mod BookFinds
 pub mod Code
 pub mod Decoding
 pub mod Entry
-pub mod Feeding
 pub mod Found
 pub mod Key
 pub mod KeyChange
@@ -11,8 +9,6 @@ pub mod Ordered
 pub mod Reading
 pub mod Streams
 pub mod Table
-pub mod TableFilling
-pub mod TableFinds
 pub mod TableReading
 pub use Rattle.pb_io.specs.Count
 pub use Rattle.pb_io.specs.LineTask

@@ -34,6 +34,19 @@ BookIs so_far bytes (Err Memory) =
     (before : List Entry) × (entry : Entry) × IsBookFile (before ++ entry ∷ []) bytes
 BookIs way bytes result = ⊥
 
+-- after the bytes that came, the entry that a front of the chunk makes whole gives this fault
+abbrev pub FailsWithin : List ℕ → List ℕ → BookError → Type 0
+FailsWithin came chunk e = (front : List ℕ) × (rest : List ℕ) × (chunk ≡ front ++ rest)
+    × BookIs so_far (came ++ front) (Err e)
+
+-- the bytes, all of them, come to these entries, or to one of the two faults that bytes alone can
+-- give
+abbrev pub AsBook : List ℕ → Result (List Entry) BookError → Type 0
+AsBook bytes (Err (Unsorted n)) =
+    (front : List ℕ) × (rest : List ℕ) × (bytes ≡ front ++ rest)
+    × BookIs so_far front (Err (Unsorted n))
+AsBook bytes result = BookIs at_end bytes result
+
 -- reading a book gives this; for want of memory at the start nothing is read
 abbrev pub ReadsBook : ℕ → SourceState → SourceState → Result (List Entry) BookError → Type 0
 ReadsBook fills old new result =

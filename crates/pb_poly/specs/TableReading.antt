@@ -1,5 +1,5 @@
 -- What reading a table file from a source gives.
-use Rattle.std.specs.Prelude.{◌≡◌, ℕ, ◌+◌, ◌≤◌, ◌⊎◌, List, Result, Ok, Err, length}
+use Rattle.std.specs.Prelude.{◌≡◌, ℕ, ◌+◌, ◌<◌, ◌≤◌, ◌⊎◌, List, Result, Ok, Err, length}
 use Rattle.pb_io.specs.Source.{SourceState}
 use Rattle.pb_io.specs.declared.fault.ReadFault.TheVariants.{Read, Endless, Memory}
 use Rattle.pb_poly.specs.Streams.{ReadsTo, Extent, at_end, at_fault, at_no_end, just_so_far}
@@ -20,6 +20,13 @@ TableIs at_end bytes (Err (Fault Memory)) = (randoms : List ℕ) × IsTableFile 
 TableIs at_fault bytes (Err (Fault Read)) = length bytes ≤ table_limit
 TableIs at_no_end bytes (Err (Fault Endless)) = length bytes ≤ table_limit
 TableIs way bytes result = ⊥
+
+-- the bytes, all of them, come to these random numbers, or to one of the three faults that bytes
+-- alone can give
+abbrev pub AsTable : List ℕ → Result (List ℕ) TableFault → Type 0
+AsTable bytes (Err Long) = table_limit < length bytes
+AsTable bytes (Err (Fault fault)) = ⊥
+AsTable bytes result = TableIs at_end bytes result
 
 -- reading a table file gives this; for want of memory at the start nothing is read
 abbrev pub ReadsTable : ℕ → SourceState → SourceState → Result (List ℕ) TableFault → Type 0

@@ -23,9 +23,9 @@ fn has_own_king(setup: &Setup, square: Square) -> bool
     }
 }
 
-/// The square that codes give as reached by a king: of castling, its rook's home.
+/// The square that the code of a king's move names: of castling, its rook's home.
 #[inline(always)]
-fn king_to(side: Colour, m: Move) -> Square
+fn coded_king_to(side: Colour, m: Move) -> Square
     ensures { result ≡ if is_castling side m then rook_home m else m.to }
 {
     match Castling::of(m.from(), m.to()) {
@@ -39,7 +39,7 @@ fn coded_to(setup: &Setup, m: Move) -> Square
     ensures { result ≡ encoded_to setup.now m }
 {
     if has_own_king(setup, m.from()) {
-        king_to(setup.turn(), m)
+        coded_king_to(setup.turn(), m)
     } else {
         m.to()
     }
@@ -68,7 +68,7 @@ pub fn code_by(m: Move, effect: &Effect) -> u16
     ensures { (s : Position) → IsEffect s m effect.now → result ≡ encode_move s m }
 {
     if effect.piece.kind == Kind::King {
-        code_to(m, king_to(effect.piece.colour, m))
+        code_to(m, coded_king_to(effect.piece.colour, m))
     } else {
         m.bits()
     }

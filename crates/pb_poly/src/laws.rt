@@ -3,10 +3,13 @@
 ghost use Rattle.std.specs.Bool.{Decides};
 ghost use Rattle.std.specs.Prelude.{◌≡◌, ◌<◌, ℕ, List, Some, false, length};
 ghost use Rattle.pb_io.specs.Source.{SourceState};
-ghost use Rattle.pb_poly.specs.Book.{BookIsOne, BytesAreOne};
-ghost use Rattle.pb_poly.specs.Code.{CodeIsOne};
-ghost use Rattle.pb_poly.specs.Found.{FoundIsOne};
-ghost use Rattle.pb_poly.specs.Key.{KeyIsOne, KeyIsParity};
+ghost use Rattle.pb_board.specs.Position.{IsSetup, Position};
+ghost use Rattle.pb_moves.specs.Moved.{Moved};
+ghost use Rattle.pb_poly.specs.Book.{BookBytes};
+ghost use Rattle.pb_poly.specs.Code.{HasCode};
+ghost use Rattle.pb_poly.specs.Found.{Found};
+ghost use Rattle.pb_poly.specs.Key.{IsKey, key};
+ghost use Rattle.pb_poly.specs.Table.{IsTable};
 ghost use Rattle.pb_poly.specs.Reading.{Tells};
 ghost use Rattle.pb_poly.specs.declared.entry.Entry.{Entry};
 ghost use Rattle.pb_poly.specs.declared.entry.TheConstants.{ENTRIES_AT_ONCE};
@@ -27,19 +30,24 @@ pub fn limits()
 
 /// No two legal moves share a code.
 pub fn code_is_one()
-    ensures { CodeIsOne }
+    ensures { (s : Position) (m n : Moved) (number : ℕ) → IsSetup s → HasCode s m number
+        → HasCode s n number → m ≡ n }
 {}
 
 /// The key is the one number that is, bit by bit, the parity of the randoms at a setup's offsets.
 pub fn key_is_one()
-    ensures is { KeyIsParity }
-    ensures only { KeyIsOne }
+    ensures is { (randoms : List ℕ) (s : Position) → IsTable randoms → IsSetup s
+        → IsKey randoms s (key randoms s) }
+    ensures only { (randoms : List ℕ) (s : Position) (k l : ℕ) → IsKey randoms s k
+        → IsKey randoms s l → k ≡ l }
 {}
 
 /// No two books have the same bytes, and no book has two texts.
 pub fn book_is_one()
-    ensures entries { BookIsOne }
-    ensures bytes { BytesAreOne }
+    ensures entries { (entries others : List Entry) (bytes : List ℕ) → BookBytes entries bytes
+        → BookBytes others bytes → entries ≡ others }
+    ensures bytes { (entries : List Entry) (bytes others : List ℕ) → BookBytes entries bytes
+        → BookBytes entries others → bytes ≡ others }
 {}
 
 /// `==` holds exactly where two values are one.
@@ -52,7 +60,9 @@ pub fn equal_values()
 
 /// A book holds one list of moves and weights for a setup.
 pub fn found_is_one()
-    ensures { FoundIsOne }
+    ensures { (entries : List Entry) (randoms : List ℕ) (s : Position)
+        (pairs others : List (Moved × ℕ)) → IsSetup s → Found entries randoms s pairs
+        → Found entries randoms s others → pairs ≡ others }
 {}
 
 /// There are reads as `Tells` wants them.

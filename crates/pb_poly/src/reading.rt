@@ -1,13 +1,12 @@
 //! Books from sources.
 
 ghost use Rattle.std.specs.Prelude.{◌-◌, min, ◌≡◌, ◌<◌, ◌≤◌, ℕ, List, [], ◌∷◌, ◌++◌, IfOk, IfErr};
-ghost use Rattle.std.specs.Prelude.{MatchResult, OnOk, length, take};
+ghost use Rattle.std.specs.Prelude.{Err, MatchResult, OnOk, length, take};
 ghost use Rattle.pb_io.specs.Reads.{chunk_len};
 ghost use Rattle.pb_poly.specs.Book.{BookBytes, NeverFall};
 ghost use Rattle.pb_poly.specs.Entry.{IsEntry, entry_bytes};
-ghost use Rattle.pb_poly.specs.Feeding.{FailsWithin, RefusesEntry};
-ghost use Rattle.pb_poly.specs.Reading.{BookIs, ReadsBook, Splits, Tells};
-ghost use Rattle.pb_poly.specs.Streams.{at_end};
+ghost use Rattle.pb_poly.specs.Reading.{BookIs, FailsWithin, ReadsBook, Splits, Tells};
+ghost use Rattle.pb_poly.specs.Streams.{at_end, so_far};
 ghost use Rattle.pb_poly.specs.declared.reading.BookError.TheVariants.{Memory};
 ghost use Rattle.pb_poly.specs.declared.entry.Entry.{Entry};
 
@@ -73,7 +72,8 @@ impl Reading {
         requires { IsEntry entry }
         ensures ok { OnOk result ((self.new.0 ≡ self.old.0 ++ entry ∷ [])
             × (self.new.1 ≡ self.old.1) × NeverFall self.new.0) }
-        ensures err { IfErr result (RefusesEntry self.old.0 entry) }
+        ensures err { IfErr result (λ e. (bytes : List ℕ)
+            → BookBytes (self.old.0 ++ entry ∷ []) bytes → BookIs so_far bytes (Err e)) }
     {
         if entry.key < self.last_key {
             return Err(BookError::Unsorted(self.entries.len() + 1));

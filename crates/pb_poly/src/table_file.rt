@@ -1,19 +1,16 @@
 //! Table files from sources.
 
-ghost use Rattle.std.specs.Prelude.{◌≡◌, ℕ, ◌<◌, ◌≤◌, List, [], Err, IfErr, IfOk, MatchResult, OnOk};
-ghost use Rattle.std.specs.Prelude.{length};
+ghost use Rattle.std.specs.Prelude.{◌≡◌, ◌≤◌, ℕ, List, Err, IfErr, IfOk, MatchResult, length, take};
 ghost use Rattle.pb_poly.specs.Reading.{Tells};
 ghost use Rattle.pb_io.specs.Reads.{ReadsAll};
 ghost use Rattle.pb_poly.specs.Table.{IsTableFile, table_limit};
-ghost use Rattle.pb_poly.specs.TableFilling.{FillsTable};
 ghost use Rattle.pb_poly.specs.TableReading.{ReadsTable};
 ghost use Rattle.pb_io.specs.declared.fault.ReadFault.TheVariants.{Memory};
 ghost use Rattle.pb_poly.specs.declared.table_file.TableFault.TheVariants.{Fault};
 
 use crate::table::{Table, TableError, read_table};
 use pb_io::{ReadFault, Source};
-use std::alloc::{AllocError, Global};
-use std::marker::Model;
+use std::alloc::Global;
 use thiserror::Error;
 
 const TABLE_LIMIT: usize = 16_384;
@@ -35,101 +32,48 @@ pub enum TableFault {
     Fault(ReadFault),
 }
 
-#[derive(Drop)]
-struct TableBytes {
-    bytes: Vec<u8>,
-    len: usize,
-}
-
-impl Model for TableBytes {
-    ghost use Rattle.std.specs.Prelude.{◌≡◌, ◌≤◌, ℕ, List, length, take};
-    ghost use Rattle.pb_poly.specs.Table.{table_limit};
-
-    ghost Value = { List ℕ };
-
-    ghost view = { λ t. take t.len t.bytes.items };
-
-    ghost invariant = { λ t. (t.len ≤ table_limit) × (length t.bytes.items ≡ table_limit) };
-}
-
-impl TableBytes {
-    fn new(alloc: Global) -> Result<TableBytes, AllocError>
-        ensures { IfOk result (λ held. held ≡ []) }
-    {
-        Ok(TableBytes {
-            bytes: vec![in alloc; 0; TABLE_LIMIT]?,
-            len: 0,
-        })
-    }
-
-    fn as_bytes(&self) -> &[u8]
-        ensures value { result.now ≡ self.now }
-        ensures few { length self.now ≤ table_limit }
-    {
-        &self.bytes[..self.len]
-    }
-
-    /// Takes what one fill gives, and answers how many bytes.
-    fn fill<S: Source>(&mut self, source: &mut S) -> Result<usize, TableFault>
-        ensures fills { FillsTable (S.state source.old) (S.state source.new) self.old self.new
-            result }
-        ensures few { length self.new ≤ table_limit }
-    {
-        if self.len == TABLE_LIMIT {
-            return expect_end(source);
-        }
-        let Ok(count) = source.fill(&mut self.bytes[self.len..]) else {
-            return Err(TableFault::Fault(ReadFault::Read));
-        };
-        self.len += count;
-        Ok(count)
-    }
-
-    fn drain<S: Source>(&mut self, source: &mut S, fills: u32) -> Result<(), TableFault>
-        requires { self.old ≡ [] }
-        ensures all { OnOk result (ReadsAll table_limit fills (S.state source.old)
-            (S.state source.new) self.new) }
-        ensures err { IfErr result (λ e. ReadsTable fills (S.state source.old)
-            (S.state source.new) (Err e)) }
-    {
-        for _made in 0..fills {
-            let count = self.fill(source)?;
-            if count == 0 {
-                return Ok(());
-            }
-        }
-        Err(TableFault::Fault(ReadFault::Endless))
-    }
-
-    fn read<S: Source>(
-        mut self,
-        alloc: Global,
-        source: &mut S,
-        fills: u32,
-    ) -> Result<Table, TableFault>
-        requires { self ≡ [] }
-        ensures { ReadsTable fills (S.state source.old) (S.state source.new) result }
-    {
-        self.drain(source, fills)?;
-        match read_table(alloc, self.as_bytes()) {
-            Ok(table) => Ok(table),
-            Err(TableError::Line(number)) => Err(TableFault::Line(number)),
-            Err(TableError::Count(count)) => Err(TableFault::Count(count)),
-            Err(TableError::Memory) => Err(TableFault::Fault(ReadFault::Memory)),
-        }
-    }
-}
-
-/// Answers 0 where the source is at its end, and `Long` where one byte more comes.
-fn expect_end<S: Source>(source: &mut S) -> Result<usize, TableFault>
-    ensures { (held : List ℕ) → length held ≡ table_limit
-        → FillsTable (S.state source.old) (S.state source.new) held held result }
+/// Fills the room from its start until the source is at its end, and answers how many bytes came.
+fn fill_whole<S: Source>(source: &mut S, room: &mut [u8], fills: u32) -> Result<usize, TableFault>
+    requires { length room.old ≡ table_limit }
+    ensures all { IfOk result (λ len. (len ≤ table_limit) × ReadsAll table_limit fills
+        (S.state source.old) (S.state source.new) (take len room.new)) }
+    ensures err { IfErr result (λ e. ReadsTable fills (S.state source.old) (S.state source.new)
+        (Err e)) }
 {
-    let mut further = [0];
-    match source.fill(&mut further) {
-        Ok(0) => Ok(0),
-        Ok(_) => Err(TableFault::Long),
-        Err(_) => Err(TableFault::Fault(ReadFault::Read)),
+    let mut len = 0;
+    for _made in 0..fills {
+        if len == TABLE_LIMIT {
+            let mut further = [0];
+            return match source.fill(&mut further) {
+                Ok(0) => Ok(len),
+                Ok(_) => Err(TableFault::Long),
+                Err(_) => Err(TableFault::Fault(ReadFault::Read)),
+            };
+        }
+        match source.fill(&mut room[len..]) {
+            Ok(0) => return Ok(len),
+            Ok(count) => len += count,
+            Err(_) => return Err(TableFault::Fault(ReadFault::Read)),
+        }
+    }
+    Err(TableFault::Fault(ReadFault::Endless))
+}
+
+fn read_file<S: Source>(
+    alloc: Global,
+    room: &mut [u8],
+    source: &mut S,
+    fills: u32,
+) -> Result<Table, TableFault>
+    requires { length room.old ≡ table_limit }
+    ensures { ReadsTable fills (S.state source.old) (S.state source.new) result }
+{
+    let len = fill_whole(source, room, fills)?;
+    match read_table(alloc, &room[..len]) {
+        Ok(table) => Ok(table),
+        Err(TableError::Line(number)) => Err(TableFault::Line(number)),
+        Err(TableError::Count(count)) => Err(TableFault::Count(count)),
+        Err(TableError::Memory) => Err(TableFault::Fault(ReadFault::Memory)),
     }
 }
 
@@ -145,8 +89,8 @@ pub fn take_table<S: Source>(alloc: Global, source: &mut S, fills: u32) -> Resul
         bytes → IsTableFile randoms bytes
         → MatchResult result (λ table. table ≡ randoms) (λ e. e ≡ Fault Memory) }
 {
-    let Ok(held) = TableBytes::new(alloc) else {
+    let Ok(mut room) = vec![in alloc; 0; TABLE_LIMIT] else {
         return Err(TableFault::Fault(ReadFault::Memory));
     };
-    held.read(alloc, source, fills)
+    read_file(alloc, room.as_mut_slice(), source, fills)
 }

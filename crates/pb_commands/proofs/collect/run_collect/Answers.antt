@@ -6,8 +6,8 @@ use Rattle.pb_commands.proofs.Headlines.{collected, headline}
 use Rattle.pb_commands.proofs.Taking.{was_made}
 use Rattle.pb_commands.proofs.collect.run_collect.Goals as goal
 
-pub returns-in_err-book_of-clause-ends : goal.returns-in_err-book_of-clause-ends
-returns-in_err-book_of-clause-ends g c =
+pub returns-in_err-book_of : goal.returns-in_err-book_of
+returns-in_err-book_of g c =
     let e : EndStates = record {
       table = between g.Table.Source.state c.args.table_source.now c.open.new.table;
       lines = between g.In.Source.state c.args.source.now c.take-taken.new.lines;
@@ -15,11 +15,12 @@ returns-in_err-book_of-clause-ends g c =
     } in
     let is : unless_refused c.open.result ≡ Ok (Some c.in-Some.ledger) = cc (c.in_ok-ledger.ensures, c.in-Some.is) in
     let opened = rw (was_made c.open.result c.in-Some.ledger is) at c.open.ensures in
+    let run = collected c.args.rules c.args.fills e _ c.in-Some.ledger c.take-taken.result opened.0 opened.1 c.take-taken.ensures in
     let p = err_from_is_err_and c.from_residual-in_err-book_of.result c.from_residual-in_err-book_of.ensures.1 in
-    rw (p.1, p.2) (inr (c.take-taken.result, collected c.args.rules c.args.fills e _ c.in-Some.ledger c.take-taken.result opened.0 opened.1 c.take-taken.ensures, c.in_err-book_of.ensures))
+    rw (p.1, p.2) (inr (c.take-taken.result, (run, headline c.args.rules c.args.fills e c.take-taken.result run), c.in_err-book_of.ensures))
 
-pub returns-clause-ends : goal.returns-clause-ends
-returns-clause-ends g c =
+pub returns : goal.returns
+returns g c =
     let e : EndStates = record {
       table = between g.Table.Source.state c.args.table_source.now c.open.new.table;
       lines = between g.In.Source.state c.args.source.now c.take-taken.new.lines;
@@ -27,7 +28,5 @@ returns-clause-ends g c =
     } in
     let is : unless_refused c.open.result ≡ Ok (Some c.in-Some.ledger) = cc (c.in_ok-ledger.ensures, c.in-Some.is) in
     let opened = rw (was_made c.open.result c.in-Some.ledger is) at c.open.ensures in
-    (c.take-taken.result, collected c.args.rules c.args.fills e _ c.in-Some.ledger c.take-taken.result opened.0 opened.1 c.take-taken.ensures, c.in_ok-book_of.ensures)
-
-pub returns-clause-headline : goal.returns-clause-headline
-returns-clause-headline g c = let ran = returns-clause-ends g c in headline _ _ _ ran.0 ran.1 _ ran.2
+    let run = collected c.args.rules c.args.fills e _ c.in-Some.ledger c.take-taken.result opened.0 opened.1 c.take-taken.ensures in
+    (c.take-taken.result, (run, headline c.args.rules c.args.fills e c.take-taken.result run), c.in_ok-book_of.ensures)

@@ -1,8 +1,6 @@
-use Rattle.std.proofs.Common.{Err, Ok, inl, inr, refl, subst, ◌≡◌}
+use Rattle.std.proofs.Common.{inl, inr, refl}
 use Rattle.std.proofs.lemmas.Result.{err_from_is_err_and}
-use Rattle.pb_io.specs.Sink.{SinkState}
-use Rattle.pb_export.specs.Exporting.{Exports}
-use Rattle.pb_commands.proofs.ExportClauses.{blame, export_fails, export_made}
+use Rattle.pb_commands.proofs.ExportClauses.{export_fails, export_made}
 use Rattle.pb_commands.proofs.export.export_submissions.Goals as goal
 
 pub returns-in_err-totals-clause-ends : goal.returns-in_err-totals-clause-ends

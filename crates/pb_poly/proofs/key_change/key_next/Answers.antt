@@ -2,7 +2,7 @@ use Rattle.std.proofs.Common.{◌≡◌, ℕ, [], ◌∷◌, ◌∙◌, sym, ap,
 use Rattle.std.specs.Prelude.{bit_xor}
 use Rattle.pb_board.specs.Position.{Position}
 use Rattle.pb_moves.specs.Successor.{after}
-use Rattle.pb_moves.proofs.SameMoves.{after_is_setup}
+use Rattle.pb_moves.proofs.Kept.{after_is_setup}
 use Rattle.pb_poly.specs.Key.{IsKey, key, en_passant_offsets}
 use Rattle.pb_poly.specs.KeyChange.{changed_offsets, moved_offsets, stepped_offsets, toggled}
 use Rattle.pb_poly.proofs.KeyChanges.{moved_changes}

@@ -4,7 +4,7 @@ use Rattle.std.proofs.lemmas.Result.{err_from_is_err_and}
 use Rattle.pb_moves.specs.Moved.{Moved}
 use Rattle.pb_poly.specs.Found.{Found}
 use Rattle.pb_commands.proofs.Trees.{indented, is_played, line_fails, none_put, tree_fails, tree_more, tree_put}
-use Rattle.pb_commands.proofs.lookup.Finder.+put_tree.Goals as goal
+use Rattle.pb_commands.proofs.probe.Finder.+put_tree.Goals as goal
 
 pub loop-m-init : goal.loop-m-init
 loop-m-init g t c = none_put _ _ _ _
@@ -12,8 +12,8 @@ loop-m-init g t c = none_put _ _ _ _
 pub returns-in_err-put_found : goal.returns-in_err-put_found
 returns-in_err-put_found g t c =
     let k = g.K.Sink.state in
-    let words = c.args.self.now.table.now in
-    let entries = c.args.self.now.book.now in
+    let words = c.args.self.now.table in
+    let entries = c.args.self.now.book in
     let s = c.args.setup.now in
     let pairs : List (Moved × ℕ) = c.as_slice-m-items.result.now in
     let found = subst (λ (ps : List (Moved × ℕ)). Found entries words s ps) (sym c.as_slice-m-items.ensures.value) c.in_ok-probe.ensures in
@@ -27,8 +27,8 @@ returns-in_err-put_found g t c =
 pub unwrap-next-requires : goal.unwrap-next-requires
 unwrap-next-requires g t c =
     let k = g.K.Sink.state in
-    let words = c.args.self.now.table.now in
-    let entries = c.args.self.now.book.now in
+    let words = c.args.self.now.table in
+    let entries = c.args.self.now.book in
     let s = c.args.setup.now in
     let pairs : List (Moved × ℕ) = c.as_slice-m-items.result.now in
     let found = subst (λ (ps : List (Moved × ℕ)). Found entries words s ps) (sym c.as_slice-m-items.ensures.value) c.in_ok-probe.ensures in
@@ -39,8 +39,8 @@ unwrap-next-requires g t c =
 pub returns-in_err-put_tree : goal.returns-in_err-put_tree
 returns-in_err-put_tree g t c =
     let k = g.K.Sink.state in
-    let words = c.args.self.now.table.now in
-    let entries = c.args.self.now.book.now in
+    let words = c.args.self.now.table in
+    let entries = c.args.self.now.book in
     let s = c.args.setup.now in
     let pairs : List (Moved × ℕ) = c.as_slice-m-items.result.now in
     let found = subst (λ (ps : List (Moved × ℕ)). Found entries words s ps) (sym c.as_slice-m-items.ensures.value) c.in_ok-probe.ensures in
@@ -55,8 +55,8 @@ returns-in_err-put_tree g t c =
 pub loop-m-preserved : goal.loop-m-preserved
 loop-m-preserved g t c =
     let k = g.K.Sink.state in
-    let words = c.args.self.now.table.now in
-    let entries = c.args.self.now.book.now in
+    let words = c.args.self.now.table in
+    let entries = c.args.self.now.book in
     let s = c.args.setup.now in
     let pairs : List (Moved × ℕ) = c.as_slice-m-items.result.now in
     let found = subst (λ (ps : List (Moved × ℕ)). Found entries words s ps) (sym c.as_slice-m-items.ensures.value) c.in_ok-probe.ensures in
@@ -70,8 +70,8 @@ loop-m-preserved g t c =
 pub returns : goal.returns
 returns g t c =
     let k = g.K.Sink.state in
-    let words = c.args.self.now.table.now in
-    let entries = c.args.self.now.book.now in
+    let words = c.args.self.now.table in
+    let entries = c.args.self.now.book in
     let s = c.args.setup.now in
     let pairs : List (Moved × ℕ) = c.as_slice-m-items.result.now in
     let found = subst (λ (ps : List (Moved × ℕ)). Found entries words s ps) (sym c.as_slice-m-items.ensures.value) c.in_ok-probe.ensures in

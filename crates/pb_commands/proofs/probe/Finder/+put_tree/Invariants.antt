@@ -2,7 +2,7 @@ use Rattle.std.proofs.Common.{◌+◌, ◌-◌}
 use Rattle.pb_moves.specs.Successor.{after}
 use Rattle.pb_commands.specs.Tree.{Tree}
 use Rattle.pb_commands.proofs.Trees.{PutsBranches}
-use Rattle.pb_commands.proofs.lookup.Finder.+put_tree.Given as goal
+use Rattle.pb_commands.proofs.probe.Finder.+put_tree.Given as goal
 
 abbrev pub decreases-put_tree : goal.decreases-put_tree
 decreases-put_tree g l = l.plies
@@ -12,4 +12,4 @@ abbrev pub invariant-loop-m : goal.invariant-loop-m
 invariant-loop-m g l =
     let state = g.K.Sink.state in
     let f = l.fn in
-    PutsBranches (λ m. Tree f.self.table.now f.self.book.now (f.plies - 1) (f.depth + 1) (after f.setup m)) f.depth l.m-items l.m-index (state l.initial.sink) (state l.sink)
+    PutsBranches (λ m. Tree f.self.table f.self.book (f.plies - 1) (f.depth + 1) (after f.setup m)) f.depth l.m-items l.m-index (state l.initial.sink) (state l.sink)
