@@ -7,7 +7,7 @@ ghost use Rattle.pb_games.specs.declared.judge.TheConstants.{MAX_PLIES};
 
 use crate::ply_points::{PlyPoints, points_for};
 use crate::rules::Rules;
-use pb_board::{Colour, Setup};
+use pb_board::Setup;
 use pb_games::{Game, Line, MAX_PLIES, MoveList, MoveVisitor, Outcome};
 use pb_moves::{Move, legal_effect};
 use pb_poly::{Table, code_by, key_next, key_of};
@@ -19,9 +19,7 @@ pub(crate) struct Recorder {
     table: Table,
     // The key of the initial array, with which nearly all games begin.
     start_key: u64,
-    // What a ply of White gives, and one of Black.
-    white: u8,
-    black: u8,
+    outcome: Outcome,
     key: u64,
     ply_points: Vec<PlyPoints>,
     moves: Vec<Move>,
@@ -37,8 +35,7 @@ impl Recorder {
         Ok(Recorder {
             table: table.clone()?,
             start_key: key_of(table, &Setup::start()),
-            white: 0,
-            black: 0,
+            outcome: Outcome::Draw,
             key: 0,
             ply_points: Vec::with_capacity(alloc, MAX_PLIES as usize)?,
             moves: Vec::with_capacity(alloc, MAX_PLIES as usize)?,
@@ -79,8 +76,7 @@ impl MoveVisitor for Recorder {
     ghost fixed = { λ r. r.table };
 
     fn begin(&mut self, start: &Setup, outcome: Outcome) {
-        self.white = points_for(outcome, Colour::White);
-        self.black = points_for(outcome, Colour::Black);
+        self.outcome = outcome;
         self.key = if start.is_start() {
             self.start_key
         } else {
@@ -96,10 +92,7 @@ impl MoveVisitor for Recorder {
                 let given = PlyPoints {
                     key: self.key,
                     code: code_by(m, &effect),
-                    points: match setup.turn() {
-                        Colour::White => self.white,
-                        Colour::Black => self.black,
-                    },
+                    points: points_for(self.outcome, setup.turn()),
                 };
                 self.key = key_next(&self.table, self.key, setup, m, &effect);
                 effect.apply(setup, m);

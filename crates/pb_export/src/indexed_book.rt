@@ -77,12 +77,12 @@ fn firsts_of(alloc: Global, entries: &[Entry]) -> Result<Vec<u32>, AllocError>
     let mut start = 0;
     for front in 0..FRONTS {
         start += count_below(&entries[start..], front << 46);
-        firsts.push(in_32_bits(start))?;
+        firsts.push(capped(start))?;
     }
     Ok(firsts)
 }
 
-fn in_32_bits(start: usize) -> u32
+fn capped(start: usize) -> u32
     ensures { result ≤ start }
 {
     start.min(u32::MAX as usize) as u32

@@ -153,10 +153,8 @@ impl Listing {
         if u64::from(*noted) != key >> 32 {
             return false;
         }
-        match self.setups.get(*index as usize) {
-            Some(listed) => listed.fields.as_bytes() == fields,
-            None => false,
-        }
+        let listed = self.setups.get(*index as usize);
+        listed.is_some_and(|listed| listed.fields.as_bytes() == fields)
     }
 }
 
@@ -200,10 +198,7 @@ fn keyed_setups(alloc: Global, table: &Table, game: &Game) -> Result<KeyedSetups
 fn in_32_bits(count: usize) -> Result<u32, AllocError>
     ensures { IfOk result (λ n. n ≡ count) }
 {
-    match u32::try_from(count) {
-        Ok(count) => Ok(count),
-        Err(_) => Err(AllocError),
-    }
+    u32::try_from(count).map_err(|_| AllocError)
 }
 
 /// Adds the moves of the entries.

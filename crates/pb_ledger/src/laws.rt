@@ -8,12 +8,18 @@ ghost use Rattle.pb_board.specs.LineEnd.{with_end};
 ghost use Rattle.pb_io.specs.Lines.{line_feed, lines};
 ghost use Rattle.pb_io.specs.LineTask.{AtEnd};
 ghost use Rattle.pb_io.specs.Source.{SourceState};
+ghost use Rattle.pb_poly.specs.Book.{BookBytes};
 ghost use Rattle.pb_poly.specs.Reading.{Tells};
+ghost use Rattle.pb_poly.specs.declared.entry.Entry.{Entry};
 ghost use Rattle.pb_games.specs.Submissions.{Submission, IsSubmission, submission_text};
+ghost use Rattle.pb_accepted.specs.Basis.{Basis};
+ghost use Rattle.pb_accepted.specs.Counting.{IsBook, counted};
 ghost use Rattle.pb_accepted.specs.Holding.{HaveOwnIds};
+ghost use Rattle.pb_accepted.specs.Laws.{SameMembers};
 ghost use Rattle.pb_accepted.specs.Ledger.{LedgerState};
-ghost use Rattle.pb_accepted.specs.Accepting.{Answer, Run};
+ghost use Rattle.pb_accepted.specs.Accepting.{Answer, OneGame, Run, Taken};
 ghost use Rattle.pb_accepted.specs.Replies.{replies as replies_to};
+ghost use Rattle.pb_export.specs.Exporting.{ExportText};
 ghost use Rattle.pb_ledger.specs.declared.loading.LoadError.{LoadError};
 ghost use Rattle.pb_ledger.specs.declared.totals.Totals.{Totals};
 ghost use Rattle.pb_ledger.specs.Games.{games_text};
@@ -33,6 +39,17 @@ pub use pb_export::laws::exports;
 pub use pb_games::laws::{
     one_refusal, one_submission, plain_text, refused_by_itself, refused_is_unlawful,
 };
+
+/// Where no id names two games, runs that took the same submissions have one book and one export,
+/// in whatever order these came.
+pub fn same_submissions()
+    ensures { (T : Basis) (m n : ℕ) (K L : List (List ℕ)) (Q R : List Answer)
+        (A B S U : List Submission) → OneGame K → OneGame L → Run m [] K Q A → Run n [] L R B
+        → Taken [] K Q S → Taken [] L R U → SameMembers S U
+        → ((least : ℕ) (E F : List Entry) (a b : List ℕ) → IsBook (counted T A) least E
+        → IsBook (counted T B) least F → BookBytes E a → BookBytes F b → a ≡ b)
+        × ((a b : List ℕ) → ExportText T A a → ExportText T B b → a ≡ b) }
+{}
 
 /// What is saved of games loads as these games and as no others, where there is room. So `load`
 /// gives them back where it can read all of it and memory is there, and refuses no line of it.

@@ -21,16 +21,15 @@ pub struct Totals {
 }
 
 impl Totals {
-    pub(crate) fn with(self, answer: Result<Accepted, Refusal>) -> Totals
+    pub(crate) fn with(mut self, answer: Result<Accepted, Refusal>) -> Totals
         ensures { result ≡ with_answer self (answer_of answer) (says_new answer) }
     {
-        let mut totals = self;
-        totals.lines = totals.lines.saturating_add(1);
+        self.lines = self.lines.saturating_add(1);
         match answer {
-            Ok(accepted) if accepted.is_new => totals.new = totals.new.saturating_add(1),
-            Ok(_) => totals.repeats = totals.repeats.saturating_add(1),
-            Err(_) => totals.refused = totals.refused.saturating_add(1),
+            Ok(accepted) if accepted.is_new => self.new = self.new.saturating_add(1),
+            Ok(_) => self.repeats = self.repeats.saturating_add(1),
+            Err(_) => self.refused = self.refused.saturating_add(1),
         }
-        totals
+        self
     }
 }

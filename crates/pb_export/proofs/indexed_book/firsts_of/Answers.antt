@@ -19,8 +19,8 @@ loop-front-preserved c =
     let counted : count ≡ length (take_while (λ (e : Entry). ltb e.key (front * 2 ^ 46)) (drop before entries)) = c.count_below-start.ensures ∙ (λ i. length (take_while (λ (e : Entry). ltb e.key (floor i)) (rest i))) in
     let here = first_before (front * 2 ^ 46) (front * 2 ^ 46) entries before count c.requires c.loop-front.invariant.here (omega arith) counted in
     record {
-      many = ap length put ∙ length_push old c.in_32_bits.result ∙ ap (λ n. n + 1) c.loop-front.invariant.many;
-      each = firsts_more entries old c.push.new.self.items front start c.in_32_bits.result c.loop-front.invariant.many c.loop-front.invariant.each here c.in_32_bits.ensures put;
+      many = ap length put ∙ length_push old c.capped.result ∙ ap (λ n. n + 1) c.loop-front.invariant.many;
+      each = firsts_more entries old c.push.new.self.items front start c.capped.result c.loop-front.invariant.many c.loop-front.invariant.each here c.capped.ensures put;
       here = higher_floor entries start (front * 2 ^ 46) ((front + 1) * 2 ^ 46) here (omega arith);
     }
 
