@@ -2,7 +2,7 @@
 ghost use Rattle.std.specs.Prelude.{IfOk};
 ghost use Rattle.clap.specs.Words.{App, new_app};
 ghost use Rattle.pb_cli.specs.Built.{HasRule, IsCommand};
-ghost use Rattle.pb_cli.specs.CommandLine.{argument_or, check_command, collect_command};
+ghost use Rattle.pb_cli.specs.CommandLine.{check_command, collect_command};
 ghost use Rattle.pb_cli.specs.CommandLine.{epd_command};
 ghost use Rattle.pb_cli.specs.CommandLine.{export_command, fen_command, flag, games_command};
 ghost use Rattle.pb_cli.specs.CommandLine.{lookup_command, number, option, pbook, probe_command};
@@ -54,7 +54,7 @@ fn program<'a>(alloc: Global) -> Result<Command<'a>, AllocError>
 {
     Command::new(alloc, "pbook")
         .about("Makes PolyGlot opening books")
-        .version("0.3.0")
+        .version("0.4.0")
         .subcommand_required(true)
         .arg_required_else_help(true)
         .bin_name("pbook")
@@ -175,12 +175,13 @@ prints lines such as
     .arg(number(alloc, "plies", "N", "4", MAX_PLIES, "Go N plies deep"))?
     .arg(required(alloc, "TABLE", TABLE_HELP))?
     .arg(required(alloc, "BOOK", BOOK_HELP))?
-    .arg(optional(
-        alloc,
-        "FEN",
-        "rnbqkbnr/pppppppp/8/8/8/8/PPPPPPPP/RNBQKBNR w KQkq - 0 1",
-        "A FEN record to begin from, in place of a game's start",
-    ))
+    .arg(
+        Arg::new(alloc, "FEN")
+            .action(ArgAction::Set)
+            .default_value("rnbqkbnr/pppppppp/8/8/8/8/PPPPPPPP/RNBQKBNR w KQkq - 0 1")
+            .hide_default_value(true)
+            .help("A FEN record to begin from, in place of a game's start"),
+    )
 }
 
 fn collect<'a>(alloc: Global) -> Result<Command<'a>, AllocError>
@@ -367,17 +368,6 @@ fn flag<'a>(alloc: Global, name: &'a str, help: &'a str) -> Arg<'a>
     Arg::new(alloc, name)
         .long(name)
         .action(ArgAction::SetTrue)
-        .help(help)
-}
-
-/// Takes an argument that is `value` where it isn't given. Help doesn't show that.
-fn optional<'a>(alloc: Global, id: &'a str, value: &'a str, help: &'a str) -> Arg<'a>
-    ensures { HasRule (argument_or value.now id.now) result }
-{
-    Arg::new(alloc, id)
-        .action(ArgAction::Set)
-        .default_value(value)
-        .hide_default_value(true)
         .help(help)
 }
 

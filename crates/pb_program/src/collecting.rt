@@ -15,6 +15,7 @@ use pb_files::{
 use pb_io::{Fault, FromRead, Sink, Source, ToWrite};
 use pb_messages::{Messages, Named, Progress};
 use std::cell::RefCell;
+use std::fs;
 
 /// Where the file of standard input is found.
 const INPUT: &str = "/dev/stdin";
@@ -38,6 +39,10 @@ pub(crate) fn collect<'a>(
     }
     for path in [order.table, kept] {
         keep_apart(messages, &[path, OUTPUT], unwritten)?;
+    }
+    // As a link, such as `/dev/stdout`, it may lead there.
+    if fs::symlink_metadata(messages.rt, order.book).is_ok_and(|told| told.is_file()) {
+        keep_apart(messages, &[order.book, OUTPUT], unwritten)?;
     }
     keep_apart(messages, &[order.table, kept, order.book], Stop::NotOpened)?;
     keep_apart(messages, &[kept, order.book, INPUT], Stop::NotOpened)?;

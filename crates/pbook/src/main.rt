@@ -29,6 +29,5 @@ fn status(rt: &HostRuntime) -> u8 {
 
 /// The words of the command line. It fails where one of them isn't UTF-8, and for want of memory.
 fn arguments(rt: &HostRuntime) -> io::Result<Vec<String>> {
-    let given = env::args(rt)?;
-    Ok(given.collect(rt.alloc())?)
+    Ok(env::args(rt)?.collect(rt.alloc())?)
 }

@@ -1,4 +1,8 @@
+use Rattle.std.proofs.Common.{rules}
+use Rattle.std.specs.Prelude.{codes}
 use Rattle.std.proofs.lemmas.Result.{IfOk-weaker}
+use Rattle.pb_cli.specs.Built.{HasRule}
+use Rattle.pb_cli.specs.CommandLine.{argument_or}
 use Rattle.pb_cli.proofs.Commands.{IsCommand-arg}
 use Rattle.pb_cli.proofs.grammar.tree.Goals as goal
 
@@ -7,4 +11,5 @@ returns c =
     let plies = IsCommand-arg _ _ _ _ _ c.bare_command.ensures c.in_ok-arg.ensures c.number.ensures in
     let table = IsCommand-arg _ _ _ _ _ plies c.in_ok-arg-2.ensures c.required.ensures in
     let book = IsCommand-arg _ _ _ _ _ table c.in_ok-arg-3.ensures c.required-2.ensures in
-    IfOk-weaker c.arg-4.result _ _ (λ whole adds. IsCommand-arg _ _ _ _ _ book adds c.optional.ensures) c.arg-4.ensures
+    let fen : HasRule (argument_or (codes "rnbqkbnr/pppppppp/8/8/8/8/PPPPPPPP/RNBQKBNR w KQkq - 0 1") (codes "FEN")) c.help.result = search rules in
+    IfOk-weaker c.arg-4.result _ _ (λ whole adds. IsCommand-arg _ _ _ _ _ book adds fen) c.arg-4.ensures
