@@ -46,6 +46,13 @@ macro_rules! each {
     ($is:ident: $($name:ty),*) => { $($is::<$name>();)* };
 }
 
+/// Names the type of what a member holds.
+macro_rules! payloads {
+    ($($name:ident::$member:ident: $ty:ty),*) => {
+        $(let _ = |value: $ty| $name::$member(value);)*
+    };
+}
+
 /// Names the members of an enum: it doesn't compile with one more or one less.
 macro_rules! members {
     ($name:ident: $($member:ident)*) => {
@@ -94,6 +101,12 @@ fn members() {
     members!(LoadError: Line Read Endless Memory);
     members!(Fault: Read Write Endless Memory);
     members!(ParseFault: Usage Memory);
+    payloads!(Operand::Word: OperandBytes, Operand::Text: OperandBytes, PutError::Operand: usize);
+    payloads!(EpdError::Token: usize, EpdError::Setup: FenError, EpdError::Opcode: usize);
+    payloads!(EpdError::Repeated: usize, TableError::Line: usize, TableError::Count: usize);
+    payloads!(BookError::Unsorted: usize, BookError::Cut: usize, LoadError::Line: u64);
+    payloads!(Refusal::Fen: FenError, Refusal::Spelling: u32, Refusal::Illegal: u32);
+    payloads!(Refusal::Conflict: u32, ParseFault::Usage: String);
 }
 
 /// Uses squares and setups (pb_board).
@@ -330,6 +343,7 @@ fn lines() -> Option<bool> {
 
 /// Uses a ledger of games (pb_ledger).
 fn ledger<T: Tally>(alloc: Global, table: &Table) -> Result<bool, AllocError> {
+    let none: MoveList = MoveList::of(Vec::new(alloc));
     let made: Result<Ledger<T>, AllocError> = Ledger::new(alloc, table, 1_000u32);
     let mut ledger: Ledger<T> = made?;
     let number: Result<u32, Refusal> = ledger.submit(LINE);
@@ -342,7 +356,8 @@ fn ledger<T: Tally>(alloc: Global, table: &Table) -> Result<bool, AllocError> {
     let mut sink = MemSink::new(alloc);
     let exported: Result<u32, ExportFault> = export(alloc, &ledger, &mut sink);
     Ok(
-        number == Ok(1)
+        none.as_slice().is_empty()
+            && number == Ok(1)
             && len == 1
             && numbers == [1_024, 1]
             && game.is_some_and(|(id, game)| is_first(id, game))
