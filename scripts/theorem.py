@@ -2,7 +2,6 @@
 """Prints what the theorem of `pbook collect` rests on, in reading order, and what its laws do.
 
 Usage: python3 -B scripts/theorem.py [--count] [--of CRATE.FILE.NAME]
-       python3 -B scripts/theorem.py --contracts
        python3 -B scripts/theorem.py --index [CRATE..]
        python3 -B scripts/theorem.py --check
 It runs at the top of the repository. `make theorem` and `make test` call it.
@@ -11,10 +10,10 @@ First comes the contract of the call that the program makes, then the definition
 book is made, then what its laws and the rest of that contract rest on besides. Each is printed as it
 stands in crates/*/specs, with its comments. Then come the types of the code that definitions name,
 and the words of the toolchain's library, where `rt` is to be had. --of begins with another
-definition, without the call and the laws. --count prints the last lines alone, which tell how much it is
-(scripts/lib/specs.py says what counts). --contracts tells that of what all public contracts rest
-on, file by file. --index prints each public call with the first sentence of its comment, its
-clauses, and the definitions that they cite. --check compares docs/THEOREM.md with the counts.
+definition, without the call and the laws. --count prints the last lines alone, which tell how much
+it is (scripts/lib/specs.py says what counts). --index prints each public call with the first
+sentence of its comment, its clauses, and the definitions that they cite. --check compares
+docs/THEOREM.md with the counts.
 """
 import argparse
 import json
@@ -170,18 +169,19 @@ def print_words(specs, imported):
         print("", place, *(f"    {it}" for it in lines), sep="\n")
 
 
-def call_at(path, name):
-    """The call of this name in a file, and the imports of the file; none where there is no file."""
-    if not path.is_file():
-        return None, {}
+def calls_with_cited(specs, path):
+    """The calls of a file, each with the definitions that its clauses cite, each once."""
     source = path.read_text(encoding="utf-8")
-    return next(it for it in calls(source) if it.name == name), imports(source)
+    known = imports(source)
+    for call in calls(source):
+        found = (specs.find_import(known.get(it)) for it in TOKEN.findall(" ".join(call.clauses)))
+        yield call, list(dict.fromkeys(filter(None, found)))
 
 
-def cited_in(specs, call, imported):
-    """The definitions that the clauses of a call cite, each once."""
-    words = TOKEN.findall(" ".join(call.clauses))
-    return list(dict.fromkeys(filter(None, (specs.find_import(imported.get(it)) for it in words))))
+def call_at(specs, path, name):
+    """The call of this name in a file with what it cites; none where there is no file."""
+    found = calls_with_cited(specs, path) if path.is_file() else ()
+    return next((it for it in found if it[0].name == name), (None, []))
 
 
 def print_index(specs, names):
@@ -189,10 +189,8 @@ def print_index(specs, names):
     for crate in names:
         print(f"==== {crate}\n")
         for path in sorted(specs.crates.glob(f"{crate}/src/*.rt")):
-            source = path.read_text(encoding="utf-8")
-            for call in calls(source):
+            for call, cited in calls_with_cited(specs, path):
                 if call.is_public:
-                    cited = cited_in(specs, call, imports(source))
                     names = ", ".join(f"{it.name} ({it.file})" for it in cited)
                     print(f"{path.stem}::{call.name}: {call.sentence or '(no comment)'}")
                     print(*(f"    {it}" for it in call.clauses), sep="\n")
@@ -220,7 +218,7 @@ def main():
     # A reader may leave before the end.
     signal.signal(signal.SIGPIPE, signal.SIG_DFL)
     parser = argparse.ArgumentParser(usage=__doc__)
-    for option in ("--count", "--contracts", "--check"):
+    for option in ("--count", "--check"):
         parser.add_argument(option, action="store_true")
     parser.add_argument("--of", default=HEADLINE)
     parser.add_argument("--index", nargs="*")
@@ -230,27 +228,21 @@ def main():
         print_index(specs, given.index or [it for it in crate_names() if it.startswith("pb_")])
         return
     file, _, name = given.of.rpartition(".")
-    seeds = list(specs.of_contracts()) if given.contracts else [specs.find(file, name)]
-    found = specs.closure(seeds)
+    found = specs.closure([specs.find(file, name)])
     if not found:
         sys.exit(f"scripts/theorem.py: no definition is named {given.of}")
-    has_laws = given.of == HEADLINE and not given.contracts
-    law, imported = call_at(*LAW) if has_laws else (None, {})
-    laws = [*cited_in(specs, law, imported), specs.find(*ANSWERS)] if law else []
+    law, laws = call_at(specs, *LAW) if given.of == HEADLINE else (None, [])
+    laws += [specs.find(*ANSWERS)] if law else []
     more = [it for it in specs.closure(laws) if it not in found]
-    call, imported = call_at(*PROGRAM) if has_laws else (None, {})
-    cited = cited_in(specs, call, imported) if call else []
+    call, cited = call_at(specs, *PROGRAM) if given.of == HEADLINE else (None, [])
     whole = specs.closure(cited)
     rest = [it for it in whole if it not in found + more]
     if given.check:
         return check(found, more, whole)
-    files = by_files(found, file)
-    if given.contracts:
-        for path, own in files.items():
-            print(f"{path}: {count_of(own).rpartition(',')[0]}")
-    elif not given.count:
+    if not given.count:
         if call:
             print(f"==== The program's call: {PROGRAM[0]}\n", call.text, "", sep="\n")
+        files = by_files(found, file)
         print_definitions(specs, files)
         if more:
             print(f"==== Its law, and what else that rests on: {LAW[0]}\n", law.text, "", sep="\n")
@@ -258,7 +250,7 @@ def main():
         if rest:
             print("==== What else the call's contract says\n")
             print_definitions(specs, by_files(rest, cited[0].file))
-        imported = specs.imported([it for own in files.values() for it in own] + more + rest)
+        imported = specs.imported([*sum(files.values(), []), *more, *rest])
         print_types(specs, imported)
         print_words(specs, imported)
         print()

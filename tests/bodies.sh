@@ -10,22 +10,19 @@ set -eu
 . tests/lib/harness.sh
 top=$PWD
 
-# put FILE: writes a file below $work from standard input
-put() {
-    mkdir -p "$(dirname "$work/$1")"
-    cat > "$work/$1"
-}
-
-printf 'tiny:\nmore: tiny\n' | put crates.txt
-put scripts/bodies.py < "$top/scripts/bodies.py"
-for name in libraries specs; do put "scripts/lib/$name.py" < "$top/scripts/lib/$name.py"; done
-put crates/tiny/src/lib.rt << 'END'
+# The toolchain's command, how it reads crates, and its prover. It reports on each function that it
+# is asked for by what stands in the copy that it is run in. Of the crate `more` an edit's text says
+# what fails.
+put_all << 'END'
+==== crates.txt
+tiny:
+more: tiny
+==== crates/tiny/src/lib.rt
 //! Numbers.
 
 pub mod laws;
 pub mod least;
-END
-put crates/tiny/src/laws.rt << 'END'
+==== crates/tiny/src/laws.rt
 //! Laws.
 
 use crate::least::least;
@@ -35,8 +32,7 @@ pub fn one() -> u32
 {
     least(1, 7)
 }
-END
-put crates/tiny/src/least.rt << 'END'
+==== crates/tiny/src/least.rt
 //! The least of numbers.
 
 /// Answers a number that is at most each of both.
@@ -53,13 +49,9 @@ pub fn least_of_three(a: u32, b: u32, c: u32) -> u32
 {
     least(least(a, b), c)
 }
-END
-
-put crates/tiny/specs/Numbers.antt << 'END'
+==== crates/tiny/specs/Numbers.antt
 IsLeast : ℕ → ℕ → Type 0
-END
-
-put crates/more/src/laws.rt << 'END'
+==== crates/more/src/laws.rt
 ghost use Rattle.more.specs.Words.{IsLow, IsOdd, IsWord};
 
 pub fn low()
@@ -76,8 +68,7 @@ pub fn word()
     ensures { IsWord 1 }
 {
 }
-END
-put crates/more/src/more.rt << 'END'
+==== crates/more/src/more.rt
 use tiny::least::{least, least_of_three};
 
 pub fn first(a: u32) -> u32
@@ -89,12 +80,10 @@ pub fn second(a: u32) -> u32
 {
     least_of_three(a, 1, 2)
 }
-END
-put crates/more/proofs/more/first/Answers.antt << 'END'
+==== crates/more/proofs/more/first/Answers.antt
 pub returns : goal.returns
 returns c = c.least.ensures.left
-END
-put crates/more/specs/Words.antt << 'END'
+==== crates/more/specs/Words.antt
 pub IsLow : ℕ → Type 0
 IsLow n = n ≤ 1
 
@@ -103,25 +92,19 @@ IsOdd n = n % 2 ≡ 1
 
 pub IsWord : ℕ → Type 0
 IsWord n = IsLow n × (n ≤ 2)
-END
-
-# The toolchain's command, how it reads crates, and its prover. It reports on each function that it
-# is asked for by what stands in the copy that it is run in. Of the crate `more` an edit's text says
-# what fails.
-put path/rt << END
+==== path/rt
 #!/bin/sh
-case \$1 in
+kit=${0%/path/rt}/kit
+case $1 in
     version) echo 'rattle-kit logic 1' ;;
-    doc) echo '$work/kit/START-HERE.md' ;;
+    doc) echo "$kit/START-HERE.md" ;;
     # The last word is a folder, where the words of a program are that is to be built and run.
-    try) for word; do :; done && exec sh '$work/kit/program' "\$(tail -n 1 "\$word/waits.args")" ;;
+    try) for word; do :; done && exec sh "$kit/program" "$(tail -n 1 "$word/waits.args")" ;;
 esac
-END
-put kit/program << 'END'
+==== kit/program
 #!/bin/sh
 [ -p "$1" ] && exec 3< "$1" && read -r _ <&3
-END
-put kit/bin/rtlib.py << 'END'
+==== kit/bin/rtlib.py
 class Crate:
     def __init__(self, top, name, *deps):
         self.folder, self.name, self.deps = f"{top}/crates/{name}", name, deps
@@ -145,8 +128,7 @@ class Crate:
 def crates_below(top):
     tiny = Crate(top, "tiny")
     return [tiny, Crate(top, "more", tiny)]
-END
-put kit/bin/rattle << 'END'
+==== kit/bin/rattle
 #!/bin/sh
 has() { grep -qF "$1" src/least.rt; }
 
@@ -229,6 +211,9 @@ for word; do
 done
 echo 'only=2 proved=0'
 END
+mkdir -p "$work/scripts/lib"
+cp scripts/bodies.py "$work/scripts"
+cp scripts/lib/libraries.py scripts/lib/specs.py "$work/scripts/lib"
 chmod 755 "$work/path/rt" "$work/kit/bin/rattle" "$work/kit/program"
 
 cp "$work/crates/tiny/src/least.rt" "$work/least.rt"
@@ -282,6 +267,18 @@ is_status() {
 # says LINE: whether this line was said of a body
 says() { grep -qxF -e "tiny/$1" -e "more/$1" "$work/said"; }
 
+# passes PASSED BODY [WHY]: so many bodies are refused, and this one isn't
+passes() {
+    holds judges 1 "$1 passed, 1 failed"
+    holds says "$2: FAILED: NOT REFUSED: ${3:-what judges it is proved}"
+}
+
+# takes RUNS: the one body is refused, for which the prover is run so often
+takes() {
+    holds judges 0 '1 passed, 0 failed'
+    holds test "$runs" -eq "$1"
+}
+
 refused() {
     anew
     body least-first "$both" "$wrong"
@@ -300,22 +297,19 @@ proved() {
         anew
         [ "$passed" -eq 0 ] || body least-first "$both" "$wrong"
         body three-same "$three" '    least(c, least(a, b))'
-        holds judges 1 "$passed passed, 1 failed"
-        holds says 'three-same: FAILED: NOT REFUSED: what judges it is proved'
+        passes "$passed" three-same
     done
     anew
     body least-same "$both" 'if a < b { a } else { b }'
     body three-last "$three" '    least(a, b)'
-    holds judges 1 '1 passed, 1 failed'
-    holds says 'least-same: FAILED: NOT REFUSED: what judges it is proved'
+    passes 1 least-same
 }
 
 # That an answer names what the edit took away says nothing of the body.
 gone() {
     anew
     body three-other "$three" '    least(c, b)'
-    holds judges 1 '0 passed, 1 failed'
-    holds says 'three-other: FAILED: NOT REFUSED: an answer names what it took away'
+    passes 0 three-other 'an answer names what it took away'
 }
 
 # What can't be read isn't refused, nor what stands nowhere or twice, nor what no report tells of.
@@ -346,29 +340,19 @@ unread() {
 kept() {
     anew
     body least-first "$both" "$wrong"
-    holds judges 0 '1 passed, 0 failed'
-    holds test "$runs" -eq 1
-    holds judges 0 '1 passed, 0 failed'
-    holds test "$runs" -eq 0
+    takes 1
+    takes 0
     body least-first "$both" 'if a < b { a } else { b }'
     for _ in 1 2; do
         holds judges 1 '0 passed, 1 failed'
         holds test "$runs" -eq 1
     done
     body least-first "$both" "$wrong"
-    holds judges 0 '1 passed, 0 failed'
-    holds test "$runs" -eq 0
+    takes 0
     for changed in crates/tiny/src/laws.rt scripts/bodies.py; do
         echo >> "$work/$changed"
-        holds judges 0 '1 passed, 0 failed'
-        holds test "$runs" -eq 1
+        takes 1
     done
-}
-
-# tried_again RUNS: whether the bodies that have passed are tried again in so many runs
-tried_again() {
-    holds judges 0 '1 passed, 0 failed'
-    holds test "$runs" -eq "$1"
 }
 
 # What has passed over another crate stays so when a body changes there, or how it is proved: no
@@ -377,23 +361,24 @@ kept_above() {
     anew
     more first-one 'file: src/more.rt' 'old:     least(a, 1)' \
         'new:     least(1, 1) // fails more::first returns'
-    tried_again 1
-    tried_again 0
+    takes 1
+    takes 0
     sed -i "s/$both/if a < b { a } else { b }/" "$work/crates/tiny/src/least.rt"
-    tried_again 0
-    echo 'returns c = c' | put crates/tiny/proofs/least/least/Answers.antt
-    tried_again 0
+    takes 0
+    mkdir -p "$work/crates/tiny/proofs/least/least"
+    echo 'returns c = c' > "$work/crates/tiny/proofs/least/least/Answers.antt"
+    takes 0
     sed -i 's/ensures left { result ≤ a }/ensures left { result < a }/' \
         "$work/crates/tiny/src/least.rt"
-    tried_again 1
+    takes 1
     echo 'IsLeast n m = n ≤ m' >> "$work/crates/tiny/specs/Numbers.antt"
-    tried_again 1
-    echo 'lemma : ℕ' | put crates/tiny/proofs/Lemmas.antt
-    tried_again 1
-    tried_again 0
+    takes 1
+    echo 'lemma : ℕ' > "$work/crates/tiny/proofs/Lemmas.antt"
+    takes 1
+    takes 0
     echo '// more' >> "$work/crates/more/src/more.rt"
-    tried_again 1
-    put crates/tiny/src/least.rt < "$work/least.rt"
+    takes 1
+    cp "$work/least.rt" "$work/crates/tiny/src/least.rt"
 }
 
 # An import that renames a name turns each function of its file, and so is tried alone. One that
@@ -405,8 +390,7 @@ imported() {
     more first-renamed 'file: src/more.rt' 'old: {least, least_of_three};' \
         'new: {least as least_of_three, least}; // fails more::second returns' \
         'old:     least(a, 1)' 'new:     least(1, 1) // fails more::first returns'
-    holds judges 1 '1 passed, 1 failed'
-    holds says 'second-same: FAILED: NOT REFUSED: what judges it is proved'
+    passes 1 second-same
     more first-renamed 'file: src/more.rt' 'old: {least, least_of_three};' \
         'new: {least_of_three}; // fails more::second returns' \
         'old:     least(a, 1)' 'new:     least_of_three(1) // fails more::first returns'
@@ -433,9 +417,7 @@ own_goals() {
     anew
     more first-same 'file: src/more.rt' 'old:     least(a, 1)' \
         'new:     if a > 1 { 1 } else { a } // fails more::first returns-else'
-    holds judges 1 '0 passed, 1 failed'
-    why='the right body has no goal `returns-else`, so this shows nothing'
-    holds says "first-same: FAILED: NOT REFUSED: $why"
+    passes 0 first-same 'the right body has no goal `returns-else`, so this shows nothing'
 }
 
 # turn NAME JUDGE FROM TO: gives the crate `more` a wrong definition, which this judges
@@ -455,13 +437,11 @@ judged() {
     # the same law
     turn Words-low laws::low '(n ≤ 2)' '(n ≤ 9) -- fails laws::low returns'
     turn Words-odd laws::low '≡ 1' '≡ 1 + 0'
-    holds judges 1 '1 passed, 1 failed'
-    holds says 'Words-odd: FAILED: NOT REFUSED: what judges it is proved'
+    passes 1 Words-odd
     # a law that rests on the other definition
     turn Words-low laws::low 'n ≤ 1' 'n ≤ 0 -- fails laws::low returns fails laws::word returns'
     turn Words-odd laws::word '(n ≤ 2)' '(n < 3)'
-    holds judges 1 '1 passed, 1 failed'
-    holds says 'Words-odd: FAILED: NOT REFUSED: what judges it is proved'
+    passes 1 Words-odd
     # a function that is no law, and may call others
     turn Words-low laws::low 'n ≤ 1' 'n ≤ 0 -- fails laws::low returns fails more::first returns'
     turn Words-odd more::first '≡ 1' '≡ 1 + 0'

@@ -5,6 +5,7 @@
 # The first check that doesn't hold ends it.
 # Usage: tests/completions.sh [SHELL..] (at the top of the repository; all three where none is
 # given).
+# shellcheck disable=SC2086 # what isn't quoted is more words than one
 set -eu
 unset PROGRAM
 . tests/lib/harness.sh
@@ -26,10 +27,7 @@ offers() {
         _pbook
         [ ${#COMPREPLY[@]} -eq 0 ] || printf "%s\n" "${COMPREPLY[@]}"
     ' "$installed/pbook.bash" "$@" | sort > "$work/offered"
-    if cmp -s "$work/due" "$work/offered"; then return; fi
-    echo '    what is due (<), and what is offered (>):'
-    diff "$work/due" "$work/offered" | sed 's/^/    /'
-    return 1
+    same_lines "$work/due" "$work/offered"
 }
 
 bash_commands() {
@@ -56,12 +54,9 @@ bash_redirections() {
     for words in 'collect table.txt book.bin' 'export table.txt' 'lookup table.txt book.bin' \
         check epd; do
         for sign in '<' '>' '>>' '>|' '2 >'; do
-            # shellcheck disable=SC2086 # each word is one
             holds offers 'games.txt games.epd' pbook $words $sign ga
         done
-        # shellcheck disable=SC2086
         holds offers 'games.txt games.epd table.txt book.bin two:words.epd' pbook $words '<'
-        # shellcheck disable=SC2086
         holds offers two:words.epd pbook $words '<' games.txt '>' tw
     done
     holds offers table.txt pbook collect '<' games.txt ta
@@ -92,6 +87,9 @@ bash_options() {
         holds offers '' pbook collect "$option" = ''
         holds offers table.txt pbook collect "$option" 24 ta
     done
+    # Other options have no value.
+    holds offers book.bin pbook collect --sync -q table.txt bo
+    holds offers '' pbook collect --summary table.txt book.bin bo
 }
 
 # gives SHELL LINE DUE: whether this line, typed into the shell with a TAB behind it, gives `pbook`
@@ -154,10 +152,7 @@ fish_offers() {
     HOME=$work XDG_CONFIG_HOME=$work fish --no-config -c '
         source $argv[1]
         complete -C $argv[2]' "$installed/pbook.fish" "$2" | cut -f 1 | sort > "$work/offered"
-    if cmp -s "$work/due" "$work/offered"; then return; fi
-    echo '    what is due (<), and what is offered (>):'
-    diff "$work/due" "$work/offered" | sed 's/^/    /'
-    return 1
+    same_lines "$work/due" "$work/offered"
 }
 
 fish_lines() {
@@ -177,8 +172,6 @@ fish_lines() {
     holds fish_offers 'games.txt games.epd' 'pbook games table.txt ga'
     holds fish_offers '' 'pbook check ga'
 }
-
-has() { command -v "$1" > /dev/null; }
 
 [ $# -gt 0 ] || set -- bash zsh fish
 for shell; do

@@ -203,9 +203,17 @@ def fen_by_stockfish(f: Record) -> bytes:
 
 
 @dataclass
-class Setup:
-    """The legal moves of a setup, its texts and its key."""
+class OfRecord:
+    """What is answered of a record, and told by that."""
     record: Record
+
+    def __str__(self) -> str:
+        return chess.fen_text(self.record).decode()
+
+
+@dataclass
+class Setup(OfRecord):
+    """The legal moves of a setup, its texts and its key."""
     taken: Optional[Position]
     randoms: Sequence[int]
     # The codes under each key of the book that was probed.
@@ -231,23 +239,16 @@ class Setup:
         due = found(s, legal(s), self.book.get(chess.key(self.randoms, s), set()))
         return "" if due == self.probed else "under its key " + unlike(self.probed, due)
 
-    def __str__(self) -> str:
-        return chess.fen_text(self.record).decode()
-
 
 @dataclass
-class Codes:
+class Codes(OfRecord):
     """What is found for a setup of all numbers of 16 bits: the moves that any of them stands for,
     promotions to a pawn and a king tried too."""
-    record: Record
     answer: bytes
 
     def complaint(self) -> str:
         s = self.record.setup
         return unlike(self.answer, found(s, [m for m in CODED if chess.Legal(s, m)]))
-
-    def __str__(self) -> str:
-        return chess.fen_text(self.record).decode()
 
 
 @dataclass
@@ -381,17 +382,13 @@ class Text:
 
 
 @dataclass
-class Checked:
+class Checked(OfRecord):
     """Whether a game may start from the record."""
-    record: Record
     checked: bytes = b""
 
     def complaint(self) -> str:
         due = b"" if chess.IsPlayable(self.record.setup) else b"start"
         return "" if self.checked == due else f"`check` answers {self.checked!r}, due is {due!r}"
-
-    def __str__(self) -> str:
-        return chess.fen_text(self.record).decode()
 
 
 @dataclass

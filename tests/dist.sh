@@ -35,6 +35,12 @@ unpacked() {
     holds cmp top/bin/pbook "$PROGRAM"
 }
 
+# in_top CHECK: runs a check where the archive is unpacked
+in_top() {
+    cd "$work/unpacked/top"
+    "$1"
+}
+
 # anchors FILE: the names by which a link leads to a heading of this document
 anchors() {
     sed -n 's/^##* //p' "$1" | tr '[:upper:]' '[:lower:]' | tr ' ' '-' |
@@ -52,7 +58,6 @@ is_led() {
 
 # links: each link of the documents leads to a file that is packed, and to a heading of it
 links() {
-    cd "$work/unpacked/top"
     count=0
     find . -name '*.md' > "$work/documents"
     while read -r text; do
@@ -83,7 +88,6 @@ needs() {
 # first_run: the first commands of README print what stands there. Standard error is no terminal
 # here, so the line of the summary doesn't come.
 first_run() {
-    cd "$work/unpacked/top"
     awk '/^    / { print substr($0, 5); found = 1; next } found { exit }' README.md > "$work/block"
     sed -n 's/^\$ //p' "$work/block" > "$work/commands"
     grep -v '^\$ \|^pbook: ' "$work/block" > "$work/due"
@@ -95,7 +99,6 @@ first_run() {
 
 # workers: the example of two workers makes the bundled book by the packed program
 workers() {
-    cd "$work/unpacked/top"
     PROGRAM=bin/pbook sh examples/workers.sh > "$work/told" 2>&1
     holds grep -q '^the book is examples/book.bin$' "$work/told"
 }
@@ -114,7 +117,6 @@ refuses() {
 
 # submissions: submissions.awk makes the fields of examples/games.txt but for the ids, and counts
 submissions() {
-    cd "$work/unpacked/top"
     printed_games | awk -v worker=w -f examples/submissions.awk > "$work/lines"
     cut -f 2- examples/games.txt > "$work/due"
     cut -f 2- "$work/lines" > "$work/found"
@@ -138,7 +140,6 @@ steps() {
 # from_bundled_pgn: these commands, run as they stand there, make a book of the bundled games: 20,
 # of which one has no result
 from_bundled_pgn() {
-    cd "$work/unpacked/top"
     steps
     holds grep -q ' examples/games.pgn ' "$work/commands"
     env PATH="$PWD/bin:$PATH" sh -eu "$work/commands" 2> "$work/errors"
@@ -150,7 +151,6 @@ from_bundled_pgn() {
 
 # from_pgn: over other games the same commands make PolyGlot's own entries
 from_pgn() {
-    cd "$work/unpacked/top"
     steps
     printed_games | tr -d '\r' > "$work/moves.pgn"
     pgn-extract -s -Wsan "$work/moves.pgn" > games.pgn 2> "$work/errors"
@@ -178,7 +178,6 @@ runs() {
 
 # guide: the commands of GUIDE, run as they stand there over the bundled games
 guide() {
-    start='rnbqkbnr/pppppppp/8/8/8/8/PPPPPPPP/RNBQKBNR w KQkq - 0 1'
     mkdir "$work/unpacked/top/guide"
     cd "$work/unpacked/top/guide"
     ln -s ../examples .
@@ -211,7 +210,6 @@ figures() {
 
 # shared: what converts games is packed twice, in examples and where `make install` puts it
 shared() {
-    cd "$work/unpacked/top"
     for file in games.pgn pbook.service submissions.awk client.py serve.py nightly \
         pgn_to_lines.sh table_from_polyglot.sh; do
         holds cmp "examples/$file" "share/pbook/$file"
@@ -248,35 +246,31 @@ no_toolchain() {
         holds grep -q '^make: [a-z/-]* needs the Rattle toolchain' "$work/why"
     done
 }
-no_rt_there() { ! env PATH=/usr/bin:/bin sh -c 'command -v rt' > /dev/null; }
 
 # table_refused: other numbers than PolyGlot's are refused, and so are a file of another kind and
 # none
 table_refused() {
-    cd "$work/unpacked/top"
     sed 's/^/0x/' examples/table.txt > "$work/random.c"
     for file in "$work/random.c" README.md missing; do
         holds refuses sh examples/table_from_polyglot.sh "$file"
     done
 }
 
-has() { command -v "$1" > /dev/null; }
-
 check 'an archive is packed' packed
 check 'a second one has the same bytes' packed_again
 check 'it is unpacked in an empty folder' unpacked
-check 'each link of its documents leads somewhere' links
+check 'each link of its documents leads somewhere' in_top links
 if has objdump; then
     check 'it needs no newer C library than README says' needs
 else
     leave_out 'objdump is wanted' 'the C library'
 fi
-check "README's first commands print what stands there" first_run
+check "README's first commands print what stands there" in_top first_run
 check "README's figures are those of PERFORMANCE" figures
-check 'two workers make the bundled book' workers
-check 'submissions.awk makes submissions' submissions
-check 'another table is refused' table_refused
-check 'what converts games lies in share/pbook too' shared
+check 'two workers make the bundled book' in_top workers
+check 'submissions.awk makes submissions' in_top submissions
+check 'another table is refused' in_top table_refused
+check 'what converts games lies in share/pbook too' in_top shared
 check 'where no program stands, none is made' no_program
 if no_rt_there; then
     check 'goals say that they need the toolchain' no_toolchain
@@ -284,8 +278,8 @@ else
     leave_out 'rt is in /usr/bin' 'goals say that they need the toolchain'
 fi
 if has pgn-extract && has polyglot; then
-    check 'from PGN to a book by the commands of README' from_bundled_pgn
-    check "over other games they make PolyGlot's entries" from_pgn
+    check 'from PGN to a book by the commands of README' in_top from_bundled_pgn
+    check "over other games they make PolyGlot's entries" in_top from_pgn
     check 'the commands of GUIDE' guide
 else
     leave_out 'pgn-extract and polyglot are wanted' 'from PGN to a book'

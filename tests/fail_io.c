@@ -126,21 +126,18 @@ static const struct iovec *first_of(const struct iovec *parts, int count) {
     return parts;
 }
 
-ssize_t readv(int file, const struct iovec *parts, int count) {
-    const enum fate fate = fate_of(READ, file);
+// A call that moves parts, by this system call, or by the other where it moves the first one alone.
+static ssize_t move_parts(enum kind kind, long all, long one, int file, const struct iovec *parts, int count) {
+    const enum fate fate = fate_of(kind, file);
     if (fate == FAILS) return -1;
-    if (fate == PASSES || count < 1) return syscall(SYS_readv, file, parts, count);
+    if (fate == PASSES || count < 1) return syscall(all, file, parts, count);
     const struct iovec *part = first_of(parts, count);
-    return syscall(SYS_read, file, part->iov_base, moved(fate, part->iov_len));
+    return syscall(one, file, part->iov_base, moved(fate, part->iov_len));
 }
 
-ssize_t writev(int file, const struct iovec *parts, int count) {
-    const enum fate fate = fate_of(WRITE, file);
-    if (fate == FAILS) return -1;
-    if (fate == PASSES || count < 1) return syscall(SYS_writev, file, parts, count);
-    const struct iovec *part = first_of(parts, count);
-    return syscall(SYS_write, file, part->iov_base, moved(fate, part->iov_len));
-}
+ssize_t readv(int file, const struct iovec *parts, int count) { return move_parts(READ, SYS_readv, SYS_read, file, parts, count); }
+
+ssize_t writev(int file, const struct iovec *parts, int count) { return move_parts(WRITE, SYS_writev, SYS_write, file, parts, count); }
 
 int fsync(int file) {
     return fate_of(SYNC, file) == FAILS ? -1 : (int)syscall(SYS_fsync, file);

@@ -6,13 +6,13 @@
 # journals. The first check that doesn't hold ends it.
 # Usage: PROGRAM=program tests/files.sh [CHECK..] (at the top of the repository; all checks where
 # none is given).
+# shellcheck disable=SC2086 # what isn't quoted is more words than one
 set -eu
 PROGRAM=${PROGRAM:-build/pbook}
 . tests/lib/harness.sh
 . tests/lib/places.sh
 . tests/lib/collector.sh
 cp tests/data/few.bin tests/data/few.epd "$work"
-start='rnbqkbnr/pppppppp/8/8/8/8/PPPPPPPP/RNBQKBNR w KQkq - 0 1'
 grep "^${start% 0 1} " examples/export.epd > "$work/first.epd"
 head -n 9 "$work/games" > "$work/nine"
 sed -n 10,14p "$work/games" > "$work/few"
@@ -115,10 +115,8 @@ links() {
         ln -s "real.$file" "far/second.$file"
         ln -s "far/second.$file" "link.$file"
         before=$(node "far/real.$file")
-        option=
-        [ "$file" = book.bin ] || option='--ledger link.games.ledger'
-        # shellcheck disable=SC2086 # each word is one
-        holds collects 0 link.book.bin "$work/games" $option
+        [ "$file" = book.bin ] || set -- --ledger link.games.ledger
+        holds collects 0 link.book.bin "$work/games" "$@"
         holds not has_node "$before" "far/real.$file"
         holds has_mode 640 "far/real.$file"
         holds test "$(readlink "link.$file") $(readlink "far/second.$file")" = \
@@ -151,12 +149,11 @@ is_line_told() { [ "$(wc -l < told)" -gt 0 ]; }
 cannot_make() {
     to=$1
     shift
-    # shellcheck disable=SC2086 # a runner may be more than a word
     begin $runner "$PROGRAM" collect "$@" "$table" "$to"
     holds awaits is_line_told
     cp told "$work/errors"
     holds tells_name "$to"
-    holds say 1 "ok $(id_of 1) 1"
+    holds say_ok 1
     holds end 3
     holds test "$(cat rest)" = 'fault open'
     cp told "$work/errors"
@@ -365,7 +362,6 @@ games_stay() {
     ln -s list link
     for name in games.ledger header list link; do
         for option in '' -q '--ledger kept' '--journal kept'; do
-            # shellcheck disable=SC2086 # each word is one
             holds stops_unread "$name" "$name" $option
             holds tells "$name holds games, and stays"
         done
@@ -431,7 +427,6 @@ killed() {
         cp "$work/nine" kept.old
         cp kept.old far/kept
         cp "$work/old" far/book
-        # shellcheck disable=SC2086 # each word is one
         set -- $option
         holds collects 0 book "$work/few" "$@"
         mv far/kept kept.new
@@ -525,11 +520,9 @@ torn_at_full_output() {
     cp lines due
     # Its moves but for the last one are a game too.
     sed -n '2s/ [^ ]*$//p' "$work/games" | tr -d '\n' >> lines
-    status=0
-    "$PROGRAM" collect --journal "$journal" "$table" "$book" \
-        < lines > /dev/full 2> told || status=$?
-    holds test "$status" -eq 3
-    holds test "$(cat told)" = 'pbook: standard output: no space left on device'
+    runner=to_full
+    holds collects 3 "$book" lines --journal "$journal"
+    holds tells 'standard output: no space left on device'
     holds cmp "$journal" due
     holds not test -e "$book"
 }
@@ -577,7 +570,6 @@ special_files() {
     runner="timeout $patience"
     for name in /dev/null link /dev/zero /dev/full pipe folder missing dangling /dev/fd/9; do
         for option in --ledger --journal '--sync --journal' '-q --journal'; do
-            # shellcheck disable=SC2086 # each word is one
             holds stops_unread "$name" "$book" $option "$name"
         done
     done
@@ -620,7 +612,6 @@ no_journal() {
     ending='1 refused journal line 1'
     for name in book table pgn two four control escape empty_line long packed; do
         for option in '' --sync; do
-            # shellcheck disable=SC2086 # no option is no word
             holds stops_unread "$name" "$book" --journal "$name" $option
         done
     done
@@ -632,11 +623,8 @@ begins_with() {
     printf "$1" > kept
     cp kept begun
     for option in '' --sync; do
-        status=0
-        # shellcheck disable=SC2086 # no option is no word
-        "$PROGRAM" collect --journal kept $option "$table" "$book" \
-            < "$work/games" > replies 2> told || status=$?
-        holds test "$status" -eq 0
+        holds ends 0 "$PROGRAM" collect --journal kept $option "$table" "$book" \
+            < "$work/games" > replies 2> told
         holds test "$(grep -c '^ok ' replies)" -eq 320
         head -c "$(wc -c < begun)" kept > front
         holds cmp front begun
@@ -673,7 +661,7 @@ unsynced_journal() {
     done
 }
 
-if [ $# -eq 0 ]; then
+[ $# -gt 0 ] || {
     choose true '' new_book old_book streams standard_output links second_names unmakable \
         own_umask no_book_made games_stay cut_in_three old_list broken_ledger special_files \
         first_lines rules two_journals torn_at_full_output
@@ -682,8 +670,5 @@ if [ $# -eq 0 ]; then
     choose can_trace 'strace is wanted' failed_calls unrenamed interrupted unsynced_journal killed
     choose can_be_other 'setpriv is wanted' unmakable_by_other unreadable unwritable_files
     choose can_mount 'nothing can be mounted' full_disk mount_points
-    # shellcheck disable=SC2086 # each name is a word
-    set -- $chosen
-fi
-for name; do check "$name" in_folder "$name"; done
-finish
+}
+try_all "$@"

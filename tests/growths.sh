@@ -3,13 +3,7 @@
 # the rows that tests/growths.rows names, all of them in a run, with the n-th call that asks for
 # memory refused, for n = 1, 2, .. until a run has no such call, and then so with all calls from
 # the n-th on refused. What is due with ample memory is that program's expected output, which the
-# gate compares. What may come of a run:
-# - all that is due, and status 0;
-# - one row that tells want of memory in one of the ways that tests/growths.rows has for it. The
-#   rows before it are as due, and so are those after it where one call was refused. Where all that
-#   follow are refused too, the next row can't be read;
-# - where a row can't be read, the rows before it and status 1, and want of memory as the error of
-#   `main` on standard error.
+# gate compares. tests/growths.awk says what else may come of a run.
 # Each row has to be seen to want memory, both ways: in the answer of its call, but for those of
 # which the call tells none.
 # The first run that may not be ends all; what was found is shown, and the folder with it stays:

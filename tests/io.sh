@@ -1,22 +1,8 @@
 #!/bin/sh
 # Fails the reads, writes and syncs of `pbook`, call by call: each command is run on small real
 # files with its n-th such call failing, for n = 1, 2, .. until a run has no n-th call; then so
-# with the n-th call moving one byte alone. tests/fail_io.c says which calls count.
-# - Where a call moves one byte, output, status and files are as if it had moved all.
-# - Where a call fails, the status is 3. What is put is a front of what is put else; where a read
-#   failed, it is whole lines and then `fault read`, but for `games`. Only where a text is put
-#   because the words gave no order does the status stay, and where a file that was refused, or
-#   BOOK, is looked at for what it is: then a hint is missing, and all else is as due.
-# - BOOK is the old one, or none where there was none; it is the new one only where a sync failed,
-#   that of the folder or of a journal.
-# - The FILE of `--ledger` is the one that is made of the first lines of the submissions, at least
-#   of all that were answered; or it is the old one, where nothing was answered, or where FILE
-#   itself couldn't be made. No draft of it or of BOOK is left.
-# - A journal is the one that is due, or a front of that, with at least the games that were
-#   answered.
-# - One line on standard error names the file and the cause; where a call hits standard error
-#   itself, all else is as if it had not.
-# - The calls that are hit are, one by one, those that strace sees of a run without the shim.
+# with the n-th call moving one byte alone. tests/fail_io.c says which calls count, and the judges
+# below what a run may put, tell and leave.
 # A line is printed for each command. The first run that may not be ends all; what was found is
 # shown, and the folder with it stays: the files before (old) and after (run), the output (put)
 # and all inputs.
@@ -130,7 +116,8 @@ judge_output() {
     fi
 }
 
-# judge_book: BOOK is what a failed call may leave
+# judge_book: BOOK is the old one, or none where there was none; it is the new one only where a sync
+# failed, that of the folder or of a journal
 judge_book() {
     if is_of old book; then return; fi
     if [ "$kind" = sync ] && is_of ample book; then return; fi
@@ -166,7 +153,9 @@ may_stay() {
     [ "$answered" -eq 0 ] || [ "$kind" = sync ] || { [ "$kind" = write ] && [ "$file" -ne 1 ]; }
 }
 
-# collected WORD..: what `collect` may leave
+# collected WORD..: what `collect` may leave: FILE is made of the first lines of the submissions, at
+# least of all that were answered; or it is the old one, where nothing was answered, or where FILE
+# itself couldn't be made
 collected() {
     judge_output
     judge_book
@@ -181,7 +170,8 @@ collected() {
         "$work/made-$answered/file" "$work/run/file"
 }
 
-# journaled WORD..: what `collect --journal` may leave
+# journaled WORD..: what `collect --journal` may leave: the journal is the one due, or a front of
+# that with at least the games that were answered
 journaled() {
     judge_output
     judge_book

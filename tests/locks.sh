@@ -6,6 +6,7 @@
 # into the FILE of `--ledger` is kept. The first check that doesn't hold ends it.
 # Usage: PROGRAM=program tests/locks.sh [CHECK..] (at the top of the repository; all checks where
 # none is given).
+# shellcheck disable=SC2086 # what isn't quoted is more words than one
 set -eu
 PROGRAM=${PROGRAM:-build/pbook}
 . tests/lib/harness.sh
@@ -29,11 +30,11 @@ held() {
     : > "$file"
     ln -s "$file" "link$1"
     begin "$PROGRAM" collect "$1" "$file" "$table" "$book"
-    holds say 1 "ok $(id_of 1) 1"
+    holds say_ok 1
     for name in "$file" "link$1"; do
         for option in --journal --ledger; do holds is_in_use "$name" "$option" "$name"; done
     done
-    holds say 2 "ok $(id_of 2) 2"
+    holds say_ok 2
     holds end 0
     holds cmp "$2" "$file"
     # Nobody holds it any more.
@@ -57,7 +58,7 @@ held_new_ledger() {
     mkfifo book.bin
     before=$(node games.ledger)
     begin "$PROGRAM" collect --ledger games.ledger "$table" "$book"
-    holds say 1 "ok $(id_of 1) 1"
+    holds say_ok 1
     exec 3>&-
     holds awaits is_made "$before"
     holds is_in_use games.ledger --ledger games.ledger
@@ -75,7 +76,7 @@ one_book() {
     ln -s book.bin link
     for state in new old; do
         begin "$PROGRAM" collect "$table" book.bin
-        holds say 1 "ok $(id_of 1) 1"
+        holds say_ok 1
         # A link that leads to no file is none of its names.
         for name in book.bin "$place/book.bin" link; do
             [ "$name $state" != 'link new' ] || continue
@@ -84,7 +85,7 @@ one_book() {
             holds tells "$name: it is in use by another run"
             holds test "$(wc -l < "$work/replies")" -eq $(($(wc -l < "$work/games") + 1))
         done
-        holds say 2 "ok $(id_of 2) 2"
+        holds say_ok 2
         holds end 0
         games_of 1,2 | "$PROGRAM" collect "$table" "$state.bin" > /dev/null
         holds cmp book.bin "$state.bin"
@@ -110,7 +111,7 @@ left_claim() {
     chmod 600 "$book"
     : > games.ledger
     begin "$PROGRAM" collect --ledger games.ledger "$table" "$book"
-    holds say 1 "ok $(id_of 1) 1"
+    holds say_ok 1
     kill -9 "$collector"
     wait "$collector" 2> /dev/null || true
     trap - EXIT
@@ -149,7 +150,6 @@ replaced_when_opened() {
         for synced in '' --sync; do
             at=1
             [ "$synced" = '' ] || [ "$file" = journal ] || continue
-            # shellcheck disable=SC2086 # each word is one
             while
                 games_of 2 > "$file"
                 begin_at_open "$at" "$place/$file" $option $synced
@@ -216,7 +216,7 @@ book_is_held() {
             holds says 'fault open'
             holds tells "$name: it is in use by another run"
         done
-        holds say 1 "ok $(id_of 1) 1"
+        holds say_ok 1
         holds end 0
         holds no_draft
     done
@@ -291,6 +291,7 @@ different_files() {
         holds are_one table "${of}table" "$games" "$out" table "${of}table"
         holds are_one /dev/stdin book.bin "${of}book.bin" "$out" table book.bin
         holds are_one table /dev/stdout "$games" "${of}table" table book.bin
+        holds are_one book.bin /dev/stdout "$games" "${of}book.bin" table book.bin
         for option in --ledger --journal; do
             holds are_one table "${of}table" "$games" "$out" "$option" "${of}table" table book.bin
             holds are_one kept "${of}kept" "$games" "$out" "$option" kept table "${of}kept"
@@ -310,7 +311,6 @@ different_drafts() {
         while read -r file draft input output words; do
             rm -f "$draft"
             $how "$file" "$draft"
-            # shellcheck disable=SC2086 # each word is one
             holds one_file '.* and .* are .*' "$input" "$output" $words
         done << END
 table .book.bin.pbook games $work/replies .book.bin.pbook book.bin
@@ -353,10 +353,8 @@ closed_streams() {
     for words in epd check "lookup $table $work/new" "export $table" "collect $table book.bin" \
         "collect $table new.bin" "collect --ledger kept $table book.bin" \
         "collect --journal kept $table book.bin" "collect --journal kept --sync $table new.bin"; do
-        # shellcheck disable=SC2086 # each word is one
         for stream in input output '\(input\|output\)'; do holds is_closed "$stream" $words; done
     done
-    start='rnbqkbnr/pppppppp/8/8/8/8/PPPPPPPP/RNBQKBNR w KQkq - 0 1'
     holds is_closed output fen "$start" e2e4
     holds is_closed output show "$work/new"
     holds is_closed output probe "$table" "$work/new" "$start"
@@ -419,7 +417,6 @@ changed_journals() {
     games_of 1 > "$work/first"
     for how in removed renamed replaced linked emptied shorter longer; do
         for option in '' --sync; do
-            # shellcheck disable=SC2086 # no option is no word
             changed_file "$how" --journal games.journal $option
             holds say 2 ''
             holds end 3
@@ -431,7 +428,6 @@ changed_journals() {
     for option in '' --sync; do
         for how in touched named given; do
             if [ "$how" = given ] && ! is_root; then continue; fi
-            # shellcheck disable=SC2086
             unharmed "$how" --journal games.journal $option
         done
     done
@@ -556,7 +552,7 @@ claimed_by_another() {
     mkdir first
     cd first
     begin "$PROGRAM" collect "$table" "$book"
-    holds say 1 "ok $(id_of 1) 1"
+    holds say_ok 1
     rm ../.book.bin.pbook
     cd ..
     mkfifo lines
@@ -577,13 +573,10 @@ claimed_by_another() {
     holds no_draft
 }
 
-if [ $# -eq 0 ]; then
+[ $# -gt 0 ] || {
     choose true '' held_files held_new_ledger one_book left_claim read_meanwhile \
         book_is_held different_files different_drafts closed_streams changed_journals \
         changed_ledgers lost_claims claimed_by_another
     choose can_trace 'strace is wanted' replaced_when_opened failed_locks added_meanwhile
-    # shellcheck disable=SC2086 # each name is a word
-    set -- $chosen
-fi
-for name; do check "$name" in_folder "$name"; done
-finish
+}
+try_all "$@"

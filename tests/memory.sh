@@ -1,17 +1,8 @@
 #!/bin/sh
 # Refuses memory to `pbook`, call by call: each command is run on a small input with the n-th call
 # that asks for memory refused, for n = 1, 2, .. until a run has no such call, and then so with
-# all calls from the n-th on refused. What may come of a run in which memory was refused, beside
-# what comes with ample memory, is
-# - status 3 and `fault memory` as the last line, after a front of the lines that are put else;
-#   BOOK is the old one, or none where there was none; so is the FILE of `--ledger`, or it is the
-#   new one with the games that were answered `ok`, and the journal has each of them in any case;
-# - where submissions are taken: status 0, `refused <id> memory` in place of an `ok`, the other
-#   replies as they are due after that, and the files or the export of the games that were
-#   answered `ok` alone.
-# On standard error one line tells of want of memory where that ended the run. Else there is what is
-# there with ample memory, or that no game was accepted, and how many games were refused for memory.
-# The calls are as many as glibc's libmemusage.so counts, where that is there.
+# all calls from the n-th on refused. The judges below say what may come of it, beside what comes
+# with ample memory.
 # A line is printed for each command. The first run that may not be ends all; what was found is
 # shown, and the folder with it stays: the files before (old) and after (run), the output (put)
 # and all inputs.
@@ -183,7 +174,9 @@ make_masked() {
     if grep -v '^ok ' "$work/made.put"; then fails 'a game that was answered ok is refused'; fi
 }
 
-# collected WORD..: what a command that takes submissions may put, and what it leaves
+# collected WORD..: what a command that takes submissions may put, `refused <id> memory` in place of
+# an `ok`; and what it leaves: the files of the games that were answered `ok` alone, or after a
+# fault the old BOOK, with the FILE of these games or the old one
 collected() {
     if is_usual; then return; fi
     judge_replies "$@"

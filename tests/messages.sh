@@ -4,94 +4,89 @@
 # that is closed or full changes nothing else. The first check that doesn't hold ends it.
 # Usage: PROGRAM=program tests/messages.sh [CHECK..] (at the top of the repository; all checks where
 # none is given).
+# shellcheck disable=SC2046,SC2086,SC2254 # what isn't quoted is more words than one, or a pattern
 set -eu
 PROGRAM=${PROGRAM:-build/pbook}
 . tests/lib/harness.sh
 . tests/lib/places.sh
 . tests/lib/collector.sh
 cp examples/export.epd "$work/export"
-start='rnbqkbnr/pppppppp/8/8/8/8/PPPPPPPP/RNBQKBNR w KQkq - 0 1'
 
-# prepare: the folder of a check has a table, an old book and a file of games
+# prepare: a table, an old book and a file of games
 prepare() {
     cp "$work/table" table.txt
     cp "$work/old" book.bin
     head -n 9 "$work/games" > games
 }
 
-# tells_of STATUS TEXT COMMAND..: whether the command, run over `games`, ends with this status, and
+# tells_of STATUS TEXT WORD..: whether the program, run over `games`, ends with this status, and
 # what it puts on standard error are the lines of this text, each after `pbook: `
 tells_of() {
     due=$1 status=0
-    printf '%s' "$2" | sed 's/^/pbook: /' > due
-    [ -z "$2" ] || echo >> due
+    printf '%s\n' "$2" | sed '/^$/d; s/^/pbook: /' > due
     shift 2
-    $runner "$@" < "$input" > "$work/replies" 2> "$work/errors" || status=$?
-    if [ "$status" -eq "$due" ] && cmp -s due "$work/errors"; then return; fi
-    echo "    the status is $status; what is due on standard error (<), and what is there (>):"
-    diff due "$work/errors" | sed 's/^/    /'
+    $runner "$PROGRAM" "$@" < "$input" > "$work/replies" 2> "$work/errors" || status=$?
+    same_lines due "$work/errors" && [ "$status" -eq "$due" ] && return
+    echo "    the status is $status"
     return 1
 }
 input=games
 
+# over INPUT STATUS TEXT WORD..: so it is over this input, which those after it have too
+over() {
+    input=$1
+    shift
+    tells_of "$@"
+}
+
+# each_tells STATUS TEXT OUTPUT WORDS..: so it is of the words of each of these commands, and the
+# output has this pattern
+each_tells() {
+    each_status=$1 each_text=$2 each_output=$3
+    shift 3
+    for each; do
+        holds tells_of "$each_status" "$each_text" $each
+        holds has_put "$each_output"
+    done
+}
+has_put() { case $(cat "$work/replies") in $1) ;; *) return 1 ;; esac; }
+
 missing_files() {
-    prepare
     cp games kept
-    for words in 'collect no.txt book.bin' 'export no.txt' 'probe no.txt no.bin x' \
-        'lookup no.txt no.bin' 'tree no.txt no.bin' \
-        'collect --ledger kept no.txt book.bin' 'collect --journal kept no.txt book.bin'; do
-        # shellcheck disable=SC2086 # each word is one
-        holds tells_of 3 'no.txt: no such file or directory' "$PROGRAM" $words
-        holds says_only 'fault open'
-    done
+    each_tells 3 'no.txt: no such file or directory' 'fault open' 'collect no.txt book.bin' \
+        'export no.txt' 'probe no.txt no.bin x' 'lookup no.txt no.bin' 'tree no.txt no.bin' \
+        'collect --ledger kept no.txt book.bin' 'collect --journal kept no.txt book.bin'
     # The next program reads what `games` prints.
-    for words in 'games no.txt' 'games games no.txt'; do
-        # shellcheck disable=SC2086
-        holds tells_of 3 'no.txt: no such file or directory' "$PROGRAM" $words
-        holds says_only ''
-    done
-    for words in 'show no.bin' 'probe table.txt no.bin x' 'lookup table.txt no.bin' \
-        'tree table.txt no.bin'; do
-        # shellcheck disable=SC2086
-        holds tells_of 3 'no.bin: no such file or directory' "$PROGRAM" $words
-        holds says_only 'fault open'
-    done
+    each_tells 3 'no.txt: no such file or directory' '' 'games no.txt' 'games games no.txt'
+    each_tells 3 'no.bin: no such file or directory' 'fault open' 'show no.bin' \
+        'probe table.txt no.bin x' 'lookup table.txt no.bin' 'tree table.txt no.bin'
     for option in ledger journal; do
-        holds tells_of 3 "none: no such file (an empty one begins a $option)" \
-            "$PROGRAM" collect "--$option" none table.txt book.bin
-        holds says_only 'fault open'
+        each_tells 3 "none: no such file (an empty one begins a $option)" 'fault open' \
+            "collect --$option none table.txt book.bin"
     done
     holds is_old book.bin
 }
 
 no_permission() {
-    prepare
     chmod 000 table.txt
     runner=as_other
-    holds tells_of 3 'table.txt: permission denied' "$PROGRAM" export table.txt
-    holds says_only 'fault open'
+    each_tells 3 'table.txt: permission denied' 'fault open' 'export table.txt'
     chmod 644 table.txt
     : > kept
     chmod 000 kept
-    for option in ledger journal; do
-        holds tells_of 3 'kept: permission denied' \
-            "$PROGRAM" collect "--$option" kept table.txt book.bin
-        holds says_only 'fault open'
-    done
+    each_tells 3 'kept: permission denied' 'fault open' 'collect --ledger kept table.txt book.bin' \
+        'collect --journal kept table.txt book.bin'
     chmod 444 book.bin
-    holds tells_of 3 'book.bin: permission denied' "$PROGRAM" collect table.txt book.bin
+    holds tells_of 3 'book.bin: permission denied' collect table.txt book.bin
     holds says 'fault open'
 }
 
 one_file() {
-    prepare
     ln -s table.txt table.link
     cp games kept
     ln kept kept.link
     while read -r one other words; do
-        # shellcheck disable=SC2086 # each word is one
-        holds tells_of 3 "$one and $other are one file" "$PROGRAM" collect $words
-        holds says_only 'fault open'
+        each_tells 3 "$one and $other are one file" 'fault open' "collect $words"
     done << END
 table.txt table.link table.txt table.link
 table.link table.txt table.link table.txt
@@ -103,47 +98,28 @@ END
 }
 
 failed_reads() {
-    prepare
     mkdir folder
-    for words in 'collect folder book.bin' 'export folder' 'show folder' 'probe folder book.bin x' \
-        'lookup folder book.bin' 'lookup table.txt folder' 'tree folder book.bin' \
-        'probe table.txt folder x'; do
-        # shellcheck disable=SC2086
-        holds tells_of 3 'folder: is a directory' "$PROGRAM" $words
-        holds says_only 'fault read'
-    done
-    holds tells_of 3 'folder: is a directory' "$PROGRAM" games folder
-    holds says_only ''
-    holds tells_of 3 'folder: is a directory' "$PROGRAM" games games folder
+    each_tells 3 'folder: is a directory' 'fault read' 'collect folder book.bin' 'export folder' \
+        'show folder' 'probe folder book.bin x' 'probe table.txt folder x' \
+        'lookup folder book.bin' 'lookup table.txt folder' 'tree folder book.bin'
+    each_tells 3 'folder: is a directory' '' 'games folder'
+    holds tells_of 3 'folder: is a directory' games games folder
     holds cmp "$work/replies" games
     input=folder
-    for words in epd check 'lookup table.txt book.bin' 'export table.txt' \
-        'collect table.txt book.bin'; do
-        # shellcheck disable=SC2086
-        holds tells_of 3 'standard input: is a directory' "$PROGRAM" $words
-        holds says_only 'fault read'
-    done
+    each_tells 3 'standard input: is a directory' 'fault read' epd check \
+        'lookup table.txt book.bin' 'export table.txt' 'collect table.txt book.bin'
     holds is_old book.bin
 }
 
-# to_full COMMAND..: runs the command, whose output goes to a full device
-to_full() { "$@" > /dev/full; }
-
 full_output() {
-    prepare
     echo "${start% 0 1} ce 1;" > lines
     runner=to_full
-    for words in 'collect table.txt book.bin' 'export table.txt' 'show book.bin' 'games games' \
-        check; do
-        # shellcheck disable=SC2086
-        holds tells_of 3 'standard output: no space left on device' "$PROGRAM" $words
-    done
-    holds tells_of 3 'standard output: no space left on device' "$PROGRAM" fen "$start"
+    full='standard output: no space left on device'
+    each_tells 3 "$full" '' 'collect table.txt book.bin' 'export table.txt' 'show book.bin' \
+        'games games' check
+    holds tells_of 3 "$full" fen "$start"
     input=lines
-    for words in epd 'lookup table.txt book.bin'; do
-        # shellcheck disable=SC2086
-        holds tells_of 3 'standard output: no space left on device' "$PROGRAM" $words
-    done
+    each_tells 3 "$full" '' epd 'lookup table.txt book.bin'
     holds is_old book.bin
 }
 
@@ -164,40 +140,28 @@ to_nobody() {
 
 # Whoever closes a pipe has seen enough, so that isn't told; but who sends games waits for answers.
 closed_pipe() {
-    prepare
     echo "${start% 0 1} ce 1;" > lines
     runner=to_nobody
-    for words in 'export table.txt' 'show book.bin' 'games games' check; do
-        # shellcheck disable=SC2086
-        holds tells_of 3 '' "$PROGRAM" $words
-    done
-    holds tells_of 3 '' "$PROGRAM" fen "$start"
-    holds tells_of 3 '' "$PROGRAM" probe table.txt book.bin "$start"
+    each_tells 3 '' '' 'export table.txt' 'show book.bin' 'games games' check
+    holds tells_of 3 '' fen "$start"
+    holds tells_of 3 '' probe table.txt book.bin "$start"
     input=lines
-    for words in epd 'lookup table.txt book.bin'; do
-        # shellcheck disable=SC2086
-        holds tells_of 3 '' "$PROGRAM" $words
-    done
+    each_tells 3 '' '' epd 'lookup table.txt book.bin'
     # Help and usage are texts too, whose status stays.
-    holds tells_of 2 '' "$PROGRAM" --help
+    holds tells_of 2 '' --help
     input=games
     : > kept
-    for words in 'table.txt book.bin' '-q table.txt book.bin' '--ledger kept table.txt book.bin' \
-        '--journal kept table.txt book.bin'; do
-        # shellcheck disable=SC2086
-        holds tells_of 3 'standard output: broken pipe' "$PROGRAM" collect $words
-    done
+    each_tells 3 'standard output: broken pipe' '' 'collect table.txt book.bin' \
+        'collect -q table.txt book.bin' 'collect --ledger kept table.txt book.bin' \
+        'collect --journal kept table.txt book.bin'
     holds is_old book.bin
 }
 
 full_book() {
-    prepare
-    holds tells_of 3 '/dev/full: no space left on device' \
-        "$PROGRAM" collect table.txt /dev/full
+    holds tells_of 3 '/dev/full: no space left on device' collect table.txt /dev/full
 }
 
 full_disk() {
-    prepare
     mkdir disk
     mount -t tmpfs -o size=16k tmpfs "$place/disk"
     head -c 9000 /dev/zero > disk/zero
@@ -205,8 +169,7 @@ full_disk() {
     : > disk/games.journal
     input=$work/games
     while read -r file words; do
-        # shellcheck disable=SC2086 # each word is one
-        holds tells_of 3 "disk/$file: no space left on device" "$PROGRAM" collect $words
+        holds tells_of 3 "disk/$file: no space left on device" collect $words
     done << END
 book.bin table.txt disk/book.bin
 games.ledger --ledger disk/games.ledger table.txt book.bin
@@ -221,8 +184,17 @@ END
 # with_line NUMBER TEXT: the table with another text in this line
 with_line() { awk -v at="$1" -v text="$2" 'NR == at { print text; next } { print }' "$work/table"; }
 
+# each_refused WORDS..: each line of standard input is a file and a text. Of each of these commands,
+# in which FILE stands for its name, the run tells this text of the file.
+each_refused() {
+    while IFS='|' read -r file text; do
+        for each; do
+            holds tells_of 1 "$file: $text" $(echo "$each" | sed "s/FILE/$file/")
+        done
+    done
+}
+
 refused_tables() {
-    prepare
     cp "$work/new" one
     with_line 1 'no word' > two
     with_line 5 'no word' > five
@@ -230,12 +202,8 @@ refused_tables() {
     cat "$work/table" "$work/table" > long
     head -c 20000 /dev/zero | tr '\0' '0' | fold -w 16 > longer
     others
-    for words in 'collect TABLE book.bin' 'export TABLE' 'probe TABLE book.bin x' \
-        'lookup TABLE book.bin' 'tree TABLE book.bin'; do
-        while IFS='|' read -r file text; do
-            # shellcheck disable=SC2046 # each word is one
-            holds tells_of 1 "$file: $text" "$PROGRAM" $(echo "$words" | sed "s/TABLE/$file/")
-        done << END
+    each_refused 'collect FILE book.bin' 'export FILE' 'probe FILE book.bin x' \
+        'lookup FILE book.bin' 'tree FILE book.bin' << END
 one|line 1 isn't 16 hexadecimal digits; it looks like a book
 two|line 1 isn't 16 hexadecimal digits
 five|line 5 isn't 16 hexadecimal digits
@@ -247,7 +215,6 @@ games|line 1 isn't 16 hexadecimal digits; it looks like games
 long_pgn|it is longer than a table; it looks like PGN
 all_games|it is longer than a table; it looks like games
 END
-    done
     holds is_old book.bin
 }
 
@@ -261,48 +228,40 @@ others() {
 }
 
 refused_books() {
-    prepare
     others
     head -c 1601 "$work/new" > cut.bin
     { tail -c 16 "$work/new" && cat "$work/new"; } > unordered.bin
-    for words in 'show BOOK' 'probe table.txt BOOK x' 'lookup table.txt BOOK' \
-        'tree table.txt BOOK'; do
-        while IFS='|' read -r file text; do
-            # shellcheck disable=SC2046
-            holds tells_of 1 "$file: $text" "$PROGRAM" $(echo "$words" | sed "s/BOOK/$file/")
-        done << END
+    lower='entry 2 has a lower key than the one before it'
+    each_refused 'show FILE' 'probe table.txt FILE x' 'lookup table.txt FILE' \
+        'tree table.txt FILE' << END
 cut.bin|its last entry has 1 of 16 bytes
-unordered.bin|entry 2 has a lower key than the one before it
-table.txt|entry 2 has a lower key than the one before it; it looks like a table
-pgn|entry 2 has a lower key than the one before it; it looks like PGN
-packed|entry 2 has a lower key than the one before it; it is packed by gzip; zcat unpacks it
-games|entry 2 has a lower key than the one before it; it looks like games
-text|entry 2 has a lower key than the one before it; it is text
+unordered.bin|$lower
+table.txt|$lower; it looks like a table
+pgn|$lower; it looks like PGN
+packed|$lower; it is packed by gzip; zcat unpacks it
+games|$lower; it looks like games
+text|$lower; it is text
 END
-    done
     # A pipe gives its bytes once, so it isn't looked at again.
     mkfifo pipe
     cat pgn > pipe &
     runner="timeout $patience"
-    holds tells_of 1 'pipe: entry 2 has a lower key than the one before it' "$PROGRAM" show pipe
+    holds tells_of 1 "pipe: $lower" show pipe
 }
 
 refused_ledger() {
-    prepare
     : > games.ledger
     cp "$work/new" new.bin
     cp table.txt other_table
-    holds tells_of 0 '' "$PROGRAM" collect --ledger games.ledger table.txt book.bin
+    holds tells_of 0 '' collect --ledger games.ledger table.txt book.bin
     cp "$work/old" book.bin
     sed '5s/.*/no game/' games.ledger > broken
-    holds tells_of 1 "broken: line 5 isn't a game that can be taken" \
-        "$PROGRAM" collect --ledger broken table.txt book.bin
-    holds says_only 'refused ledger line 5'
+    each_tells 1 "broken: line 5 isn't a game that can be taken" 'refused ledger line 5' \
+        'collect --ledger broken table.txt book.bin'
     others
     while IFS='|' read -r file text; do
-        holds tells_of 1 "$file: line 1 isn't a game that can be taken$text" \
-            "$PROGRAM" collect --ledger "$file" table.txt book.bin
-        holds says_only 'refused ledger line 1'
+        each_tells 1 "$file: line 1 isn't a game that can be taken$text" 'refused ledger line 1' \
+            "collect --ledger $file table.txt book.bin"
     done << END
 pgn|; it looks like PGN
 packed|; it is packed by gzip; zcat unpacks it
@@ -315,15 +274,13 @@ END
 
 # A last line of FILE without an end is taken, and told of.
 cut_ledger() {
-    prepare
     : > whole
-    holds tells_of 0 '' "$PROGRAM" collect --ledger whole table.txt book.bin
+    holds tells_of 0 '' collect --ledger whole table.txt book.bin
     for option in '' -q; do
         head -c -1 whole > games.ledger
         text='the last line of games.ledger has no end; it may be a cut game'
         [ "$option" = '' ] || text=
-        # shellcheck disable=SC2086 # no option is no word
-        holds tells_of 0 "$text" "$PROGRAM" collect $option --ledger games.ledger table.txt book.bin
+        holds tells_of 0 "$text" collect $option --ledger games.ledger table.txt book.bin
         holds cmp whole games.ledger
     done
 }
@@ -331,12 +288,9 @@ cut_ledger() {
 # A refused record or move is told in words. What was refused of lines isn't told: the output has
 # that.
 refused_words() {
-    prepare
     while IFS='|' read -r record reason text; do
-        holds tells_of 1 "FEN: $text" "$PROGRAM" fen "$record"
-        holds says_only "refused fen $reason"
-        for command in probe tree; do
-            holds tells_of 1 "FEN: $text" "$PROGRAM" "$command" table.txt book.bin "$record"
+        for words in fen 'probe table.txt book.bin' 'tree table.txt book.bin'; do
+            holds tells_of 1 "FEN: $text" $words "$record"
             holds says_only "refused fen $reason"
         done
     done << 'END'
@@ -353,17 +307,14 @@ startpos|fields|it doesn't have six fields, one space between each two
 4k2P/8/8/8/8/8/8/4K3 w - - 0 1|pawns|it has a pawn on rank 1 or 8
 4k3/8/8/8/8/8/8/4K3 w - e6 0 1|ep-pawn|no pawn has just passed over its en passant square
 END
-    holds tells_of 1 "move 1: it isn't legal there" "$PROGRAM" fen "$start" e2e5
-    holds tells_of 1 "move 3: it isn't legal there" "$PROGRAM" fen "$start" e2e4 e7e5 e4e5
+    holds tells_of 1 "move 1: it isn't legal there" fen "$start" e2e5
+    holds tells_of 1 "move 3: it isn't legal there" fen "$start" e2e4 e7e5 e4e5
     holds says_only 'refused illegal 3'
-    holds tells_of 1 "move 2: it isn't spelt like e2e4 or e7e8q" \
-        "$PROGRAM" fen "$start" e2e5 Nf6 e7e5
+    holds tells_of 1 "move 2: it isn't spelt like e2e4 or e7e8q" fen "$start" e2e5 Nf6 e7e5
     holds says_only 'refused spelling 2'
-    holds tells_of 1 '' "$PROGRAM" epd
-    holds tells_of 1 '' "$PROGRAM" lookup table.txt book.bin
+    each_tells 1 '' '*' epd 'lookup table.txt book.bin'
     { cat games && echo 'no game'; } > bad
-    input=bad
-    holds tells_of 1 '' "$PROGRAM" check
+    holds over bad 1 '' check
     holds test "$(tail -n 1 "$work/replies")" = 'refused - shape'
 }
 
@@ -371,15 +322,13 @@ wrong_use() {
     input=/dev/null
     for words in colect 'collect --plies x table.txt book.bin' 'show one two' \
         'collect --later table.txt book.bin' 'probe t b f more'; do
-        # shellcheck disable=SC2086
         "$PROGRAM" $words > due.put 2> /dev/null || true
         first=$(sed -n '1s/^error: //p' due.put)
         holds test -n "$first"
-        # shellcheck disable=SC2086
-        holds tells_of 2 "$first" "$PROGRAM" $words
+        holds tells_of 2 "$first" $words
         holds cmp "$work/replies" due.put
     done
-    holds tells_of 2 "an argument isn't UTF-8" "$PROGRAM" show "$(printf 'book\377.bin')"
+    holds tells_of 2 "an argument isn't UTF-8" show "$(printf 'book\377.bin')"
     holds test ! -s "$work/replies"
 }
 
@@ -387,12 +336,10 @@ wrong_use() {
 arguments_wanted() {
     input=/dev/null
     while IFS='|' read -r words wanted; do
-        # shellcheck disable=SC2086 # each word is one
         "$PROGRAM" $words < "$input" > "$work/replies" 2> "$work/errors" || status=$?
         holds test "$status" -eq 2
         {
             echo 'pbook: the following required arguments were not provided:'
-            # shellcheck disable=SC2086
             printf '  %s\n' $wanted
         } > due
         holds cmp "$work/errors" due
@@ -408,9 +355,8 @@ END
 words_too_many() {
     input=/dev/null
     while IFS='|' read -r words text; do
-        # shellcheck disable=SC2086 # each word is one
         holds tells_of 2 "unexpected argument 'x.txt' found
-$text come on standard input: < x.txt" "$PROGRAM" $words
+$text come on standard input: < x.txt" $words
         holds grep -q "^Usage: pbook ${words%% *} .*< " "$work/replies"
     done << 'END'
 collect table.txt book.bin x.txt|games
@@ -430,17 +376,14 @@ help_width() {
         'check collect epd export fen games help lookup probe show tree '
     for command in '' $commands; do
         [ "$command" != help ] || continue
-        # shellcheck disable=SC2086 # no command is no word
-        holds tells_of 2 '' "$PROGRAM" $command --help
-        awk 'length > 80' "$work/replies" > wide
-        holds test ! -s wide
-        # shellcheck disable=SC2086
-        holds tells_of 2 '' "$PROGRAM" help $command
-        awk 'length > 80' "$work/replies" > wide
-        holds test ! -s wide
+        for words in "$command --help" "help $command"; do
+            holds tells_of 2 '' $words
+            awk 'length > 80' "$work/replies" > wide
+            holds test ! -s wide
+        done
     done
     for command in collect export epd check lookup; do
-        holds tells_of 2 '' "$PROGRAM" "$command" --help
+        holds tells_of 2 '' "$command" --help
         holds grep -q "^Usage: pbook $command .*< [A-Z]* > [A-Z]*$" "$work/replies"
     done
 }
@@ -448,11 +391,7 @@ help_width() {
 # Help that was asked for is no fault, nor is the help that is put where no word is given.
 asked_help() {
     input=/dev/null
-    for words in --help --version 'collect --help' ''; do
-        # shellcheck disable=SC2086
-        holds tells_of 2 '' "$PROGRAM" $words
-        holds test -s "$work/replies"
-    done
+    each_tells 2 '' '?*' --help --version 'collect --help' ''
 }
 
 # after_bytes COMMAND..: runs the command over what is left behind the first bytes of its input
@@ -463,127 +402,97 @@ after_bytes() {
 
 # A run that goes on in the midst of a file says so, and one that reads a pipe can't know.
 begun_input() {
-    prepare
     runner=after_bytes
-    for words in check 'collect table.txt new.bin' 'export table.txt'; do
-        # shellcheck disable=SC2086 # each word is one
-        holds tells_of 0 "standard input isn't at its beginning; its first line may be cut" \
-            "$PROGRAM" $words
-    done
+    each_tells 0 "standard input isn't at its beginning; its first line may be cut" '*' check \
+        'collect table.txt new.bin' 'export table.txt'
     cp "$work/replies" printed
-    holds tells_of 0 '' "$PROGRAM" export -q table.txt
+    holds tells_of 0 '' export -q table.txt
     holds cmp "$work/replies" printed
     mkfifo pipe
     tail -c +11 games > pipe &
-    input=pipe runner=
-    holds tells_of 0 '' "$PROGRAM" export table.txt
+    runner=
+    holds over pipe 0 '' export table.txt
     wait
     holds cmp "$work/replies" printed
 }
 
 no_game() {
-    prepare
-    input=/dev/null
-    holds tells_of 0 'no game was accepted; book.bin is an empty book' \
-        "$PROGRAM" collect table.txt book.bin
+    none='no game was accepted'
+    holds over /dev/null 0 "$none; book.bin is an empty book" collect table.txt book.bin
     holds test ! -s book.bin
     echo 'no game' > bad
-    input=bad
-    holds tells_of 0 'no game was accepted; new.bin is an empty book' \
-        "$PROGRAM" collect table.txt new.bin
+    holds over bad 0 "$none; new.bin is an empty book" collect table.txt new.bin
     : > kept
-    input=games
-    holds tells_of 0 '' "$PROGRAM" collect --ledger kept table.txt book.bin
-    input=bad
-    holds tells_of 0 'no game was accepted' "$PROGRAM" collect --ledger kept table.txt book.bin
+    holds over games 0 '' collect --ledger kept table.txt book.bin
+    holds over bad 0 "$none" collect --ledger kept table.txt book.bin
     holds test -s book.bin
-    input=/dev/null
-    holds tells_of 0 '' "$PROGRAM" collect --ledger kept table.txt book.bin
-    input=games
-    holds tells_of 0 '' "$PROGRAM" collect --ledger kept table.txt book.bin
+    for input in /dev/null games; do
+        holds tells_of 0 '' collect --ledger kept table.txt book.bin
+    done
     for input in /dev/null bad; do
-        holds tells_of 0 '' "$PROGRAM" collect -q table.txt book.bin
-        holds tells_of 0 '' "$PROGRAM" collect --quiet table.txt book.bin
+        each_tells 0 '' '*' 'collect -q table.txt book.bin' 'collect --quiet table.txt book.bin'
     done
 }
 
 # What looks like no submissions isn't told to have no end too.
 other_input() {
-    prepare
     printf '[Event "one game"]\n[Result "1-0"]\n\n1. e4 e5 2. Nf3 1-0' > pgn
     gzip -c games > packed
     empty='no game was accepted; book.bin is an empty book'
-    input=pgn
-    holds tells_of 0 "standard input looks like PGN, not like submissions
-$empty" "$PROGRAM" collect table.txt book.bin
-    input=packed
-    holds tells_of 0 "standard input is packed by gzip; zcat unpacks it
-$empty" "$PROGRAM" collect table.txt book.bin
-    for input in pgn packed; do
-        holds tells_of 0 '' "$PROGRAM" collect -q table.txt book.bin
-    done
+    for input in pgn packed; do holds tells_of 0 '' collect -q table.txt book.bin; done
     # A byte order mark and empty lines may stand before it, and CRs in its lines.
     { printf '\357\273\277\n\n' && cat pgn; } > marked
     sed 's/$/\r/' pgn > with_crs
     cp "$work/new" another_book
-    while IFS='|' read -r input looks; do
-        holds tells_of 0 "standard input looks like $looks, not like submissions
-$empty" "$PROGRAM" collect table.txt book.bin
+    while IFS='|' read -r input is; do
+        holds tells_of 0 "standard input $is
+$empty" collect table.txt book.bin
     done << 'END'
-marked|PGN
-with_crs|PGN
-table.txt|a table
-another_book|a book
+pgn|looks like PGN, not like submissions
+packed|is packed by gzip; zcat unpacks it
+marked|looks like PGN, not like submissions
+with_crs|looks like PGN, not like submissions
+table.txt|looks like a table, not like submissions
+another_book|looks like a book, not like submissions
 END
     # More digits are no line of a table.
     echo 0123456789abcdef0 > digits
-    input=digits
-    holds tells_of 0 "$empty" "$PROGRAM" collect table.txt book.bin
+    holds over digits 0 "$empty" collect table.txt book.bin
 }
 
 # The last line of submissions is taken without an LF, and told of.
 cut_input() {
-    prepare
     text='the last line of standard input has no end; it may be a cut game'
     head -c -1 games > unended
     for words in 'collect table.txt new.bin' 'collect --ledger kept table.txt new.bin' \
         'collect --journal kept table.txt new.bin' 'export table.txt'; do
         : > kept
-        input=games
-        # shellcheck disable=SC2086 # each word is one
-        holds tells_of 0 '' "$PROGRAM" $words
+        holds over games 0 '' $words
         cp "$work/replies" due.put
         : > kept
-        input=unended
-        # shellcheck disable=SC2086
-        holds tells_of 0 "$text" "$PROGRAM" $words
+        holds over unended 0 "$text" $words
         holds cmp "$work/replies" due.put
         : > kept
-        # shellcheck disable=SC2086
-        holds tells_of 0 '' "$PROGRAM" $words -q
+        holds tells_of 0 '' $words -q
         holds cmp "$work/replies" due.put
     done
     # The line is told of whatever it is, and none is where nothing is.
     { cat games && printf ' '; } > unended
-    holds tells_of 0 "$text" "$PROGRAM" collect table.txt new.bin
-    input=/dev/null
-    holds tells_of 0 '' "$PROGRAM" export table.txt
+    holds tells_of 0 "$text" collect table.txt new.bin
+    holds over /dev/null 0 '' export table.txt
     echo "${start% 0 1} ce 1;" | head -c -1 > unended
-    input=unended
-    holds tells_of 0 '' "$PROGRAM" epd
+    holds over unended 0 '' epd
 }
 
 # Where a run may have no more files open, an open stream isn't taken for a closed one, and the file
 # is told that can't be read.
 no_more_files() {
-    prepare
     runner='strace -f -o /dev/null -e trace=fcntl -e inject=fcntl:error=EMFILE'
-    holds tells_of 0 '' "$PROGRAM" fen "$start"
-    holds tells_of 0 '' "$PROGRAM" check
+    holds tells_of 0 '' fen "$start"
+    holds tells_of 0 '' check
     for option in ledger journal; do
         : > kept
-        holds tells_of 3 'kept: too many open files' \
-            "$PROGRAM" collect "--$option" kept table.txt book.bin
+        holds tells_of 3 'kept: too many open files' collect "--$option" kept table.txt book.bin
         holds test ! -s kept
     done
     holds is_old book.bin
@@ -594,7 +503,6 @@ told_yet() { grep -qxF "pbook: $1" told; }
 
 # What has to be told at once is told while the run waits for more.
 told_at_once() {
-    prepare
     rm games
     begin "$PROGRAM" collect table.txt missing/book.bin
     holds awaits told_yet 'missing/book.bin: no such file or directory'
@@ -606,31 +514,24 @@ told_at_once() {
 
 # What FILE can't be is told before a submission is read.
 no_file() {
-    prepare
-    for option in ledger journal; do
-        holds tells_of 3 '/dev/null: it has to be an ordinary file' \
-            "$PROGRAM" collect "--$option" /dev/null table.txt book.bin
-        holds says_only 'fault open'
-    done
+    each_tells 3 '/dev/null: it has to be an ordinary file' 'fault open' \
+        'collect --ledger /dev/null table.txt book.bin' \
+        'collect --journal /dev/null table.txt book.bin'
     for option in '' --sync -q; do
-        # shellcheck disable=SC2086 # no option is no word
-        holds tells_of 1 "book.bin: line 1 isn't a game that can be taken; it looks like a book" \
-            "$PROGRAM" collect $option --journal book.bin table.txt new.bin
-        holds says_only 'refused journal line 1'
+        each_tells 1 "book.bin: line 1 isn't a game that can be taken; it looks like a book" \
+            'refused journal line 1' "collect $option --journal book.bin table.txt new.bin"
     done
 }
 
 # A book takes the place of something else that is no book with a warning, and of games not at all.
 other_book() {
-    prepare
     others
     cp table.txt table.bin
     while read -r file looks; do
         cp "$file" other.bin
-        holds tells_of 0 "other.bin: a book takes its place; it $looks" \
-            "$PROGRAM" collect table.txt other.bin
+        holds tells_of 0 "other.bin: a book takes its place; it $looks" collect table.txt other.bin
         cp "$file" other.bin
-        holds tells_of 0 '' "$PROGRAM" collect -q table.txt other.bin
+        holds tells_of 0 '' collect -q table.txt other.bin
     done << END
 pgn looks like PGN
 packed is packed by gzip; zcat unpacks it
@@ -639,18 +540,15 @@ text is text
 END
     for file in /dev/null book.bin; do
         cp "$file" other.bin
-        holds tells_of 0 '' "$PROGRAM" collect table.txt other.bin
+        holds tells_of 0 '' collect table.txt other.bin
     done
     cp games list
-    for option in '' -q; do
-        # shellcheck disable=SC2086 # no option is no word
-        holds tells_of 3 'list holds games, and stays' "$PROGRAM" collect $option table.txt list
-    done
+    each_tells 3 'list holds games, and stays' '*' 'collect table.txt list' \
+        'collect -q table.txt list'
 }
 
 # A name with control characters is told in one line, which has none.
 odd_names() {
-    prepare
     odd=$(printf 'no\npbook:fake.bin:\033[2Jno\r\t\177')
     cp games "$odd"
     for words in "show no$odd" "games no$odd" "collect table.txt no$odd/book" \
@@ -658,7 +556,6 @@ odd_names() {
         "collect table.txt $odd"; do
         status=0
         IFS=' '
-        # shellcheck disable=SC2086 # each word is one
         "$PROGRAM" $words < games > replies 2> told || status=$?
         unset IFS
         holds test "$status" -eq 3
@@ -669,32 +566,28 @@ odd_names() {
 }
 
 bad_journal_line() {
-    prepare
     { cat games && echo 'no game' && cat games; } > kept
     printf 'torn' >> kept
     holds tells_of 0 "kept: line 10 can't be taken; it is skipped
-the last line of kept has no end; it may be a cut game" \
-        "$PROGRAM" collect --journal kept table.txt book.bin
+the last line of kept has no end; it may be a cut game" collect --journal kept table.txt book.bin
     # The torn end is sealed by now, and isn't told.
     holds tells_of 0 "kept: line 10 can't be taken; it is skipped" \
-        "$PROGRAM" collect --journal kept table.txt book.bin
-    holds tells_of 0 '' "$PROGRAM" collect -q --journal kept table.txt book.bin
+        collect --journal kept table.txt book.bin
+    holds tells_of 0 '' collect -q --journal kept table.txt book.bin
     { echo 'pbook-ledger 1' && cat games; } > kept
-    holds tells_of 0 '' "$PROGRAM" collect --journal kept table.txt book.bin
+    holds tells_of 0 '' collect --journal kept table.txt book.bin
     # Ten are named, and of more it is told once that they are there.
     seq -f "kept: line %g can't be taken; it is skipped" 10 19 > ten
     for more in 10 11 15; do
         { cat games && yes 'no game' | head -n "$more"; } > kept
         [ "$more" -eq 10 ] || text="$(cat ten)
 kept: more lines can't be taken"
-        holds tells_of 0 "${text-$(cat ten)}" \
-            "$PROGRAM" collect --journal kept table.txt book.bin
+        holds tells_of 0 "${text-$(cat ten)}" collect --journal kept table.txt book.bin
     done
 }
 
 # What `games` leaves out is told, but for the first line of a saved ledger and for sealed lines.
 left_out_lines() {
-    prepare
     {
         echo 'pbook-ledger 1'
         cat games
@@ -702,30 +595,27 @@ left_out_lines() {
         printf 'torn'
     } > kept
     holds tells_of 0 "kept: line 12 can't be taken; it is skipped
-kept: its last line has no end; it is left out" "$PROGRAM" games kept
+kept: its last line has no end; it is left out" games kept
     holds cmp "$work/replies" games
-    holds tells_of 0 '' "$PROGRAM" games games
+    holds tells_of 0 '' games games
     # Each line is told of its own file.
     { head -n 1 games && echo 'no game'; } > other
     holds tells_of 0 "other: line 2 can't be taken; it is skipped
 kept: line 12 can't be taken; it is skipped
-kept: its last line has no end; it is left out" "$PROGRAM" games games other kept
+kept: its last line has no end; it is left out" games games other kept
 }
 
-# A file that gave no line of games is refused, unless it is empty or begins as one that holds games.
+# A file that gave no line of games is refused, unless it is empty or begins as one that has games.
 no_games() {
-    prepare
     others
     echo 'pbook-ledger 1' > header
     printf 'torn\t\t\t\t\n' > sealed
     : > empty
-    for file in header sealed empty; do
-        holds tells_of 0 '' "$PROGRAM" games "$file"
-        holds says_only ''
-    done
+    each_tells 0 '' '' 'games header' 'games sealed' 'games empty'
     while IFS='|' read -r file text; do
-        holds tells_of 1 "$(seq -f "$file: line %g can't be taken; it is skipped" "$(wc -l < "$file")")
-$file: it holds no game$text" "$PROGRAM" games "$file"
+        skipped=$(seq -f "$file: line %g can't be taken; it is skipped" "$(wc -l < "$file")")
+        holds tells_of 1 "$skipped
+$file: it holds no game$text" games "$file"
         holds says_only ''
         # The other files are printed.
         holds test "$("$PROGRAM" games games "$file" games 2> told | wc -l)" -eq 18
@@ -737,161 +627,131 @@ text|
 END
 }
 
-# to_itself: prints the games behind those that are read, up to a limit
+# to_itself COMMAND..: runs the command, whose output comes behind the games that are read, up to a
+# limit
 to_itself() (
     trap '' XFSZ
     ulimit -f 100
-    # shellcheck disable=SC2094 # that it is read and written is what is tried
-    exec "$PROGRAM" games games >> games
+    exec "$@" >> games
 )
 
 # What is printed into a file that is read would be read again, for ever.
 games_to_themselves() {
-    prepare
     cp games before
-    input=/dev/null
-    holds tells_of 3 'games and /dev/stdout are one file' to_itself
+    runner=to_itself
+    holds over /dev/null 3 'games and /dev/stdout are one file' games games
     holds cmp games before
 }
 
 # Faults are told with -q too.
 quiet_faults() {
-    prepare
-    holds tells_of 3 'no.txt: no such file or directory' \
-        "$PROGRAM" collect -q no.txt book.bin
-    holds tells_of 3 '/dev/full: no space left on device' \
-        "$PROGRAM" collect -q table.txt /dev/full
+    holds tells_of 3 'no.txt: no such file or directory' collect -q no.txt book.bin
+    holds tells_of 3 '/dev/full: no space left on device' collect -q table.txt /dev/full
     head -n 9 table.txt > short
-    holds tells_of 1 "short: a table has 781 lines, and this one 9" "$PROGRAM" collect -q short book.bin
+    holds tells_of 1 "short: a table has 781 lines, and this one 9" collect -q short book.bin
 }
 
-# each_told TRY: calls TRY with a name and the words of runs that tell something, and of some that
-# don't
-each_told() {
-    "$1" missing collect no.txt book.bin
-    "$1" full collect table.txt /dev/full
-    "$1" refused collect short book.bin
-    "$1" none collect -- table.txt book.bin
-    "$1" ledger collect --ledger kept table.txt book.bin
-    "$1" journal collect --journal rotten table.txt book.bin
-    "$1" journal_synced collect --journal rotten --sync table.txt book.bin
-    "$1" new collect table.txt new.bin
-    "$1" one_file collect table.txt table.txt
-    "$1" export export table.txt
-    "$1" summary collect -q --summary table.txt book.bin
-    "$1" check check
-    "$1" lookup lookup table.txt book.bin
-    "$1" tree tree table.txt book.bin
-    "$1" record fen startpos
-    "$1" too_many epd lines
-    "$1" games games rotten
-    "$1" book show table.txt
-    "$1" use colect
-}
-
-# told_files: the files that such a run finds
-told_files() {
+# run_of HOW WORD..: runs the program in a new folder of this name, with standard error of this kind
+run_of() (
+    how=$1
+    shift
+    mkdir "$how"
+    cd "$how"
     prepare
     head -n 9 table.txt > short
     : > kept
     { cat games && echo 'no game'; } > rotten
     printf '[Event "one game"]\nno game\n' > pgn
-}
+    status=0
+    case $how in
+        file) "$PROGRAM" "$@" < pgn > put 2> ../told || status=$? ;;
+        closed) "$PROGRAM" "$@" < pgn > put 2>&- || status=$? ;;
+        full) "$PROGRAM" "$@" < pgn > put 2> /dev/full || status=$? ;;
+    esac
+    echo "$status" > status
+)
 
-# run_of NAME HOW WORD..: runs the program in a new folder, NAME.HOW, with standard error of this
-# kind
-run_of() {
-    name=$1.$2 how=$2
-    shift 2
-    mkdir "$name"
-    (
-        cd "$name"
-        told_files
-        status=0
-        case $how in
-            file) "$PROGRAM" "$@" < pgn > put 2> ../told || status=$? ;;
-            closed) "$PROGRAM" "$@" < pgn > put 2>&- || status=$? ;;
-            full) "$PROGRAM" "$@" < pgn > put 2> /dev/full || status=$? ;;
-        esac
-        echo "$status" > status
-    )
-}
-
-# same_without NAME WORD..: without a standard error, output, status and files are the same
-same_without() {
-    name_of_run=$1
-    shift
-    for kind in file closed full; do run_of "$name_of_run" "$kind" "$@"; done
-    for kind in closed full; do
-        holds diff -r "$name_of_run.file" "$name_of_run.$kind"
-    done
-    ! [ -s told ] || with_told=$((with_told + 1))
-}
-
+# Without a standard error, output, status and files are the same, of runs that tell something, and
+# of some that don't.
 without_errors() {
     with_told=0
-    each_told same_without
+    while read -r words; do
+        for kind in file closed full; do run_of "$kind" $words; done
+        for kind in closed full; do holds diff -r file "$kind"; done
+        ! [ -s told ] || with_told=$((with_told + 1))
+        rm -r file closed full
+    done << 'END'
+collect no.txt book.bin
+collect table.txt /dev/full
+collect short book.bin
+collect -- table.txt book.bin
+collect --ledger kept table.txt book.bin
+collect --journal rotten table.txt book.bin
+collect --journal rotten --sync table.txt book.bin
+collect table.txt new.bin
+collect table.txt table.txt
+export table.txt
+collect -q --summary table.txt book.bin
+check
+lookup table.txt book.bin
+tree table.txt book.bin
+fen startpos
+epd lines
+games rotten
+show table.txt
+colect
+END
     note "$with_told of these runs tell something"
     holds test "$with_told" -ge 9
 }
 
-# in_terminal COMMAND: runs the command, a line of the shell, whose standard error is a terminal;
-# what is shown there is in `shown`, each line that is written over as one of its own
+# in_terminal COMMAND: runs the command, a line of the shell in which `pbook` is the program, and
+# whose standard error is a terminal; what is shown there is in `shown`, each line that is written
+# over as one of its own
 in_terminal() {
-    script -qec "$1" /dev/null < /dev/null > typescript || return 1
+    script -qec "pbook() { '$PROGRAM' \"\$@\"; }; $1" /dev/null < /dev/null > typescript || return 1
     tr '\r' '\n' < typescript | sed 's/\x1b\[K//g' > shown
 }
 
 summary='pbook: 322 lines: 320 ok (300 new, 20 again), 2 refused (1 illegal, 1 conflict)'
 terminal() {
-    prepare
-    holds in_terminal "'$PROGRAM' collect table.txt book.bin < '$work/games' > replies"
+    holds in_terminal "pbook collect table.txt book.bin < '$work/games' > replies"
     holds grep -qxF "$summary; book.bin: 367 entries" shown
-    holds in_terminal "'$PROGRAM' collect -q table.txt book.bin < '$work/games' > replies"
+    holds in_terminal "pbook collect -q table.txt book.bin < '$work/games' > replies"
     holds test ! -s typescript
     holds is_new book.bin
 }
 
 # The same line is told anywhere with --summary, alone with -q, and behind all else without.
 summaries() {
-    prepare
     input=$work/games
     all=$(echo "$summary" | sed 's/^pbook: //')
     for option in '' -q; do
-        # shellcheck disable=SC2086 # no option is no word
-        holds tells_of 0 "$all; book.bin: 367 entries" \
-            "$PROGRAM" collect $option --summary table.txt book.bin
+        holds tells_of 0 "$all; book.bin: 367 entries" collect $option --summary table.txt book.bin
         holds is_new book.bin
-        # shellcheck disable=SC2086
-        holds tells_of 0 "$all" "$PROGRAM" export $option --summary table.txt
+        holds tells_of 0 "$all" export $option --summary table.txt
         holds cmp "$work/replies" "$work/export"
         for kept in ledger journal; do
             : > "$kept"
-            # shellcheck disable=SC2086
             holds tells_of 0 "$all; book.bin: 367 entries" \
-                "$PROGRAM" collect $option --summary "--$kept" "$kept" table.txt book.bin
-            # shellcheck disable=SC2086
+                collect $option --summary "--$kept" "$kept" table.txt book.bin
             holds tells_of 0 "$again; book.bin: 367 entries" \
-                "$PROGRAM" collect $option --summary "--$kept" "$kept" table.txt book.bin
+                collect $option --summary "--$kept" "$kept" table.txt book.bin
         done
         # A device has no entries that could be counted.
-        # shellcheck disable=SC2086
-        holds tells_of 0 "$all" "$PROGRAM" collect $option --summary table.txt /dev/null
+        holds tells_of 0 "$all" collect $option --summary table.txt /dev/null
     done
-    holds tells_of 0 '' "$PROGRAM" collect table.txt book.bin
-    holds tells_of 0 '' "$PROGRAM" export table.txt
+    holds tells_of 0 '' collect table.txt book.bin
+    holds tells_of 0 '' export table.txt
     printf 'no game\nw1\t1-1\t%s\te2e4\n' "$start" > bad
-    input=bad
-    holds tells_of 0 'no game was accepted; book.bin is an empty book
+    holds over bad 0 'no game was accepted; book.bin is an empty book
 2 lines: 0 ok (0 new, 0 again), 2 refused (1 shape, 1 result); book.bin: 0 entries' \
-        "$PROGRAM" collect --summary table.txt book.bin
-    holds tells_of 0 "$(tail -n 1 due | sed 's/^pbook: //')" \
-        "$PROGRAM" collect -q --summary table.txt book.bin
+        collect --summary table.txt book.bin
+    holds tells_of 0 "$(tail -n 1 due | sed 's/^pbook: //')" collect -q --summary table.txt book.bin
     # A fault has no summary.
     input=$work/games
-    holds tells_of 3 'no.txt: no such file or directory' "$PROGRAM" export --summary no.txt
-    holds tells_of 3 '/dev/full: no space left on device' \
-        "$PROGRAM" collect --summary table.txt /dev/full
+    holds tells_of 3 'no.txt: no such file or directory' export --summary no.txt
+    holds tells_of 3 '/dev/full: no space left on device' collect --summary table.txt /dev/full
 }
 again='322 lines: 320 ok (0 new, 320 again), 2 refused (1 illegal, 1 conflict)'
 
@@ -905,7 +765,6 @@ numbered() {
 # Lines are told by the reason that refused them, whose answer has that word, in the order in which
 # reasons are looked for.
 reasons() {
-    prepare
     knights=$(yes 'g1f3 g8f6 f3g1 f6g8' | head -n 257 | tr '\n' ' ' | sed 's/ $//')
     {
         printf 'one\t1-0\t%s\te2e4\n' "$start"
@@ -925,140 +784,124 @@ reasons() {
         counted="${counted+$counted, }$number $reason"
         yes "$reason" | head -n "$number"
     done > due.reasons
-    input=refused
-    holds tells_of 0 "56 lines: 1 ok (1 new, 0 again), 55 refused ($counted); book.bin: 1 entry" \
-        "$PROGRAM" collect --summary table.txt book.bin
+    holds over refused 0 "56 lines: 1 ok (1 new, 0 again), 55 refused ($counted); book.bin: 1 entry" \
+        collect --summary table.txt book.bin
     sed -n 's/^refused //p' "$work/replies" | cut -d ' ' -f 2 > reasons
     holds cmp reasons due.reasons
     holds tells_of 0 "56 lines: 1 ok (1 new, 0 again), 55 refused ($counted)" \
-        "$PROGRAM" export --summary table.txt
+        export --summary table.txt
 }
 
 # One line is a line, and thousands have a comma before the zeros.
 counted() {
-    prepare
     head -n 1 games > one
-    input=one
-    holds tells_of 0 '1 line: 1 ok (1 new, 0 again), 0 refused' \
-        "$PROGRAM" export --summary table.txt
+    holds over one 0 '1 line: 1 ok (1 new, 0 again), 0 refused' export --summary table.txt
     begin=$(date +%s)
     for lines in 999 1000 1005 12030 1005000; do
         # A program without proof is slow.
         [ "$lines" -lt 100000 ] || [ $(($(date +%s) - begin)) -lt 2 ] || continue
         yes 'no game' | head -n "$lines" > many
         told=$(echo "$lines" | sed 's/\(.\)\(...\)$/\1,\2/; s/\(.\)\(...,\)/\1,\2/')
-        input=many
-        holds tells_of 0 "no game was accepted
-$told lines: 0 ok (0 new, 0 again), $told refused ($told shape)" \
-            "$PROGRAM" export --summary table.txt
+        holds over many 0 "no game was accepted
+$told lines: 0 ok (0 new, 0 again), $told refused ($told shape)" export --summary table.txt
     done
 }
 
 # is_proved: whether the program isn't one that says that it is unproved
 is_proved() { ! "$PROGRAM" --version | grep -q unproved; }
 
-# Games that were refused through no fault of theirs are told of, beside the answers to those who sent
-# them: a run holds a million.
+# Games that were refused through no fault of theirs are told of, beside the answers to those who
+# sent them: a run holds a million.
 lost_games() {
-    prepare
     awk -v start="$start" 'BEGIN {
         for (n = 1; n <= 1000003; n++) printf "%d\t1-0\t%s\t\n", n, start
     }' > million
-    input=million
-    holds tells_of 0 'refused as full: 3 games' "$PROGRAM" collect table.txt book.bin
-    holds tells_of 0 '' "$PROGRAM" collect -q table.txt book.bin
-    sed -i '$d' million
-    sed -i '$d' million
-    holds tells_of 0 'refused as full: 1 game' "$PROGRAM" export table.txt
+    holds over million 0 'refused as full: 3 games' collect table.txt book.bin
+    holds tells_of 0 '' collect -q table.txt book.bin
+    sed -i '1,2d' million
+    holds tells_of 0 'refused as full: 1 game' export table.txt
 }
 
 # What FILE holds is told from new games, where no new one comes too.
 terminal_again() {
-    prepare
     for option in ledger journal; do
         : > "$option"
-        holds in_terminal \
-            "'$PROGRAM' collect --$option $option table.txt book.bin < '$work/games' > replies"
-        holds grep -qxF "$summary; book.bin: 367 entries" shown
-        holds in_terminal \
-            "'$PROGRAM' collect --$option $option table.txt book.bin < '$work/games' > replies"
-        holds grep -qF 'pbook: 322 lines: 320 ok (0 new, 320 again), 2 refused' shown
+        for told in "$summary; book.bin: 367 entries" "pbook: $again; book.bin: 367 entries"; do
+            holds in_terminal \
+                "pbook collect --$option $option table.txt book.bin < '$work/games' > replies"
+            holds grep -qxF "$told" shown
+        done
     done
 }
 
 # Of 320 lines with 300 games, those are new that FILE didn't hold. Its first line is none.
 terminal_some_new() {
-    prepare
     head -n 200 "$work/games" > games
     for option in ledger journal; do
         : > "$option"
-        holds tells_of 0 '' "$PROGRAM" collect "--$option" "$option" table.txt book.bin
+        holds tells_of 0 '' collect "--$option" "$option" table.txt book.bin
         new=$((300 - $(grep '^ok' "$work/replies" | sort -u | wc -l)))
         holds in_terminal \
-            "'$PROGRAM' collect --$option $option table.txt book.bin < '$work/games' > replies"
+            "pbook collect --$option $option table.txt book.bin < '$work/games' > replies"
         holds grep -qF "pbook: 322 lines: 320 ok ($new new, $((320 - new)) again), 2 refused" shown
     done
 }
 
 # The seal of a torn line is no new game.
 terminal_torn() {
-    prepare
     for option in '' --sync; do
         { cat games && printf 'torn'; } > kept
         holds in_terminal \
-            "'$PROGRAM' collect --journal kept $option table.txt book.bin < games > replies"
+            "pbook collect --journal kept $option table.txt book.bin < games > replies"
         holds grep -qF 'pbook: 9 lines: 9 ok (0 new, 9 again), 0 refused' shown
     done
 }
 
 progress='^pbook: [0-9,]+ lines?, [0-9,]+ games?, [0-9,]+ refused'
 terminal_progress() {
-    prepare
     slowly="for n in 1 2 3 4 5 6; do sed -n \${n}p '$work/games'; sleep 1.5; done"
-    holds in_terminal "{ $slowly; } | '$PROGRAM' collect table.txt book.bin > replies"
+    holds in_terminal "{ $slowly; } | pbook collect table.txt book.bin > replies"
     slowly="for n in 1 2 3 4 5 6; do sed -n \${n}p '$work/games'; sleep 0.5; done"
     # Each second one, and the one that tells of the book.
     holds test "$(grep -E "$progress" shown | grep -vc 'making the book')" -ge 2
     holds grep -qF 'pbook: 6 lines: 6 ok (6 new' shown
     holds test "$(wc -l < replies)" -eq 6
-    holds in_terminal "{ $slowly; } | '$PROGRAM' collect -q table.txt book.bin > replies"
+    holds in_terminal "{ $slowly; } | pbook collect -q table.txt book.bin > replies"
     holds test ! -s typescript
     new=' (6 new, 0 again)'
     for command in 'export table.txt' check; do
-        holds in_terminal "{ $slowly; } | '$PROGRAM' $command > lines"
+        holds in_terminal "{ $slowly; } | pbook $command > lines"
         holds grep -Eq '^pbook: [0-9,]+ lines?' shown
         holds grep -qx "pbook: 6 lines: 6 ok$new, 0 refused" shown
         holds not grep -q ', [^0 ]* refused' shown
         ! grep -q 'making the book' shown || holds test -n "$new"
         new=
     done
-    holds in_terminal "{ $slowly; } | '$PROGRAM' export -q table.txt > lines"
+    holds in_terminal "{ $slowly; } | pbook export -q table.txt > lines"
     holds test ! -s typescript
     # A line that is refused is counted.
-    holds in_terminal "{ $slowly; echo 'no game'; } | '$PROGRAM' check > lines || true"
+    holds in_terminal "{ $slowly; echo 'no game'; } | pbook check > lines || true"
     holds grep -qx 'pbook: 7 lines: 6 ok, 1 refused (1 shape)' shown
     # To a file goes none of it.
-    holds in_terminal "{ $slowly; } | '$PROGRAM' collect table.txt book.bin > replies 2> told"
+    holds in_terminal "{ $slowly; } | pbook collect table.txt book.bin > replies 2> told"
     holds test ! -s told
     holds test ! -s typescript
 }
 
 # In a terminal that shows replies too each of them is a line of its own.
 terminal_shared() {
-    prepare
     slowly="for n in 1 2 3; do sed -n \${n}p '$work/games'; sleep 0.5; done"
-    holds in_terminal "{ $slowly; } | '$PROGRAM' collect table.txt book.bin"
+    holds in_terminal "{ $slowly; } | pbook collect table.txt book.bin"
     sed -n 1,3p "$work/games" | "$PROGRAM" collect -q table.txt book.bin > due
     grep '^ok' shown > seen
     holds cmp due seen
     holds grep -qE "$progress" shown
-    holds in_terminal "{ $slowly; } | '$PROGRAM' check"
+    holds in_terminal "{ $slowly; } | pbook check"
     holds test "$(grep -c '^ok [^ ]*$' shown)" -eq 3
 }
 
 # A line that is typed isn't written over by a count.
 terminal_typed() {
-    prepare
     { for n in 1 2 3; do sleep 0.7; sed -n "${n}p" "$work/games"; done; sleep 0.7; } |
         script -qec "'$PROGRAM' collect table.txt book.bin > replies" /dev/null > typescript
     holds grep -qF 'pbook: 3 lines: 3 ok (3 new, 0 again), 0 refused' typescript
@@ -1072,14 +915,11 @@ terminal_use() {
     holds test "$(grep -c "colect'" typescript)" -eq 1
 }
 
-if [ $# -eq 0 ]; then
-    choose true '' missing_files one_file failed_reads closed_pipe refused_tables \
-        refused_books refused_ledger \
-        refused_words wrong_use arguments_wanted words_too_many help_width asked_help begun_input \
-        no_game \
-        bad_journal_line told_at_once other_book odd_names left_out_lines no_games \
-        games_to_themselves \
-        cut_ledger cut_input no_file reasons counted
+[ $# -gt 0 ] || {
+    choose true '' missing_files one_file failed_reads closed_pipe refused_tables refused_books \
+        refused_ledger refused_words wrong_use arguments_wanted words_too_many help_width \
+        asked_help begun_input no_game bad_journal_line told_at_once other_book odd_names \
+        left_out_lines no_games games_to_themselves cut_ledger cut_input no_file reasons counted
     choose 'test -c /dev/full' '/dev/full is wanted' full_output full_book quiet_faults \
         without_errors summaries
     choose is_proved 'a program without proof is slow' lost_games
@@ -1089,8 +929,5 @@ if [ $# -eq 0 ]; then
     choose can_mount 'nothing can be mounted' full_disk
     choose 'has script' 'script is wanted' terminal terminal_again terminal_some_new \
         terminal_torn terminal_progress terminal_shared terminal_typed terminal_use
-    # shellcheck disable=SC2086 # each name is a word
-    set -- $chosen
-fi
-for name; do check "$name" in_folder "$name"; done
-finish
+}
+try_all "$@"

@@ -9,7 +9,6 @@ set -eu
 unset PROGRAM
 . tests/lib/harness.sh
 top=$PWD
-start='rnbqkbnr/pppppppp/8/8/8/8/PPPPPPPP/RNBQKBNR w KQkq - 0 1'
 mkdir "$work/cases" "$work/data"
 
 cd "$work/data"

@@ -5,11 +5,16 @@
 # BOOK. strace tells the calls. The first check that doesn't hold ends it.
 # Usage: PROGRAM=program tests/order.sh [CHECK..] (at the top of the repository; all checks where
 # none is given).
+# shellcheck disable=SC2086 # what isn't quoted is more words than one
 set -eu
 PROGRAM=${PROGRAM:-build/pbook}
 . tests/lib/harness.sh
 . tests/lib/places.sh
 . tests/lib/collector.sh
+journaled="traced calls $PROGRAM collect --journal games.journal"
+
+# prepare: a folder for BOOK, so that the syncs of the check's own one are those of the journal
+prepare() { mkdir books; }
 
 # of_journal [FILTER]: the calls that keep what is answered: those of the journal, of its folder and
 # of standard output, up to the end of the submissions
@@ -29,41 +34,38 @@ rewritten() {
         { print }'
 }
 
-# reply_of TEXT: the number of bytes of a reply
-reply_of() { echo "$1" | wc -c | tr -d ' '; }
+# reply_of NUMBER: the number of bytes of that reply
+reply_of() { echo "ok $(id_of "$1") $1" | wc -c | tr -d ' '; }
 
 # size_of FILE: how many bytes it has
 size_of() { stat -c %s "$1"; }
 
+# begun [CALL]: the calls by which a run with --sync begins, on a journal that it has to write over
+# itself by this one
+begun() {
+    printf '%s\n' 'open games.journal rw' 'flock games.journal LOCK_EX' ${1:+"$1"} \
+        'fsync games.journal' 'open . r' 'fsync .' 'read games.journal'
+}
+
+# kept NUMBER: the calls that keep a new game and answer it
+kept() {
+    printf '%s\n' "write games.journal $(bytes_of "$1")" 'fdatasync games.journal' \
+        "write replies $(reply_of "$1")"
+}
+
 # Each new game is written whole by one call, and is on the disk before its reply goes out; a game
-# that comes again is answered at once. BOOK stands in another folder, so that the syncs of this
-# one are those of the journal.
+# that comes again is answered at once.
 synced_journal() {
     : > games.journal
-    mkdir books
-    begin traced calls "$PROGRAM" collect --journal games.journal --sync "$table" books/book.bin
-    holds say 1 "ok $(id_of 1) 1"
-    holds say 2 "ok $(id_of 2) 2"
-    holds say 1 "ok $(id_of 1) 1"
-    holds say 3 "ok $(id_of 3) 3"
+    begin $journaled --sync "$table" books/book.bin
+    for number in 1 2 1 3; do holds say_ok "$number"; done
     holds end 0
     holds of_journal rewritten << END
-open games.journal rw
-flock games.journal LOCK_EX
-fsync games.journal
-open . r
-fsync .
-read games.journal
-write games.journal $(bytes_of 1)
-fdatasync games.journal
-write replies $(reply_of "ok $(id_of 1) 1")
-write games.journal $(bytes_of 2)
-fdatasync games.journal
-write replies $(reply_of "ok $(id_of 2) 2")
-write replies $(reply_of "ok $(id_of 1) 1")
-write games.journal $(bytes_of 3)
-fdatasync games.journal
-write replies $(reply_of "ok $(id_of 3) 3")
+$(begun)
+$(kept 1)
+$(kept 2)
+write replies $(reply_of 1)
+$(kept 3)
 END
     games_of 1,3 > whole
     holds cmp whole games.journal
@@ -72,17 +74,10 @@ END
 # Many games that come at once are written and synced one by one, before the first reply.
 synced_at_once() {
     : > games.journal
-    mkdir books
     games_of 1,3 > games
-    holds ran 0 traced calls \
-        "$PROGRAM" collect --journal games.journal --sync "$table" books/book.bin < games
+    holds ran 0 $journaled --sync "$table" books/book.bin < games
     holds of_journal rewritten << END
-open games.journal rw
-flock games.journal LOCK_EX
-fsync games.journal
-open . r
-fsync .
-read games.journal
+$(begun)
 write games.journal $(bytes_of 1)
 fdatasync games.journal
 write games.journal $(bytes_of 2)
@@ -96,19 +91,18 @@ END
 # Without --sync a game is written before its reply, and nothing waits for the disk until the end.
 unsynced_journal() {
     : > games.journal
-    mkdir books
-    begin traced calls "$PROGRAM" collect --journal games.journal "$table" books/book.bin
-    holds say 1 "ok $(id_of 1) 1"
-    holds say 2 "ok $(id_of 2) 2"
+    begin $journaled "$table" books/book.bin
+    holds say_ok 1
+    holds say_ok 2
     holds end 0
     holds of_journal << END
 open games.journal rw
 flock games.journal LOCK_EX
 read games.journal
 write games.journal $(bytes_of 1)
-write replies $(reply_of "ok $(id_of 1) 1")
+write replies $(reply_of 1)
 write games.journal $(bytes_of 2)
-write replies $(reply_of "ok $(id_of 2) 2")
+write replies $(reply_of 2)
 fdatasync games.journal
 END
 }
@@ -118,39 +112,31 @@ END
 # the system takes it for written.
 repeat_of_unsynced() {
     : > games.journal
-    mkdir books
     games_of 1,2 > games
     holds collects 0 "$place/books/book.bin" "$place/games" --journal games.journal
     mv games whole
-    begin traced calls "$PROGRAM" collect --journal games.journal --sync "$table" books/book.bin
-    holds say 2 "ok $(id_of 2) 2"
+    begin $journaled --sync "$table" books/book.bin
+    holds say_ok 2
     holds end 0
     holds of_journal rewritten << END
-open games.journal rw
-flock games.journal LOCK_EX
-rewrite games.journal $(size_of whole)
-fsync games.journal
-open . r
-fsync .
-read games.journal
-write replies $(reply_of "ok $(id_of 2) 2")
+$(begun "rewrite games.journal $(size_of whole)")
+write replies $(reply_of 2)
 END
     holds cmp whole games.journal
 }
 
 # Without --sync all is synced at the end.
 repeat_unsynced() {
-    mkdir books
     games_of 1,2 > games.journal
     cp games.journal whole
-    begin traced calls "$PROGRAM" collect --journal games.journal "$table" books/book.bin
-    holds say 2 "ok $(id_of 2) 2"
+    begin $journaled "$table" books/book.bin
+    holds say_ok 2
     holds end 0
     holds of_journal << END
 open games.journal rw
 flock games.journal LOCK_EX
 read games.journal
-write replies $(reply_of "ok $(id_of 2) 2")
+write replies $(reply_of 2)
 fdatasync games.journal
 END
     holds cmp whole games.journal
@@ -158,19 +144,11 @@ END
 
 # A journal of many pieces is written over itself likewise.
 long_journal() {
-    mkdir books
     for _ in 1 2 3; do cat "$work/games"; done > games.journal
     cp games.journal whole
-    holds ran 0 traced calls \
-        "$PROGRAM" collect -q --journal games.journal --sync "$table" books/book.bin < /dev/null
+    holds ran 0 $journaled -q --sync "$table" books/book.bin < /dev/null
     holds of_journal rewritten << END
-open games.journal rw
-flock games.journal LOCK_EX
-rewrite games.journal $(size_of whole)
-fsync games.journal
-open . r
-fsync .
-read games.journal
+$(begun "rewrite games.journal $(size_of whole)")
 END
     holds cmp whole games.journal
 }
@@ -180,21 +158,14 @@ torn_journal() {
     games_of 1 > games.journal
     games_of 2 | head -c 50 >> games.journal
     cp games.journal whole
-    mkdir books
-    begin traced calls "$PROGRAM" collect --journal games.journal --sync "$table" books/book.bin
-    holds say 1 "ok $(id_of 1) 1"
+    begin $journaled --sync "$table" books/book.bin
+    holds say_ok 1
     holds end 0
     holds of_journal rewritten << END
-open games.journal rw
-flock games.journal LOCK_EX
-rewrite games.journal $(size_of whole)
-fsync games.journal
-open . r
-fsync .
-read games.journal
+$(begun "rewrite games.journal $(size_of whole)")
 write games.journal 5
 fdatasync games.journal
-write replies $(reply_of "ok $(id_of 1) 1")
+write replies $(reply_of 1)
 END
     printf '\t\t\t\t\n' >> whole
     holds cmp whole games.journal
@@ -202,7 +173,7 @@ END
 
 # The journal's folder is synced where that is another one than the run's.
 journal_elsewhere() {
-    mkdir far books
+    mkdir far
     : > far/games.journal
     games_of 1 > games
     holds ran 0 traced calls \
@@ -250,8 +221,7 @@ saved_ledger() {
     holds collects 0 "$book" "$place/games" --ledger games.ledger
     chmod 640 games.ledger
     games_of 4,9 > games
-    holds ran 0 traced calls \
-        "$PROGRAM" collect --ledger games.ledger "$table" book.bin < games
+    holds ran 0 traced calls "$PROGRAM" collect --ledger games.ledger "$table" book.bin < games
     kept='^(open|flock|ftruncate|fchmod|fdatasync|rename|unlink) \S*(games\.ledger|book)\S*'
     holds in_order calls "$kept|^fsync|^read games$" << END
 open book.bin r
@@ -283,7 +253,7 @@ END
 # What a link leads to is replaced beside that file, in whose folder the draft and its new name are
 # put on the disk.
 behind_links() {
-    mkdir far books
+    mkdir far
     : > far/kept
     cp "$work/old" far/real
     ln -s far/kept link
@@ -302,14 +272,11 @@ fsync far
 END
 }
 
-if can_trace; then
-    if [ $# -eq 0 ]; then
-        set -- synced_journal synced_at_once unsynced_journal repeat_of_unsynced torn_journal \
-            repeat_unsynced long_journal journal_elsewhere new_draft draft_elsewhere \
-            saved_ledger behind_links
-    fi
-    for name; do check "$name" in_folder "$name"; done
-    finish
-else
+can_trace || {
     leave_out 'strace is wanted' 'the order of the calls'
-fi
+    exit 0
+}
+choose true '' synced_journal synced_at_once unsynced_journal repeat_of_unsynced torn_journal \
+    repeat_unsynced long_journal journal_elsewhere new_draft draft_elsewhere saved_ledger \
+    behind_links
+try_all "$@"

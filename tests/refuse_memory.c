@@ -13,11 +13,11 @@
 // The C library's own names are called (__libc_malloc and others of glibc), since a look-up of them might ask for memory.
 
 #include <errno.h>
-#include <fcntl.h>
 #include <limits.h>
 #include <stdbool.h>
 #include <stddef.h>
 #include <stdint.h>
+#include <stdio.h>
 #include <stdlib.h>
 #include <unistd.h>
 
@@ -47,28 +47,12 @@ __attribute__((constructor)) static void start(void) {
     counting = true;
 }
 
-// Puts the number's digits so that they end before `end`, and gives where they begin.
-static char *put_number(char *end, unsigned long number) {
-    do {
-        *--end = (char)('0' + number % 10);
-        number /= 10;
-    } while (number);
-    return end;
-}
-
 __attribute__((destructor)) static void tell(void) {
     counting = false;
     const char *told = getenv("REFUSE_TOLD");
     if (!told) return;
-    char line[64];
-    char *const end = line + sizeof line;
-    char *text = end;
-    *--text = '\n';
-    text = put_number(text, refusals);
-    *--text = ' ';
-    text = put_number(text, calls);
-    const int file = open(told, O_WRONLY | O_CREAT | O_TRUNC, 0644);
-    if (file < 0 || write(file, text, (size_t)(end - text)) != end - text || close(file)) _exit(99);
+    FILE *file = fopen(told, "w");
+    if (!file || fprintf(file, "%lu %lu\n", calls, refusals) < 0 || fclose(file)) _exit(99);
 }
 
 // Counts a call, and says whether it is refused.

@@ -10,26 +10,22 @@ top=$PWD
 theorem() {
     (cd "$work" && PATH=/usr/bin:/bin python3 -B "$top/scripts/theorem.py" "$@")
 }
-no_rt_there() { ! env PATH=/usr/bin:/bin sh -c 'command -v rt' > /dev/null; }
 
-# put FILE: writes a file of the made-up repository from standard input
-put() {
-    mkdir -p "$(dirname "$work/$1")"
-    cat > "$work/$1"
+# prints OPTION..: whether the script prints the lines of standard input
+prints() {
+    cat > "$work/due"
+    theorem "$@" > "$work/printed"
+    same_lines "$work/due" "$work/printed"
 }
 
-put crates.txt << 'END'
+put_all << 'END'
+==== crates.txt
 # Each crate, and what it stands on.
 lower: thiserror
 upper: lower
 aside: pb_commands
 pb_commands:
-program: upper
-library_uses: lower
-END
-
-# 10 tokens on 3 lines, 14 on 2, 25 on 4, 31 on 4, 9 on 2, 5 on 2, 5 on 2 and 7 on 2
-put crates/lower/specs/Parts.antt << 'END'
+==== crates/lower/specs/Parts.antt tokens/lines: 10/3, 14/2, 25/4, 31/4, 9/2, 5/2, 5/2 and 7/2
 -- Pairs of numbers.
 -- Everything stands on them.
 use Rattle.std.specs.Prelude.{◌≡◌, ℕ, ◌+◌, ◌*◌}
@@ -75,24 +71,15 @@ hidden = 4
 
 abbrev pub unused : ℕ
 unused = 5 * 1
-END
-
-put crates/lower/specs/Lib.antt << 'END'
+==== crates/lower/specs/Lib.antt
 pub mod Parts
-END
-
-put crates/upper/specs/Lib.antt << 'END'
+==== crates/upper/specs/Lib.antt
 pub mod Passed
 pub mod Top
 pub use Rattle.aside.specs.Extra
-END
-
-put crates/upper/specs/Passed.antt << 'END'
+==== crates/upper/specs/Passed.antt
 pub use Rattle.lower.specs.Parts.{Kept, swapped as turned_round}
-END
-
-# 29 tokens on 3 lines
-put crates/upper/specs/Top.antt << 'END'
+==== crates/upper/specs/Top.antt 29 tokens on 3 lines
 -- What is promised.
 use Rattle.std.specs.Prelude.{◌≡◌, ◌+◌}
 use Rattle.lower.specs.Parts.{Pair, same}
@@ -106,20 +93,14 @@ use Rattle.upper.specs.Extra.{nothing}
 abbrev pub Promise : Colour → Type 0
 Promise side.Red = (p : Pair) × (turned_round p ≡ p)
 Promise side.Blue = same nothing shade.Dark
-END
-
-# 10 tokens on 2 lines
-put crates/aside/specs/Extra.antt << 'END'
+==== crates/aside/specs/Extra.antt 10 tokens on 2 lines
 use Rattle.std.specs.Prelude.{ℕ}
 use Rattle.std.specs.List as list
 use Rattle.pb_commands.specs.Headline as theorem
 
 abbrev pub nothing : ℕ
 nothing = list.sum theorem.headline
-END
-
-# 7 tokens on 2 lines, and 5 on 2. The order names this file.
-put crates/pb_commands/specs/Headline.antt << 'END'
+==== crates/pb_commands/specs/Headline.antt 7 tokens on 2 lines, 5 on 2; the order names it
 use Rattle.std.specs.Prelude.{ℕ, List, [], ◌∷◌}
 
 abbrev pub headline : List ℕ
@@ -127,10 +108,7 @@ headline = 0 ∷ []
 
 abbrev pub HasHeadline : ℕ
 HasHeadline = headline
-END
-
-# What the law says. 5 tokens on 2 lines, and 7 on 2.
-put crates/pb_commands/specs/Sentence.antt << 'END'
+==== crates/pb_commands/specs/Sentence.antt what the law says: 5 tokens on 2 lines, and 7 on 2
 use Rattle.std.specs.Prelude.{ℕ}
 use Rattle.pb_commands.specs.Headline.{headline}
 
@@ -139,26 +117,20 @@ least = 0
 
 abbrev pub Sentence : ℕ
 Sentence = headline + least
-END
-
-put crates/pb_commands/src/run_laws.rt << 'END'
+==== crates/pb_commands/src/run_laws.rt
 ghost use Rattle.pb_commands.specs.Sentence.{Sentence};
 
 /// Sums up.
 pub fn sentence()
     ensures { Sentence ≡ Sentence }
 {}
-END
-
-put crates/upper/src/shade.rt << 'END'
+==== crates/upper/src/shade.rt
 /// A shade.
 pub enum Shade {
     /// As at night.
     Dark,
 }
-END
-
-put crates/upper/src/colour.rt << 'END'
+==== crates/upper/src/colour.rt
 //! Colours.
 
 use crate::tone::Tone;
@@ -182,10 +154,7 @@ impl Colour {
         0
     }
 }
-END
-
-# The contracts of both `double` and of `public`, up to a brace, and the models
-put crates/upper/src/tone.rt << 'END'
+==== crates/upper/src/tone.rt
 //! Tones.
 
 ghost use Rattle.std.specs.Prelude.{◌≡◌};
@@ -198,8 +167,6 @@ pub struct Tone {
 
 impl Model for Tone {
     ghost Value = { Pair };
-
-    ghost invariant = { unused };
 }
 
 impl Model for Doubled {
@@ -235,17 +202,12 @@ pub fn empty()
     ensures { plain ≡ plain }
 {}
 
-const FIVE: u32 = unused;
-
 pub(crate) fn inner() -> u32
     ensures { result ≡ unused }
 {
     0
 }
-END
-
-# The call that the program makes
-put crates/pb_program/src/ordered.rt << 'END'
+==== crates/pb_program/src/ordered.rt the call that the program makes
 ghost use Rattle.upper.specs.Top.{Promise};
 
 fn other()
@@ -260,19 +222,7 @@ pub(crate) fn collect() -> Colour
     Colour::Red
 }
 END
-
-for crate in program library_uses; do
-    put "crates/$crate/src/lib.rt" << 'END'
-ghost use Rattle.lower.specs.Parts.{unused};
-
-pub fn used() -> u32
-    ensures { result ≡ unused }
-{
-    5
-}
-END
-done
-put crates/library_uses/specs/Lib.antt < /dev/null
+mkdir "$work/docs"
 
 # counts: what a definition rests on is counted, by its own name, by a case and by what is passed on
 counts() {
@@ -284,18 +234,18 @@ counts() {
         '2 definitions, 7 lines, 35 tokens, 1 files'
     holds test "$(theorem --count --of lower.Parts.unused)" = \
         '1 definitions, 2 lines, 7 tokens, 1 files'
+    holds test "$(theorem --count --of lower.Parts.twice)" = \
+        '1 definitions, 2 lines, 9 tokens, 1 files'
 }
 
 # laws: the theorem comes with its call and its laws, and what these rest on besides stands
 # behind them
 laws() {
-    theorem --count > "$work/printed"
-    cat > "$work/due" << 'END'
+    holds prints --count << 'END'
 2 definitions, 4 lines, 12 tokens, 1 files
 with its laws: 4 definitions, 8 lines, 24 tokens, 2 files
 the program's call, however it ends: 7 definitions, 20 lines, 126 tokens, 4 files
 END
-    holds diff "$work/due" "$work/printed"
     theorem | grep '^====\|^abbrev\|^///\|^    ensures' | head -n 14 > "$work/printed"
     cat > "$work/due" << 'END'
 ==== The program's call: crates/pb_program/src/ordered.rt
@@ -316,23 +266,10 @@ END
     holds diff "$work/due" "$work/printed"
 }
 
-# contracts: public contracts and models are counted, and no body, invariant or other function
-contracts() {
-    theorem --contracts > "$work/printed"
-    cat > "$work/due" << 'END'
-crates/pb_commands/specs/Headline.antt: 1 definitions, 2 lines, 7 tokens
-crates/lower/specs/Parts.antt: 4 definitions, 9 lines, 29 tokens
-crates/pb_commands/specs/Sentence.antt: 2 definitions, 4 lines, 12 tokens
-7 definitions, 15 lines, 48 tokens, 3 files
-END
-    holds diff "$work/due" "$work/printed"
-}
-
 # listed: each public call comes with the first sentence of its comment, its clauses and what they
 # cite
 listed() {
-    theorem --index upper > "$work/printed"
-    cat > "$work/due" << 'END'
+    holds prints --index upper << 'END'
 ==== upper
 
 tone::double: (no comment)
@@ -349,81 +286,27 @@ tone::empty: (no comment)
     by plain (lower.Parts)
 
 END
-    holds diff "$work/due" "$work/printed"
-    theorem --index > "$work/printed"
-    holds test "$(head -n 1 "$work/printed")" = '==== pb_commands'
+    holds test "$(theorem --index | head -n 1)" = '==== pb_commands'
+}
+
+# stands FILE LINES..: what is printed of a file: its name, and these of its lines, as sed has them
+stands() {
+    printf '==== %s\n\n' "$1"
+    file=$work/$1
+    shift
+    for lines; do sed -n "${lines}p" "$file" | grep -v '#\[' && echo; done
 }
 
 # printed: the definitions come as they stand, by their files, then types and words
 printed() {
-    theorem --of upper.Top.Promise > "$work/printed"
-    cat > "$work/due" << 'END'
-==== crates/upper/specs/Top.antt
-
--- What is promised.
-
--- the promise of a colour
-abbrev pub Promise : Colour → Type 0
-Promise side.Red = (p : Pair) × (turned_round p ≡ p)
-Promise side.Blue = same nothing shade.Dark
-
-==== crates/pb_commands/specs/Headline.antt
-
-abbrev pub headline : List ℕ
-headline = 0 ∷ []
-
-==== crates/lower/specs/Parts.antt
-
--- Pairs of numbers.
--- Everything stands on them.
-
--- two numbers
-pub record Pair : Type 0 where
-  -- the first
-  pub left : ℕ
-  pub right : ℕ -- and the second
-
--- ---- what is made of them
-
--- their sum, (of both)
-abbrev pub sum : Pair → ℕ
-sum p = p.left + p.right
-
-unfoldable pub swapped : Pair → Pair
-swapped p = (λ q _. q) (record {
-  left = p.right;
-  right = p.left;
-}) unused
-
--- kept, or swapped
-pub data Kept (p : Pair) : Type 0 where
-  same : sum p ≡ 0 → Kept p
-  turned : (q : Pair) → p ≡ swapped q
-      → Kept p
-
-==== crates/aside/specs/Extra.antt
-
-abbrev pub nothing : ℕ
-nothing = list.sum theorem.headline
-
-==== crates/upper/src/colour.rt
-
-/// A colour.
-pub enum Colour {
-    /// Like blood.
-    Red,
-    /// Like the sky, in a tone (Doubled).
-    Blue(Tone),
-}
-
-==== crates/upper/src/shade.rt
-
-/// A shade.
-pub enum Shade {
-    /// As at night.
-    Dark,
-}
-
+    {
+        stands crates/upper/specs/Top.antt 1 '/^-- the promise/,$'
+        stands crates/pb_commands/specs/Headline.antt 3,4
+        stands crates/lower/specs/Parts.antt 1,2 '/^-- two/,/^      →/'
+        stands crates/aside/specs/Extra.antt '/^abbrev/,$'
+        stands crates/upper/src/colour.rt '/^\/\/\/ A colour/,/^}/'
+        stands crates/upper/src/shade.rt '1,$'
+        cat << 'END'
 ==== What definitions see in the place of types of fields
 
 Tone (crates/upper/src/tone.rt): Pair
@@ -440,20 +323,12 @@ Rattle.std.specs.Prelude
 
 7 definitions, 20 lines, 126 tokens, 4 files
 END
-    holds diff "$work/due" "$work/printed"
+    } > "$work/stands"
+    holds prints --of upper.Top.Promise < "$work/stands"
+    stands crates/lower/specs/Parts.antt 1,2 '/^-- ---- what else/' '/^plain/' |
+        sed '$d' > "$work/stands"
     theorem --of lower.Parts.plain | sed '/^plain = /q' > "$work/printed"
-    cat > "$work/due" << 'END'
-==== crates/lower/specs/Parts.antt
-
--- Pairs of numbers.
--- Everything stands on them.
-
--- ---- what else there is
-
-plain : ℕ
-plain = 3
-END
-    holds diff "$work/due" "$work/printed"
+    holds same_lines "$work/stands" "$work/printed"
 }
 
 # refuses MESSAGE OPTION..: whether the script ends with status 1, and says this alone
@@ -466,15 +341,16 @@ refuses() {
 
 # told: a document that tells another count is refused, and so is an order of other files
 told() {
-    echo 'It has the definitions: 7, on 19 lines.' | put docs/THEOREM.md
+    echo 'It has the definitions: 7, on 19 lines.' > "$work/docs/THEOREM.md"
     holds refuses "docs/THEOREM.md: it has to say 'the definitions: 7, on 20 lines'" \
         --check --of upper.Top.Promise
-    echo 'It has the definitions: 7, on 20 lines.' | put docs/THEOREM.md
+    echo 'It has the definitions: 7, on 20 lines.' > "$work/docs/THEOREM.md"
     holds ends 1 theorem --check --of upper.Top.Promise 2> "$work/errors"
     holds grep -q '^scripts/theorem.py: the order names .* for nothing$' "$work/errors"
-    echo 'It has the definitions: 2, on 4 lines; with its laws: 4, on 7 lines.' | put docs/THEOREM.md
+    it='It has the definitions: 2, on 4 lines; with its laws: 4'
+    echo "$it, on 7 lines." > "$work/docs/THEOREM.md"
     holds refuses "docs/THEOREM.md: it has to say 'with its laws: 4, on 8 lines'" --check
-    echo 'It has the definitions: 2, on 4 lines; with its laws: 4, on 8 lines.' | put docs/THEOREM.md
+    echo "$it, on 8 lines." > "$work/docs/THEOREM.md"
     holds refuses "docs/THEOREM.md: it has to say 'however it ends: 7, on 20 lines'" --check
 }
 
@@ -487,7 +363,6 @@ unknown() {
 
 check 'what a definition rests on is counted' counts
 check 'the theorem comes with its laws' laws
-check 'what public contracts rest on is counted' contracts
 check 'public calls are listed with their contracts' listed
 if no_rt_there; then
     check 'it is printed as it stands' printed

@@ -30,20 +30,6 @@ def imports(source):
     return found
 
 
-def contract_words(source):
-    """The words of the contracts of public functions and of members of traits, and of what models
-    of types show. It reads lines and no grammar: a contract up to its first line that ends with a
-    brace or a semicolon, of a model the first line, and in a file with a trait each method."""
-    begins = r"\s*pub fn \w|    fn \w" if "trait " in source else r"\s*pub fn \w"
-    words, is_inside = set(), False
-    for line in source.split("\n"):
-        is_inside = is_inside or bool(re.match(begins, line))
-        if is_inside or re.match(r"\s*(pub )?ghost (Value|view|state|content)\b", line):
-            words.update(TOKEN.findall(line))
-        is_inside = is_inside and not re.search(r"^\s*\{|[;{]$", line)
-    return words
-
-
 @dataclasses.dataclass(frozen=True)
 class Call:
     """A function: its name, whether it is public, as a member of a trait is, the first sentence of
@@ -172,15 +158,6 @@ class Specs:
                 seen.add(own)
                 left += self.cited(own)
         return [it for it in self.definitions.values() if it in seen]
-
-    def of_contracts(self):
-        """The definitions that public contracts name. Crates without specs/ have none, nor has
-        library_uses, which serves tests."""
-        for path in sorted(self.crates.glob("*/src/*.rt")):
-            if (path.parents[1] / "specs").is_dir() and path.parts[-3] != "library_uses":
-                source = path.read_text(encoding="utf-8")
-                known = imports(source)
-                yield from (self.find_import(known.get(it)) for it in contract_words(source))
 
     def imported(self, found):
         """The imports whose names stand in these definitions, each once."""

@@ -103,18 +103,14 @@ def with_kings(chance: random.Random) -> dict[int, Piece]:
     return board
 
 
-def few_pieces(chance: random.Random) -> Position:
-    board = with_kings(chance)
-    for _ in range(chance.randrange(1, 9)):
-        put(chance, board, any_piece(chance))
-    return finished(chance, board)
-
-
-def many_pieces(chance: random.Random) -> Position:
-    board = with_kings(chance)
-    for _ in range(chance.randrange(10, 50)):
-        put(chance, board, any_piece(chance))
-    return finished(chance, board)
+def pieces(least: int, most: int) -> Callable[[random.Random], Position]:
+    """Makes setups of kings and so many other pieces."""
+    def make(chance: random.Random) -> Position:
+        board = with_kings(chance)
+        for _ in range(chance.randint(least, most)):
+            put(chance, board, any_piece(chance))
+        return finished(chance, board)
+    return make
 
 
 def many_promoted(chance: random.Random) -> Position:
@@ -178,7 +174,7 @@ def spoiled(chance: random.Random, s: Position) -> Position:
 
 
 # How many are made of each.
-STRANGE = ((few_pieces, 100), (many_pieces, 100), (many_promoted, 100), (before_castling, 300),
+STRANGE = ((pieces(1, 8), 100), (pieces(10, 49), 100), (many_promoted, 100), (before_castling, 300),
            (before_en_passant, 200))
 
 

@@ -43,6 +43,12 @@ events() {
             split(text, part, "\"")
             return name_of(part[at * 2])
         }
+        # The last argument of a call.
+        function last_of(given) {
+            sub(/\) = .*/, "", given)
+            sub(/.*, /, "", given)
+            return given
+        }
         {
             done = $0
             sub(/\(.*/, "", done)
@@ -57,17 +63,13 @@ events() {
             }
             if (came + 0 < 0) next
             if (done == "openat") {
-                how = given ~ /O_CREAT/ ? "new" : given ~ /O_RDWR/ ? "rw" : given ~ /O_WRONLY/ ? "w" : "r"
+                how = given ~ /O_RDWR/ ? "rw" : given ~ /O_WRONLY/ ? "w" : "r"
+                if (given ~ /O_CREAT/) how = "new"
                 if (given ~ /O_TRUNC/) how = how " emptied"
-                if (how == "new") { mode = given; sub(/\) = .*/, "", mode); sub(/.*, /, "", mode); how = how " " mode }
+                if (how == "new") how = how " " last_of(given)
                 print "open", opened(came), how
             }
-            if (done == "fchmod") {
-                mode = given
-                sub(/\) = .*/, "", mode)
-                sub(/.*, /, "", mode)
-                print "fchmod", opened(given), mode
-            }
+            if (done == "fchmod") print "fchmod", opened(given), last_of(given)
             if (done ~ /^p?writev?(64)?$/) print "write", opened(given), came + 0
             if (done == "read") print "read", opened(given)
             if (done ~ /^(fsync|fdatasync|ftruncate)$/) print done, opened(given)
@@ -96,10 +98,7 @@ joined() {
 in_order() {
     cat > due
     events "$1" | joined | ${3:-cat} | grep -E "$2" > seen || true
-    if cmp -s due seen; then return; fi
-    echo '    what is due (<), and what was seen (>):'
-    diff due seen | sed 's/^/    /'
-    return 1
+    same_lines due seen
 }
 
 # begin COMMAND..: starts a collector with these words in the background, to which `say` sends
@@ -158,6 +157,9 @@ say() {
     echo "    the reply to game $1 is: $reply"
     return 1
 }
+
+# say_ok NUMBER: so it is for the game of this number, which is its number in the reply too
+say_ok() { say "$1" "ok $(id_of "$1") $1"; }
 
 # end STATUS: ends the submissions, and whether the collector then ends with this status; the other
 # lines of its output are in `rest`

@@ -12,6 +12,8 @@ work=$(cd "$(mktemp -d)" && pwd -P)
 chmod 755 "$work"
 held=0
 untried=0
+# shellcheck disable=SC2034 # many scripts begin games there
+start='rnbqkbnr/pppppppp/8/8/8/8/PPPPPPPP/RNBQKBNR w KQkq - 0 1'
 # Seconds after which a check fails that still waits for something. It is no measure of anything:
 # a program with a check in the place of each proof is slow, and so is a busy machine.
 patience=${PATIENCE:-300}
@@ -54,6 +56,21 @@ check() {
     echo "ok: $name$(sed 's/^/: /' "$work/note")"
 }
 
+# put_all: writes the files of standard input below $work, each behind a line `==== FILE` with its
+# name, and perhaps a note
+put_all() {
+    awk -v top="$work/" '
+        $1 == "====" {
+            file = top $2
+            folder = file
+            sub(/[^\/]*$/, "", folder)
+            system("mkdir -p " folder)
+            printf "" > file
+            next
+        }
+        { print > file }'
+}
+
 # note TEXT: what the line of the running check tells beside its name
 note() { echo "$1" > "$work/note"; }
 
@@ -67,6 +84,10 @@ holds() {
 # not CONDITION..: whether this command fails
 not() { if "$@"; then return 1; fi; }
 
+has() { command -v "$1" > /dev/null; }
+# Without what is in /usr/bin there is no toolchain.
+no_rt_there() { ! env PATH=/usr/bin:/bin sh -c 'command -v rt' > /dev/null; }
+
 # awaits CONDITION..: whether this comes true
 awaits() {
     late=$(($(date +%s) + patience))
@@ -74,6 +95,14 @@ awaits() {
         [ "$(date +%s)" -lt "$late" ] || return 1
         sleep 0.01
     done
+}
+
+# same_lines DUE FOUND: whether two files are the same; it shows the lines in which they differ
+same_lines() {
+    if cmp -s "$1" "$2"; then return; fi
+    echo '    what is due (<), and what was found (>):'
+    diff "$1" "$2" | sed 's/^/    /'
+    return 1
 }
 
 # ends STATUS COMMAND..: whether this command ends with this status. It runs in a subshell.

@@ -9,6 +9,9 @@ cp examples/book.bin "$work/new"
 head -c 1600 "$work/new" > "$work/old"
 table=$work/table
 
+# prepare: puts into the folder of a check what each check of a script finds there
+prepare() { :; }
+
 # in_folder CHECK: runs a check in a new folder of its own, $place, in which BOOK, FILE and the
 # journal have these names
 in_folder() {
@@ -17,11 +20,11 @@ in_folder() {
     book=$place/book.bin ledger=$place/games.ledger journal=$place/games.journal
     mkdir "$place"
     cd "$place" || return
+    prepare
     "$1"
 }
 
 is_root() { [ "$(id -u)" -eq 0 ]; }
-has() { command -v "$1" > /dev/null; }
 
 # as_other COMMAND..: runs the command as a user who isn't root
 as_other() {
@@ -88,6 +91,9 @@ stops_unread() {
 # failing PATH CALLS ERROR: runs fail so in these calls of the system over this file
 failing() { runner="strace -f -o /dev/null -P $1 -e trace=$2 -e inject=$2:error=$3"; }
 
+# to_full COMMAND..: runs the command, whose output goes to a full device
+to_full() { "$@" > /dev/full; }
+
 # with_old: BOOK is an old one before the run
 with_old() { cp "$work/old" "$book"; }
 
@@ -122,4 +128,12 @@ choose() {
     condition=$1 why=$2
     shift 2
     if $condition; then chosen="$chosen $*"; else leave_out "$why" "$@"; fi
+}
+
+# try_all CHECK..: tries these checks, or where none is given those that were chosen
+try_all() {
+    # shellcheck disable=SC2086 # each name is a word
+    [ $# -gt 0 ] || set -- $chosen
+    for name; do check "$name" in_folder "$name"; done
+    finish
 }

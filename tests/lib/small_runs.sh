@@ -1,12 +1,11 @@
 # shellcheck shell=sh
 # Shared by the scripts that try small runs of `pbook` under a shim: the runs, their inputs and
 # the folders that they find. It is read by `.` after tests/lib/shim.sh.
-: "${work:?tests/lib/harness.sh is read first}"
+: "${work:?tests/lib/harness.sh is read first}" "${start:?}"
 
 cp examples/table.txt "$work/table"
 cp examples/lines.epd "$work/epd"
 cp examples/book.bin "$work/book"
-start='rnbqkbnr/pppppppp/8/8/8/8/PPPPPPPP/RNBQKBNR w KQkq - 0 1'
 
 # The submissions: two of the first games come again, one of them with a CR; then one is illegal,
 # twice; one has the id of another game, whose own line comes after it again; others are refused
