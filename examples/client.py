@@ -28,8 +28,8 @@ import sys
 import threading
 
 
-# How a line begins that refuses the table. No game has such an answer, whatever its id is.
-REFUSED_TABLE = (["table", "long"], ["table", "line"], ["table", "count"])
+# How a line goes on that refuses a file. No game has such an answer, whatever its id is.
+REFUSED_FILE = (["table", "long"], ["table", "line"], ["table", "count"], ["journal", "line"])
 
 
 class Ended(Exception):
@@ -61,7 +61,7 @@ class Collector:
             except BrokenPipeError:
                 pass  # What the child has put before it ended is read all the same.
             answer = self.child.stdout.readline().decode().split()
-        if answer[:1] not in (["ok"], ["refused"]) or answer[1:3] in REFUSED_TABLE:
+        if answer[:1] not in (["ok"], ["refused"]) or answer[1:3] in REFUSED_FILE:
             raise Ended(self.child.wait())
         return answer
 
@@ -103,7 +103,11 @@ def main():
         with Collector(table, book, journal, program=os.environ.get("PBOOK", "pbook")) as collector:
             for lines in files:
                 for line in lines:
-                    print(*collector.submit(line.removesuffix("\n")), flush=True)
+                    if line.endswith("\n"):
+                        print(*collector.submit(line[:-1]), flush=True)
+                    else:  # It may be a cut game, whose id would be taken for ever.
+                        text = f"client.py: {lines.name}: its last line has no end; it is left out"
+                        print(text, file=sys.stderr)
     except Ended as ended:
         # A signal as the shell tells it.
         sys.exit(ended.status if ended.status >= 0 else 128 - ended.status)

@@ -13,7 +13,7 @@ room=$(mktemp -d)
 trap 'rm -rf "$room"' EXIT
 trap 'exit 1' HUP INT TERM
 
-tell() { echo "pgn_to_lines.sh: $1" >&2; }
+tell() { printf 'pgn_to_lines.sh: %s\n' "$1" >&2; }
 give_up() { tell "$1"; exit 1; }
 
 # unpacker FILE: the program that prints what a file of this name has
@@ -57,7 +57,9 @@ convert() {
 name=$1
 shift
 case $name in
-    '' | *[!!-~]*) give_up "a name is of ASCII characters without spaces: '$name'" ;;
+    '' | *[!!-~]* | *\\*)
+        give_up "a name is of ASCII characters without spaces and backslashes: '$name'"
+        ;;
 esac
 # An id has at most 64 bytes. Ten are left for its number.
 [ "${#name}" -le 53 ] || give_up "a name has at most 53 bytes: $name"

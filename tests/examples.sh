@@ -113,8 +113,9 @@ no_pgn() {
     done
     # Ids have no spaces, and room for their numbers.
     long=$(printf '%054d' 0)
-    for name in '' 'my worker' "$(printf 'caf\303\251')"; do
-        holds tells_of 1 "pgn_to_lines.sh: a name is of ASCII characters without spaces: '$name'" \
+    for name in '' 'my worker' 'LAB\new' "$(printf 'caf\303\251')"; do
+        said="a name is of ASCII characters without spaces and backslashes: '$name'"
+        holds tells_of 1 "pgn_to_lines.sh: $said" \
             "$shared/pgn_to_lines.sh" "$name" "$shared/games.pgn"
     done
     holds tells_of 1 "pgn_to_lines.sh: a name has at most 53 bytes: $long" \
@@ -220,8 +221,14 @@ client_faults() {
     asked=long
     client 1 'pbook: long: it is longer than a table' "$work/games"
     holds test ! -s printed
-    # All games are answered, and there is no book.
+    # Nor is a journal that is none the answer to a game.
     asked=$table
+    cp "$table" "$journal"
+    client 1 "pbook: $journal: line 1 isn't a game that can be taken; it looks like a table" \
+        "$work/games"
+    holds test ! -s printed
+    : > "$journal"
+    # All games are answered, and there is no book.
     book=$place/no/book.bin
     head -n 9 "$work/games" > games
     client 3 "pbook: $book: no such file or directory" games
@@ -302,6 +309,10 @@ with collector() as it:
     : > "$journal"
     client 0 '' bytes
     holds test "$(cat printed)" = "$(printf 'refused - id\nrefused - shape\nok w1 1')"
+    # What stands behind the last one may be a cut game.
+    printf 'w2\t1-0\t%s\te2e4 e7' "$start" >> bytes
+    client 0 'client.py: bytes: its last line has no end; it is left out' bytes
+    holds test "$(wc -l < printed)" -eq 3
 }
 
 # Each thread gets the answers to its own lines.
@@ -394,6 +405,9 @@ cut_night() {
     head -c -20 whole > srv/tonight.txt
     night 0 'nightly: tonight.txt has a last line without an end, which is left out'
     holds test "$(wc -l < srv/replies)" -eq 8
+    # A power cut leaves zeros.
+    { head -n 8 whole && printf 'w9\0'; } > srv/tonight.txt
+    night 0 'nightly: tonight.txt has a last line without an end, which is left out'
     cp whole srv/tonight.txt
     night 0 ''
     holds test "$(count '^ok' srv/replies)" -eq 9
@@ -414,7 +428,7 @@ stopped_night() {
 
 bad_nights() {
     begin_nights
-    night 1 "nightly: there is no $place/srv/tonight.txt"
+    night 1 "nightly: $place/srv/tonight.txt can't be read"
     cp "$work/games" srv/tonight.txt
     night 0 ''
     cp srv/replies before
