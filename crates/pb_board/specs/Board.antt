@@ -45,7 +45,7 @@ abbrev pub IsForward : Colour → ℕ → ℕ → ℕ → Type 0
 IsForward White n a b = rank b ≡ rank a + n
 IsForward Black n a b = rank a ≡ rank b + n
 
--- this piece stands there
+-- whether what stands there is this piece
 abbrev pub is_piece : Piece → Place → Bool
 is_piece piece None = false
 is_piece piece (Some p) = piece_number p == piece_number piece

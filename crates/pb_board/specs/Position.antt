@@ -9,7 +9,8 @@ use Rattle.pb_board.specs.declared.piece.Kind.TheVariants.{King, Pawn}
 use Rattle.pb_board.specs.Piece.{opponent, piece_of}
 use Rattle.pb_board.specs.Board.{Board, rank, rank_for, Holds, IsEmpty}
 
--- a board, a side to move, the castling rights and the en passant square
+-- a board, a side to move, the castling rights and the en passant square: a setup, if it keeps the
+-- rules of `IsSetup`
 pub record Position : Type 0 where
   pub board : Board
   pub turn : Colour
@@ -23,7 +24,7 @@ position_of board turn rights ep = record { board = board; turn = turn; rights =
 abbrev pub IsOnlyKing : Board → Colour → ℕ → Type 0
 IsOnlyKing board side king = (q : ℕ) → Holds board q (piece_of side King) ↔ (q ≡ king)
 
--- each side has one king
+-- each side has exactly one king
 abbrev pub HasKings : Board → Type 0
 HasKings board = (side : Colour) → (king : ℕ) × IsOnlyKing board side king
 
@@ -32,7 +33,8 @@ abbrev pub HasNoEdgePawn : Board → Type 0
 HasNoEdgePawn board = (q : ℕ) (side : Colour) → Holds board q (piece_of side Pawn)
     → (0 < rank q) × (rank q < 7)
 
--- the square directly beyond an en passant square, where the pawn stands that made the double step
+-- the square directly beyond an en passant square, one rank nearer to this side, which is to move:
+-- the pawn stands there that made the double step
 abbrev pub beyond : Colour → ℕ → ℕ
 beyond White q = q - 8
 beyond Black q = q + 8
@@ -65,7 +67,7 @@ pub record Record : Type 0 where
 abbrev pub record_of : Position → ℕ → ℕ → Record
 record_of setup half full = record { setup = setup; half = half; full = full }
 
--- the rules that every record meets: the clocks fit in 16 bits
+-- the rules that every record meets: a setup, clocks that fit in 16 bits, and moves counted from 1
 pub record IsRecord (f : Record) : Type 0 where
   pub setup : IsSetup f.setup
   pub half : f.half < 2 ^ 16

@@ -19,7 +19,8 @@ abbrev pub IsFirstOf : {E : Type 0} → List E → (E → Type 0) → E → Type
 IsFirstOf {E} errors due e = (before : List E) × (after : List E)
     × (errors ≡ before ++ e ∷ after) × due e × All (λ d. ¬ due d) before
 
--- the list keeps the rule up to its n-th, counted from 1, and not with it
+-- the list keeps the rule up to its n-th, counted from 1, and not with it; there is at most one
+-- such n, if each front of a list that keeps the rule keeps it too
 abbrev pub BreaksAt : {A : Type 0} → (List A → Type 0) → List A → ℕ → Type 0
 BreaksAt rule xs n = rule (take (n - 1) xs) × ¬ rule (take n xs)
 

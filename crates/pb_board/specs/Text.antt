@@ -16,11 +16,11 @@ use Rattle.pb_board.specs.Rights.{of_rights, only_if}
 abbrev pub piece_letter : Piece → ℕ
 piece_letter p = slice_index (codes "pPnNbBrRqQkK") (piece_number p)
 
--- the digit of so many empty squares
+-- the digit of so many empty squares, and nothing where there is none
 abbrev pub empty_squares : ℕ → List ℕ
 empty_squares n = only_if (not (n == 0)) (48 + n)
 
--- squares in a row, from file a on, after n empty ones
+-- the text of the squares that are left of a rank, where n empty ones stand right before them
 abbrev pub rank_text : ℕ → List Place → List ℕ
 rank_text n [] = empty_squares n
 rank_text n (None ∷ squares) = rank_text (n + 1) squares

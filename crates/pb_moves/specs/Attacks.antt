@@ -8,13 +8,14 @@ use Rattle.pb_board.specs.Piece.{opponent, piece_of}
 use Rattle.pb_board.specs.Board.{Board, file, rank, Holds, IsEmpty, IsForward}
 use Rattle.pb_board.specs.Position.{Position}
 
+-- how many files are from one square to the other, and how many ranks
 abbrev pub files_apart : ℕ → ℕ → ℕ
 files_apart a b = abs_diff (file a) (file b)
 
 abbrev pub ranks_apart : ℕ → ℕ → ℕ
 ranks_apart a b = abs_diff (rank a) (rank b)
 
--- by so many files and ranks a piece of this kind attacks
+-- a piece of this kind may attack what is so many files and so many ranks away
 abbrev pub Pattern : Kind → ℕ → ℕ → Type 0
 Pattern Pawn files ranks = (files ≡ 1) × (ranks ≡ 1)
 Pattern Knight files ranks = files * ranks ≡ 2
@@ -30,11 +31,11 @@ IsBetween a q b = (q ≢ a) × (q ≢ b)
     × (ranks_apart a q + ranks_apart q b ≡ ranks_apart a b)
     × (files_apart a q * ranks_apart a b ≡ ranks_apart a q * files_apart a b)
 
--- each square between is empty, of which there are none for a pawn, a knight or a king
+-- each square between is empty; where a pawn, a knight or a king attacks there is none between
 abbrev pub Clear : Board → ℕ → ℕ → Type 0
 Clear board a b = (q : ℕ) → q < 64 → IsBetween a q b → IsEmpty board q
 
--- a piece of this side and kind on a attacks b
+-- from square a a piece of this side and kind attacks square b, whatever stands on the two
 abbrev pub Attacks : Colour → Kind → Board → ℕ → ℕ → Type 0
 Attacks side kind board a b = Pattern kind (files_apart a b) (ranks_apart a b)
     × (kind ≡ Pawn → IsForward side 1 a b) × Clear board a b
@@ -44,7 +45,7 @@ abbrev pub IsAttacked : Board → Colour → ℕ → Type 0
 IsAttacked board side square =
     (a : ℕ) × (kind : Kind) × Holds board a (piece_of side kind) × Attacks side kind board a square
 
--- some enemy piece attacks the king's square
+-- some enemy piece attacks the square of this side's king
 abbrev pub InCheck : Board → Colour → Type 0
 InCheck board side =
     (king : ℕ) × Holds board king (piece_of side King) × IsAttacked board (opponent side) king

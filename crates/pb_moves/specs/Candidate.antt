@@ -42,7 +42,8 @@ abbrev pub target_row : Kind → Colour → ℕ
 target_row Pawn Black = 6
 target_row kind side = kind_number kind
 
--- the piece may go from a to b on some board
+-- the piece may go from a to b on some board; or it is a king, and b stands two files from a on its
+-- rank, also where a isn't the king's home
 abbrev pub MayReach : Colour → Kind → ℕ → ℕ → Type 0
 MayReach side kind a b = MayTarget side kind a b
     ⊎ ((kind ≡ King) × (files_apart a b ≡ 2) × (ranks_apart a b ≡ 0))

@@ -1,10 +1,11 @@
 -- The legal moves of chess. A square is its index, 8 * rank + file.
 --
 --   who         to                                             besides
---   any piece   an enemy that it attacks, not the king
+--   any piece   an enemy that it attacks, other than a king
 --   not a pawn  an empty square that it attacks
 --   a pawn      the en passant square, if it attacks it        the pawn beside `from` goes
---   a pawn      one or two ranks forward, all empty
+--   a pawn      a rank forward, or two from its first square,
+--               where the way and the square are empty
 --   the king    two files from its home, where it may castle   the rook moves too
 use Rattle.std.specs.Prelude.{◌≡◌, ◌≢◌, ℕ, ◌⊎◌, ◌↔◌, Bool, nat_lt, Some, IsTrue, IsSome}
 use Rattle.std.specs.Prelude.{if◌then◌else◌}
@@ -38,12 +39,14 @@ pub record Pushes (s : Position) (m : Moved) : Type 0 where
   pub way : Clear s.board m.from m.to
   pub empty : IsEmpty s.board m.to
 
+-- the right of this side to castle short, or else long
 abbrev pub has_right : Rights → Colour → Bool → Bool
 has_right r White is_short = if is_short then r.white_short else r.white_long
 has_right r Black is_short = if is_short then r.black_short else r.black_long
 
 -- The king of the side to move may go two files from its home: with the castling right and the
 -- rook, over empty squares, and the enemy attacks neither its home nor the square that it crosses.
+-- That it isn't in check where it arrives `Legal` asks, as of every move.
 pub record Castles (s : Position) (m : Moved) : Type 0 where
   pub goes : IsTrue (is_castling s.turn m)
   pub right : IsTrue (has_right s.rights s.turn (nat_lt m.from m.to))
@@ -66,7 +69,7 @@ pub record PseudoLegal (s : Position) (m : Moved) : Type 0 where
   pub goes : MayGo s m kind
   pub promotes : IsSome m.promo ↔ ((kind ≡ Pawn) × (rank_for s.turn m.to ≡ 7))
 
--- and the mover isn't in check afterwards
+-- pseudo-legal, and the mover isn't in check afterwards
 pub record Legal (s : Position) (m : Moved) : Type 0 where
   pub moves : PseudoLegal s m
   pub safe : ¬ InCheck (after s m).board s.turn

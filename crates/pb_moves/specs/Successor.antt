@@ -1,5 +1,5 @@
--- The setup after a move as a function of the two, and square by square as a relation. Neither
--- means anything where the move isn't legal.
+-- The setup after a move as a function of setup and move, and square by square as a relation.
+-- Neither means anything where the move isn't pseudo-legal (Legal.antt).
 use Rattle.std.specs.Prelude.{◌≡◌, ◌≢◌, ℕ, ◌+◌, ◌-◌, ◌*◌, ◌/◌, Bool, not, ◌&&◌, ◌||◌, ◌==◌, nat_lt}
 use Rattle.std.specs.Prelude.{List, [], ◌∷◌, length, All, fold, slice_set, Option, Some, None}
 use Rattle.std.specs.Prelude.{is_none, unwrap_or, if◌then◌else◌}
@@ -16,15 +16,16 @@ use Rattle.pb_board.specs.Position.{Position}
 use Rattle.pb_moves.specs.Attacks.{ranks_apart}
 use Rattle.pb_moves.specs.Moved.{Moved}
 
+-- e1 or e8
 abbrev pub king_home : Colour → ℕ
 king_home White = 4
 king_home Black = 60
 
--- a king's move of two files from its home is castling, and this is the home of the rook that goes
--- with it
+-- a king's move of two files from its home is castling; that a king moves is asked elsewhere
 abbrev pub is_castling : Colour → Moved → Bool
 is_castling side m = m.from == king_home side && (m.to == m.from + 2 || m.from == m.to + 2)
 
+-- the home of the rook that goes with such a king
 abbrev pub rook_home : Moved → ℕ
 rook_home m = if nat_lt m.from m.to then m.to + 1 else m.to - 2
 
@@ -43,8 +44,8 @@ besides board m side King = if is_castling side m
     else []
 besides board m side _ = []
 
--- all that changes where this piece moves: it leaves `from`, and it stands on `to`, or the piece
--- does that it is promoted to
+-- all that changes where this piece moves, each square with what stands there then: nothing on
+-- `from`, and on `to` the piece or what it is promoted to
 abbrev pub changes : Board → Moved → Piece → List (ℕ × Place)
 changes board m p = (m.from, None) ∷ (m.to, Some (piece_of p.colour (unwrap_or m.promo p.kind)))
     ∷ besides board m p.colour p.kind
@@ -69,6 +70,7 @@ en_passant_after m p = if kind_number p.kind == 0 && ranks_apart m.from m.to == 
     then Some (middle m)
     else None
 
+-- the setup after the move: on its board the squares of `changes` hold what these say
 unfoldable pub after : Position → Moved → Position
 after s m = option_map_or (λ p. record {
   board = fold (λ board c. slice_set board c.0 c.1) s.board (changes s.board m p);

@@ -11,8 +11,10 @@ ghost use Rattle.pb_moves.specs.Moved.{Moved, IsMove};
 ghost use Rattle.pb_moves.specs.Played.{AreLegal, Plays};
 ghost use Rattle.pb_moves.specs.Spelling.{spelling};
 ghost use Rattle.pb_moves.specs.Successor.{IsAfter, after};
+ghost use Rattle.pb_moves.specs.declared.effect.Effect.{Effect};
 ghost use Rattle.pb_moves.specs.Worked.{e2e4, fools_mate, pawn_run, two_knights};
 
+use crate::effect::Effect;
 use crate::moves::Move;
 use crate::text::MoveText;
 
@@ -21,7 +23,8 @@ pub fn after_is_setup()
     ensures { (s : Position) (m : Moved) → IsSetup s → Legal s m → IsSetup (after s m) }
 {}
 
-/// A setup is the one after a legal move exactly where it is so square by square.
+/// A setup is the one after a move exactly where it is so square by square. The move need only be
+/// pseudo-legal, as `Legal` asks who is in check after it.
 pub fn after_is()
     ensures { (s t : Position) (m : Moved) → IsSetup s → PseudoLegal s m
         → IsAfter s m t ↔ (t ≡ after s m) }
@@ -31,6 +34,7 @@ pub fn after_is()
 pub fn equal_moves()
     ensures moves { (a b : Moved) → IsMove a → IsMove b
         → Decides (⟦<Move as PartialEq>⟧.eq a b) (a ≡ b) }
+    ensures effects { (d e : Effect) → Decides (⟦<Effect as PartialEq>⟧.eq d e) (d ≡ e) }
     ensures texts { (t u : List ℕ) → Decides (⟦<MoveText as PartialEq>⟧.eq t u) (t ≡ u) }
 {}
 

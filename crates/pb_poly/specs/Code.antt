@@ -17,6 +17,7 @@ encoded_to s m = if is_piece (piece_of s.turn King) (at s.board m.from) && is_ca
     then rook_home m
     else m.to
 
+-- the code of a move in this setup
 abbrev pub encode_move : Position → Moved → ℕ
 encode_move s m =
     file (encoded_to s m) + 8 * rank (encoded_to s m) + 64 * file m.from + 512 * rank m.from

@@ -1,5 +1,5 @@
--- Keys of setups: the offsets into the table that a setup has, and the parity of the random numbers
--- there.
+-- Keys of setups: the offsets into the table that a setup has, and the exclusive or of the random
+-- numbers there, as a function and bit by bit as a relation.
 use Rattle.std.specs.Prelude.{◌≡◌, ◌≢◌, ◌↔◌, ℕ, ◌+◌, ◌-◌, ◌*◌, ◌%◌, ◌^◌, ◌<◌, Bool, not, ◌&&◌}
 use Rattle.std.specs.Prelude.{◌||◌, ◌==◌, Some, None, List, [], ◌∷◌, ◌++◌}
 use Rattle.std.specs.Prelude.{AllPairs, Contains, fold, sum_by, slice_index, bit_xor}
@@ -34,7 +34,8 @@ has_capturer board turn q =
     (not (file q == 0) && is_piece (piece_of turn Pawn) (at board (q - 1)))
     || (not (file q == 7) && is_piece (piece_of turn Pawn) (at board (q + 1)))
 
--- the offset of an en passant square whose pawn may be taken
+-- the offset of the en passant square, if a pawn of the mover stands beside the one that made the
+-- double step, whether or not it may take
 abbrev pub en_passant_offsets : Position → List ℕ
 en_passant_offsets s = option_map_or
     (λ q. only_if (has_capturer s.board s.turn (beyond s.turn q)) (772 + file q)) s.ep []
@@ -44,7 +45,7 @@ abbrev pub offsets : Position → List ℕ
 offsets s = piece_offsets s.board 0 ++ (of_rights s.rights 768 769 770 771
     ++ (en_passant_offsets s ++ only_if (colour_number s.turn == 0) 780))
 
--- the numbers at these offsets, toggled by exclusive or
+-- the exclusive or of the numbers at these offsets
 unfoldable pub key : List ℕ → Position → ℕ
 key randoms s = fold (λ k offset. bit_xor k (slice_index randoms offset)) 0 (offsets s)
 

@@ -8,7 +8,7 @@ use Rattle.pb_io.specs.Lines.{lines}
 use Rattle.pb_poly.specs.declared.table.TableError.{TableError}
 use Rattle.pb_poly.specs.declared.table.TableError.TheVariants.{Line, Count, Memory}
 
--- numbers of a table, of 64 bits each: PolyGlot's Random64
+-- how many numbers a table has, each of 64 bits: as many as PolyGlot's Random64
 abbrev pub table_length : ℕ
 table_length = 781
 
@@ -24,7 +24,7 @@ SpellsRandom line random = let digits = strip_carriage_return line in
 abbrev pub IsRandomLine : List ℕ → Type 0
 IsRandomLine line = (random : ℕ) × SpellsRandom line random
 
--- each line of the bytes spells one of the numbers of a table
+-- the bytes have a line for each number of a table, in order, which spells it
 abbrev pub TableText : List ℕ → List ℕ → Type 0
 TableText randoms bytes =
     (length randoms ≡ table_length) × AllZip SpellsRandom (lines bytes) randoms

@@ -3,4 +3,4 @@ use Rattle.pb_moves.proofs.Equal as equal
 use Rattle.pb_moves.proofs.laws.equal_moves.Goals as goal
 
 pub returns : goal.returns
-returns c = record { moves = equal.moves; texts = board_equal.texts 5 }
+returns c = record { moves = equal.moves; effects = equal.effects; texts = board_equal.texts 5 }
