@@ -48,9 +48,9 @@ module _ (G : List PlyPoints) (least : ℕ) (first : ℕ) (next : Option ℕ) wh
       each r = (
         λ h.
             let k = (frequent_rows least adds.rows r).0 h in
-            let here = held_within f first next r.key r.code (held_of r) ((adds.are.each r).0 k.0) in
+            let here = held_within f first next r.key r.code (held_of r) ((adds.are r).0 k.0) in
             (here.0, here.1, k.1),
-        λ h. (frequent_rows least adds.rows r).1 ((adds.are.each r).1 (stretched f first next r.key r.code true h.0 ∙ h.1), h.2),
+        λ h. (frequent_rows least adds.rows r).1 ((adds.are r).1 (stretched f first next r.key r.code true h.0 ∙ h.1), h.2),
       )
 
 -- ---- the stretches of a book, one after another

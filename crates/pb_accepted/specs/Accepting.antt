@@ -2,10 +2,10 @@
 -- These are a list of submissions, pairs of an id and a game, in order of acceptance; a game's
 -- number counts from 1.
 --
---   row         the line submits                    answered               the list
+--   case        the line submits                    answered               the list
 --   new         a legal game, its id new, room      ok, the next number    gets it at its end
 --   full        the same, no room                   full                   stays
---   memory      the same, room, no memory           memory                 stays
+--   memory      the same, room                      memory                 stays
 --   repeat      a game that is held under its id    ok, its number         stays
 --   conflict    another game under an id held       conflict               stays
 --   refused     no legal game                       why not                stays
@@ -33,7 +33,7 @@ abbrev pub says_new : Result Accepted Refusal → Bool
 says_new (Ok accepted) = accepted.is_new
 says_new (Err e) = false
 
--- A line is answered r, where the list A may have at most cap members, and it becomes B.
+-- A line is answered r, where the list A may have at most cap members, and A becomes B.
 pub data Step (cap : ℕ) (A : List Submission) (line : List ℕ) (r : Answer)
     (B : List Submission) : Type 0 where
   new : (s : Submission) → IsLawful line s → IsNewId s.0 A → length A < cap → r ≡ Ok (length A + 1)
@@ -48,18 +48,18 @@ pub data Step (cap : ℕ) (A : List Submission) (line : List ℕ) (r : Answer)
       → r ≡ Err (Conflict n) → B ≡ A → Step cap A line r B
   refused : (e : Refusal) → Refuses line e → r ≡ Err e → B ≡ A → Step cap A line r B
 
--- B is what these steps make of A, one for each line with its answer
+-- from A steps of this kind lead to B, one for each line with its answer, in order
 abbrev pub Along : (List Submission → List ℕ → Answer → List Submission → Type 0) → List Submission
     → List (List ℕ) → List Answer → List Submission → Type 0
 Along Steps A [] [] B = B ≡ A
 Along Steps A (line ∷ L) (r ∷ R) B = (M : List Submission) × Steps A line r M × Along Steps M L R B
 Along Steps A L R B = ⊥
 
--- These lines are answered so, one after another, from the list A on, and it becomes B.
+-- These lines are answered so, one after another, and this makes B of the list A.
 abbrev pub Run : ℕ → List Submission → List (List ℕ) → List Answer → List Submission → Type 0
 Run cap = Along (Step cap)
 
--- ---- the distinct submissions, which look at no id
+-- ---- the distinct submissions: one is new unless the list has it, the same game under the same id
 
 -- no want of room or memory was answered
 abbrev pub HasRoom : Answer → Type 0

@@ -1,5 +1,5 @@
 -- The plies that count, and the book that is made of them. T is the basis, S the list of
--- submissions, G what their plies give that count.
+-- submissions, and G has for each ply that counts what it gives.
 use Rattle.std.specs.Prelude.{◌≡◌, ℕ, ◌≤◌, ◌↔◌, ◌&&◌, ◌==◌, List, Option, map, take, sum_by}
 use Rattle.std.specs.Prelude.{count_by, AllPairs, Contains, if◌then◌else◌}
 use Rattle.std.specs.List.{filter, flat_map}
@@ -30,14 +30,15 @@ abbrev pub given_by : List ℕ → Outcome → Ply → PlyPoints
 given_by words o p =
     record { key = key words p.0; code = encode_move p.0 p.1; points = points_for o p.0.turn }
 
--- what the plies that count give: the first ones of each game
+-- what each ply gives that counts: these are the first ones of each game
 abbrev pub counted : Basis → List Submission → List PlyPoints
 counted T S = flat_map (λ s. map (given_by T.randoms s.1.outcome) (take T.rules.plies (plies s.1))) S
 
--- how often a key and a code occur, and their count, which is the sum of their points
+-- how often a key and a code occur
 abbrev pub times : List PlyPoints → ℕ → ℕ → ℕ
 times G k c = count_by (λ p. p.key == k && p.code == c) G
 
+-- their count: the sum of their points
 abbrev pub count : List PlyPoints → ℕ → ℕ → ℕ
 count G k c = sum_by (λ p. if p.key == k && p.code == c then p.points else 0) G
 
@@ -46,8 +47,8 @@ pub record IsGreatest (G : List PlyPoints) (least k M : ℕ) : Type 0 where
   pub above : (c : ℕ) → least ≤ times G k c → count G k c ≤ M
   pub met : (c : ℕ) × (least ≤ times G k c) × (count G k c ≡ M)
 
--- the entries are the book: for each key and code that occur often enough, an entry whose weight is
--- their count, scaled by the greatest one under the key, unless that is 0
+-- the entries are the book: one for each key and code that occur often enough, with the weight that
+-- is their count, scaled by the greatest one under the key; where the weight is 0 there is none
 pub record IsBook (G : List PlyPoints) (least : ℕ) (E : List Entry) : Type 0 where
   pub ordered : AllPairs Before E
   pub members : (e : Entry) → Contains E e ↔ ((least ≤ times G e.key e.code)

@@ -3,7 +3,7 @@ use Rattle.std.specs.Prelude.{ℕ, List}
 use Rattle.pb_games.specs.Submissions.{Submission}
 use Rattle.pb_accepted.specs.Basis.{Basis}
 
--- what is counted by, how many games may be held, and the accepted ones in order of acceptance
+-- what its counts rest on, how many games may be held, and those that are, in order of acceptance
 pub record LedgerState : Type 0 where
   pub basis : Basis
   pub cap : ℕ

@@ -1,4 +1,4 @@
--- Why a line is refused by itself, as the reply says it.
+-- Why a line is refused whatever games are held, as the reply says it.
 use Rattle.std.specs.Prelude.{◌≡◌, ◌≢◌, ℕ, ◌<◌, ◌⊎◌, List, [], ◌∷◌, ◌++◌, length, All, codes}
 use Rattle.std.specs.Prelude.{decimal}
 use Rattle.std.specs.Str.Lines.{strip_carriage_return}
@@ -14,8 +14,8 @@ use Rattle.pb_games.specs.Refusing.{SpellsMoves, SpellsStart}
 use Rattle.pb_games.specs.Results.{outcome_text}
 use Rattle.pb_games.specs.Tokens.{tokens_of}
 
--- each reason with what the reply says, in the order in which they are looked for; a move is named
--- by its number, from 1
+-- when each reason is due, and what the reply then says, in the order in which they are looked for;
+-- a final CR counts as a byte of the line, and a move is named by its number, from 1
 abbrev pub reasons : List ℕ → List (List ℕ) → List (List ℕ → Type 0)
 reasons line cells = let id = field cells 0 in let tokens = tokens_of (field cells 3) in
     (λ why. (why ≡ codes "- long") × (8192 < length line))
@@ -33,11 +33,11 @@ reasons line cells = let id = field cells 0 in let tokens = tokens_of (field cel
     × BreaksAt (AreLegal f.setup) moves n)
     ∷ []
 
--- the first of them that holds
+-- why is what the first of these reasons says that is due
 abbrev pub IsFirst : List (List ℕ → Type 0) → List ℕ → Type 0
 IsFirst [] why = ⊥
 IsFirst (IsDue ∷ others) why = IsDue why ⊎ (((w : List ℕ) → ¬ IsDue w) × IsFirst others why)
 
--- the cells are those between TABs, of the line without one final CR
+-- the line is refused so; its cells are what stands between its TABs, without one final CR
 abbrev pub IsRefused : List ℕ → List ℕ → Type 0
 IsRefused line why = IsFirst (reasons line (fields 9 (strip_carriage_return line))) why

@@ -22,8 +22,7 @@ reason (refusal.Conflict n) = codes "conflict " ++ decimal n
 reason refusal.Full = codes "full"
 reason refusal.Memory = codes "memory"
 
--- the id that a reply names: the line's first field, or a - where the line is refused before its id
--- stands
+-- the id that a reply names: the line's first field, or a - where that isn't known to be an id
 abbrev pub named : List ℕ → Answer → List ℕ
 named line (Err refusal.Long) = codes "-"
 named line (Err refusal.Shape) = codes "-"

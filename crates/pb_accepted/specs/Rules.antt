@@ -1,7 +1,8 @@
 -- What of the games counts.
 use Rattle.std.specs.Prelude.{ℕ, ◌≤◌}
 
--- so many first plies of each game count, and a move that occurs less often in them is left out
+-- so many first plies of each game count; a move is left out that occurs in all of these less than
+-- `least` times under its key
 pub record CountingRules : Type 0 where
   pub plies : ℕ
   pub least : ℕ

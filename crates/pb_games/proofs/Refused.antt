@@ -4,7 +4,6 @@ use Rattle.std.specs.List.{All}
 use Rattle.std.specs.Prelude.{IfOk, IfErr}
 use Rattle.std.proofs.lemmas.List.{length-map}
 use Rattle.std.proofs.lemmas.List.Elements.{All-map, All-weaker}
-use Rattle.pb_board.specs.declared.refusal.FenError.TheVariants as fen
 use Rattle.pb_board.specs.Fields.{field, fields}
 use Rattle.pb_board.specs.Text.{fen_text}
 use Rattle.pb_board.specs.Position.{Record}
@@ -21,7 +20,7 @@ use Rattle.pb_games.specs.declared.refusal.Refusal.{Refusal}
 use Rattle.pb_games.specs.declared.refusal.Refusal.TheVariants as refusal
 use Rattle.pb_games.specs.Ids.{IsId}
 use Rattle.pb_games.specs.Cuts.{fields_of}
-use Rattle.pb_games.specs.Refusing.{IsOfLine, Refuses, SpellsStart}
+use Rattle.pb_games.specs.Refusing.{Refuses, SpellsStart}
 use Rattle.pb_games.specs.Results.{outcome_text}
 use Rattle.pb_games.specs.Submissions.{Submission, IsLawful, moves_text}
 use Rattle.pb_games.specs.Tokens.{tokens_of}
@@ -29,23 +28,6 @@ use Rattle.pb_games.proofs.Dues.{IsDue}
 use Rattle.pb_games.proofs.OneLine.{one_lawful, tokens_of_text, spellings_injective}
 use Rattle.pb_games.proofs.Texts.{fields_back, lawful_game, short_line}
 use Rattle.pb_games.proofs.Played.{legal_fronts}
-
--- ---- for a cause of its own
-
-due_of_line : (line : List ℕ) (e : Refusal) → IsDue e line → IsOfLine e
-due_of_line line refusal.Long due = (fen.Fields, 0, 0, (0, omega arith, refl))
-due_of_line line refusal.Shape due = (fen.Fields, 0, 0, (1, omega arith, refl))
-due_of_line line refusal.Id due = (fen.Fields, 0, 0, (2, omega arith, refl))
-due_of_line line refusal.Result due = (fen.Fields, 0, 0, (3, omega arith, refl))
-due_of_line line (refusal.Fen e) due = (e, 0, 0, (4, omega arith, refl))
-due_of_line line refusal.Start due = (fen.Fields, 0, 0, (5, omega arith, refl))
-due_of_line line (refusal.Spelling n) due = (fen.Fields, n, 0, (6, omega arith, refl))
-due_of_line line refusal.Plies due = (fen.Fields, 0, 0, (7, omega arith, refl))
-due_of_line line (refusal.Illegal n) due = (fen.Fields, 0, n, (8, omega arith, refl))
-due_of_line line _ due = absurd due
-
-pub of_line : (line : List ℕ) (e : Refusal) → Refuses line e → IsOfLine e
-of_line line e h = due_of_line line e h.due
 
 -- ---- no legal game
 

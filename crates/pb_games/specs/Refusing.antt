@@ -1,5 +1,5 @@
--- Why a line is refused by itself: the first reason that is due.
-use Rattle.std.specs.Prelude.{◌≡◌, ◌≢◌, ℕ, ◌<◌, List, [], ◌∷◌, ◌++◌, length, map, All, Contains}
+-- Why a line is refused by itself, whatever games are held: the first reason that is due.
+use Rattle.std.specs.Prelude.{◌≡◌, ◌≢◌, ℕ, ◌<◌, List, [], ◌∷◌, ◌++◌, length, map, All}
 use Rattle.std.specs.Str.Lines.{strip_carriage_return}
 use Rattle.pb_board.specs.declared.refusal.FenError.{FenError}
 use Rattle.pb_board.specs.Fields.{field, fields, space, tab}
@@ -17,14 +17,15 @@ use Rattle.pb_games.specs.Ids.{IsId}
 use Rattle.pb_games.specs.Results.{outcome_text}
 use Rattle.pb_games.specs.Tokens.{tokens_of}
 
--- the third of a line's fields spells the record, and these tokens spell the moves
+-- the third of a line's cells spells the record, and below, these tokens spell the moves
 abbrev pub SpellsStart : List (List ℕ) → Record → Type 0
 SpellsStart cells f = IsRecord f × (field cells 2 ≡ fen_text f)
 
 abbrev pub SpellsMoves : List (List ℕ) → List Moved → Type 0
 SpellsMoves tokens moves = All IsMove moves × (map spelling moves ≡ tokens)
 
--- when each refusal is due; the three that are never due here look at more than the line
+-- when each refusal of a line with these cells is due; the last three, which look at the games that
+-- are held or at memory, never are here
 abbrev pub IsDue : List ℕ → List (List ℕ) → Refusal → Type 0
 IsDue line cells refusal.Long = 8192 < length line
 IsDue line cells refusal.Shape = length cells ≢ 4
@@ -39,15 +40,11 @@ IsDue line cells (refusal.Illegal n) = (f : Record) × (moves : List Moved)
     × BreaksAt (AreLegal f.setup) moves n
 IsDue line cells _ = ⊥
 
--- in the order in which they are looked for: one has a cause, two have a number
+-- in the order in which they are looked for: `Fen` has a cause, `Spelling` and `Illegal` a number
 abbrev pub in_order : FenError → ℕ → ℕ → List Refusal
 in_order e m n =
     refusal.Long ∷ refusal.Shape ∷ refusal.Id ∷ refusal.Result ∷ refusal.Fen e ∷ refusal.Start
     ∷ refusal.Spelling m ∷ refusal.Plies ∷ refusal.Illegal n ∷ []
-
--- a refusal that looks at the line alone
-abbrev pub IsOfLine : Refusal → Type 0
-IsOfLine r = (e : FenError) × (m : ℕ) × (n : ℕ) × Contains (in_order e m n) r
 
 -- the line by itself is refused so: this refusal is due, and none before it, whatever their causes
 -- and numbers

@@ -1,4 +1,4 @@
--- The texts of results (PGN Standard 1994, section 8.1.1.7).
+-- The texts of results (PGN Standard 1994, section 8.1.1.7): White won, Black won, nobody won.
 use Rattle.std.specs.Prelude.{ℕ, List, codes}
 use Rattle.pb_games.specs.declared.outcome.Outcome.{Outcome}
 use Rattle.pb_games.specs.declared.outcome.Outcome.TheVariants.{White, Black, Draw}

@@ -13,7 +13,7 @@ use Rattle.pb_games.specs.declared.game.Game.{Game}
 use Rattle.pb_games.specs.Ids.{IsId}
 use Rattle.pb_games.specs.Results.{outcome_text}
 
--- an id and a game
+-- an id and a game, legal or not
 abbrev pub Submission : Type 0
 Submission = List ℕ × Game
 
@@ -53,7 +53,7 @@ pub record IsLegalGame (g : Game) : Type 0 where
   pub playable : IsPlayable g.start.setup
   pub legal : AreLegal g.start.setup g.moves
 
--- the line, without one final CR, is the text of this legal game under this id
+-- the line submits this legal game under this id: without one final CR it is their text
 pub record IsLawful (line : List ℕ) (s : Submission) : Type 0 where
   pub text : strip_carriage_return line ≡ submission_text s
   pub id : IsId s.0

@@ -1,10 +1,11 @@
 //! The four fields of a line.
 
-ghost use Rattle.std.specs.Prelude.{◌≡◌, ◌≢◌, ◌≤◌, ◌∷◌, [], IfErr, IfOk, IfSome, length};
-ghost use Rattle.std.specs.Prelude.{MatchOption};
+ghost use Rattle.std.specs.Prelude.{◌≡◌, ◌≢◌, ◌≤◌, ◌∷◌, [], IfErr, IfOk, IfSome, IsOk};
+ghost use Rattle.std.specs.Prelude.{MatchOption, length};
 ghost use Rattle.pb_board.specs.Fields.{fields, tab};
 ghost use Rattle.pb_games.specs.Cuts.{IsCut, fields_of};
 ghost use Rattle.pb_games.specs.Ids.{IsId};
+ghost use Rattle.pb_games.specs.declared.fields.LineFields.{LineFields};
 ghost use Rattle.pb_games.specs.Refusing.{Refuses};
 
 use crate::id::{Id, is_id};
@@ -37,6 +38,7 @@ impl LineFields<'_> {
 /// `Long`, `Shape` or `Id`.
 pub fn cut_line(line: &[u8]) -> Result<LineFields<'_>, Refusal>
     ensures cut { IfOk result (λ f. IsCut line.now f) }
+    ensures each { (f : LineFields) → IsCut line.now f → IsOk result }
     ensures refused { IfErr result (λ e. Refuses line.now e) }
 {
     if line.len() > MAX_BYTES {

@@ -11,12 +11,13 @@ ghost use Rattle.pb_games.specs.declared.fields.TheConstants.{MAX_BYTES};
 ghost use Rattle.pb_games.specs.declared.id.TheConstants.{MAX_LEN};
 ghost use Rattle.pb_games.specs.declared.outcome.Outcome.{Outcome};
 ghost use Rattle.pb_games.specs.declared.refusal.Refusal.{Refusal};
+ghost use Rattle.pb_games.specs.declared.refusal.Refusal.TheVariants.{Conflict, Full, Memory};
 ghost use Rattle.pb_games.specs.Submissions.{IsLawful, last_setup, Submission, IsGame, moves_text};
 ghost use Rattle.pb_games.specs.Submissions.{submission_text};
 ghost use Rattle.pb_games.specs.Worked.{worked_line, worked_submission};
 ghost use Rattle.pb_games.specs.Ids.{IsId};
 ghost use Rattle.pb_games.specs.Results.{outcome_text};
-ghost use Rattle.pb_games.specs.Refusing.{IsOfLine, Refuses};
+ghost use Rattle.pb_games.specs.Refusing.{Refuses};
 
 use crate::id::Id;
 use crate::outcome::Outcome;
@@ -48,7 +49,9 @@ pub fn plain_text()
 
 /// States that a line is refused by itself neither for what is held nor for want of memory.
 pub fn refused_by_itself()
-    ensures { (line : List ℕ) (e : Refusal) → Refuses line e → IsOfLine e }
+    ensures conflict { (line : List ℕ) (n : ℕ) → ¬ Refuses line (Conflict n) }
+    ensures full { (line : List ℕ) → ¬ Refuses line Full }
+    ensures memory { (line : List ℕ) → ¬ Refuses line Memory }
 {}
 
 /// States that a line that is refused by itself submits no legal game.

@@ -31,11 +31,12 @@ pub trait MoveVisitor {
         ensures holds { holds self.new outcome [] start.now }
         ensures fixed { fixed self.new ≡ fixed self.old };
 
-    /// Plays the move where it is legal, and tells whether it is.
+    /// Plays the move where it is legal, and tells whether it is. Else the setup stays.
     fn play(&mut self, setup: &mut Setup, m: Move) -> bool
         requires { CanTake (holds self.old) setup.old }
         ensures legal { IsTrue result ↔ Legal setup.old m }
         ensures played { IsTrue result → (setup.new ≡ after setup.old m) }
+        ensures stays { ¬ IsTrue result → (setup.new ≡ setup.old) }
         ensures holds { IsTrue result → (o : Outcome) (ps : List Ply)
             → holds self.old o ps setup.old → holds self.new o (ps ++ (setup.old, m) ∷ []) setup.new }
         ensures fixed { fixed self.new ≡ fixed self.old };

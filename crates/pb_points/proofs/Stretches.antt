@@ -4,15 +4,14 @@ use Rattle.std.specs.Prelude.{IfSome}
 use Rattle.std.proofs.lemmas.Bool.{cases_lt, leb-true, le-leb}
 use Rattle.std.proofs.lemmas.Bool.Decides.{nat_tests}
 use Rattle.std.proofs.lemmas.List.Elements.{All-contains, Contains-append_cases, Contains-append_left, Contains-append_right, filter-append, filter_passes}
-use Rattle.std.proofs.lemmas.List.Kept.{AllPairs-filter}
 use Rattle.pb_poly.specs.declared.entry.Entry.{Entry}
 use Rattle.pb_points.specs.declared.row.Row.{Row}
 use Rattle.pb_points.specs.Group.{AddsBook}
-use Rattle.pb_points.specs.Rows.{IsBelow, frequent, from}
+use Rattle.pb_points.specs.Rows.{frequent, from}
 use Rattle.pb_points.specs.Tally.{Content, Held, held_of}
 use Rattle.pb_points.specs.TallyBook.{AddsBookOf, AreRows, is_within, stretch_of}
 use Rattle.pb_points.proofs.Elements.{contains_filter, within_filter}
-use Rattle.pb_points.proofs.Groups.{AllPairs-append, KeysBelow, adds_both, adds_nothing}
+use Rattle.pb_points.proofs.Groups.{KeysBelow, adds_both, adds_nothing}
 
 -- a row that occurs often enough is one of the rows
 pub frequent_within : (least : ℕ) (rows : List Row) (r : Row) → Contains (frequent least rows) r → Contains rows r
@@ -75,17 +74,14 @@ stretch_none content first next k c none = by (is_within first next k)
 
 -- the rows of the keys from the first one on
 pub stretch_rows : (content : Content) (first : ℕ) (rows : List Row) → AreRows content rows → AreRows (stretch_of first None content) (from first rows)
-stretch_rows content first rows are = record {
-  rise = AllPairs-filter IsBelow (λ r. nat_le first r.key) rows are.rise;
-  each = λ r. (
-    λ h.
-        let high : nat_le first r.key ≡ true = All-contains (λ q. nat_le first q.key ≡ true) (from first rows) r (filter_passes (λ q. nat_le first q.key) rows) h in
-        stretched content first None r.key r.code true high ∙ (are.each r).0 (within_filter (λ q. nat_le first q.key) rows r h),
-    λ is.
-        let here = held_within content first None r.key r.code (held_of r) is in
-        contains_filter (λ q. nat_le first q.key) rows r ((are.each r).1 here.1) here.0,
-  );
-}
+stretch_rows content first rows are = λ r. (
+  λ h.
+      let high : nat_le first r.key ≡ true = All-contains (λ q. nat_le first q.key ≡ true) (from first rows) r (filter_passes (λ q. nat_le first q.key) rows) h in
+      stretched content first None r.key r.code true high ∙ (are r).0 (within_filter (λ q. nat_le first q.key) rows r h),
+  λ is.
+      let here = held_within content first None r.key r.code (held_of r) is in
+      contains_filter (λ q. nat_le first q.key) rows r ((are r).1 here.1) here.0,
+)
 
 -- ---- the book of a stretch
 
@@ -97,10 +93,7 @@ adds_of_rows content least rows old new are adds = record { rows = rows; are = a
 pub same_content : (f g : Content) (least : ℕ) (old new : List Entry) → ((k c : ℕ) → f k c ≡ g k c) → AddsBookOf f least old new → AddsBookOf g least old new
 same_content f g least old new same h = record {
   rows = h.rows;
-  are = record {
-    rise = h.are.rise;
-    each = λ r. (λ here. sym (same r.key r.code) ∙ (h.are.each r).0 here, λ is. (h.are.each r).1 (same r.key r.code ∙ is));
-  };
+  are = λ r. (λ here. sym (same r.key r.code) ∙ (h.are r).0 here, λ is. (h.are r).1 (same r.key r.code ∙ is));
   book = h.book;
   is = h.is;
   added = h.added;
@@ -108,10 +101,9 @@ same_content f g least old new same h = record {
 
 pub adds_of_nothing : (content : Content) (least : ℕ) (old : List Entry) → ((k c : ℕ) → content k c ≡ None) → AddsBookOf content least old old
 adds_of_nothing content least old none =
-    adds_of_rows content least [] old old (record {
-      rise = λ i j d lt within. absurd (omega arith);
-      each = λ r. (λ h. absurd (omega (arith, h.1)), λ is. let no : None ≡ Some (held_of r) = sym (none r.key r.code) ∙ is in absurd cc);
-    }) (adds_nothing old)
+    adds_of_rows content least [] old old
+    (λ r. (λ h. absurd (omega (arith, h.1)), λ is. let no : None ≡ Some (held_of r) = sym (none r.key r.code) ∙ is in absurd cc))
+    (adds_nothing old)
 
 module _ (content : Content) (least : ℕ) where
   -- before the first stretch
@@ -121,29 +113,26 @@ module _ (content : Content) (least : ℕ) where
   pub goes_on : (first : ℕ) (next : Option ℕ) (old mid new : List Entry) → IfSome next (λ n. first < n) → AddsBookOf (stretch_of 0 (Some first) content) least old mid
       → AddsBookOf (stretch_of first next content) least mid new → AddsBookOf (stretch_of 0 next content) least old new
   goes_on first next old mid new onward a b =
-      adds_of_rows (stretch_of 0 next content) least (a.rows ++ b.rows) old new (record {
-        rise = AllPairs-append IsBelow a.rows b.rows a.are.rise b.are.rise (λ r s x y. inl (apart r s x y));
-        each = λ r. (
-          λ h. elim (Contains-append_cases a.rows b.rows r h) [
-            | inl x ↦ (let here = low r x in stretched content 0 next r.key r.code true (in_first first next r.key onward here.0) ∙ here.1)
-            | inr y ↦ (let here = high r y in stretched content 0 next r.key r.code true (in_second first next r.key here.0) ∙ here.1)
-          ],
-          λ is.
-              let here = held_within content 0 next r.key r.code (held_of r) is in
-              elim (in_either first next r.key here.0) [
-                | inl w ↦ Contains-append_left a.rows b.rows r ((a.are.each r).1 (stretched content 0 (Some first) r.key r.code true w ∙ here.1))
-                | inr w ↦ Contains-append_right a.rows b.rows r ((b.are.each r).1 (stretched content first next r.key r.code true w ∙ here.1))
-              ],
-        );
-      })
+      adds_of_rows (stretch_of 0 next content) least (a.rows ++ b.rows) old new (λ r. (
+        λ h. elim (Contains-append_cases a.rows b.rows r h) [
+          | inl x ↦ (let here = low r x in stretched content 0 next r.key r.code true (in_first first next r.key onward here.0) ∙ here.1)
+          | inr y ↦ (let here = high r y in stretched content 0 next r.key r.code true (in_second first next r.key here.0) ∙ here.1)
+        ],
+        λ is.
+            let here = held_within content 0 next r.key r.code (held_of r) is in
+            elim (in_either first next r.key here.0) [
+              | inl w ↦ Contains-append_left a.rows b.rows r ((a.are r).1 (stretched content 0 (Some first) r.key r.code true w ∙ here.1))
+              | inr w ↦ Contains-append_right a.rows b.rows r ((b.are r).1 (stretched content first next r.key r.code true w ∙ here.1))
+            ],
+      ))
       (subst (λ D. AddsBook D old new) (sym (filter-append (λ r. nat_le least r.times) a.rows b.rows))
       (adds_both (frequent least a.rows) (frequent least b.rows) old mid new below (a.book, a.added, a.is) (b.book, b.added, b.is)))
     where
       low : (r : Row) → Contains a.rows r → (is_within 0 (Some first) r.key ≡ true) × (content r.key r.code ≡ Some (held_of r))
-      low r x = held_within content 0 (Some first) r.key r.code (held_of r) ((a.are.each r).0 x)
+      low r x = held_within content 0 (Some first) r.key r.code (held_of r) ((a.are r).0 x)
 
       high : (r : Row) → Contains b.rows r → (is_within first next r.key ≡ true) × (content r.key r.code ≡ Some (held_of r))
-      high r y = held_within content first next r.key r.code (held_of r) ((b.are.each r).0 y)
+      high r y = held_within content first next r.key r.code (held_of r) ((b.are r).0 y)
 
       apart : (r s : Row) → Contains a.rows r → Contains b.rows s → r.key < s.key
       apart r s x y = omega (arith, before 0 first r.key (low r x).0, above first next s.key (high s y).0)

@@ -1,15 +1,14 @@
 -- The book of a tally.
 use Rattle.std.specs.Prelude.{◌≡◌, ℕ, ◌↔◌, Bool, ◌&&◌, nat_le, nat_lt, if◌then◌else◌}
-use Rattle.std.specs.Prelude.{Option, None, Some, List, ◌++◌, AllPairs, Contains}
+use Rattle.std.specs.Prelude.{Option, None, Some, List, ◌++◌, Contains}
 use Rattle.pb_poly.specs.declared.entry.Entry.{Entry}
 use Rattle.pb_points.specs.declared.row.Row.{Row}
-use Rattle.pb_points.specs.Rows.{IsBelow, IsBookOfRows, frequent}
+use Rattle.pb_points.specs.Rows.{IsBookOfRows, frequent}
 use Rattle.pb_points.specs.Tally.{Content, held_of}
 
--- these are the rows of a tally, each once, in order
-pub record AreRows (content : Content) (rows : List Row) : Type 0 where
-  pub rise : AllPairs IsBelow rows
-  pub each : (r : Row) → Contains rows r ↔ (content r.key r.code ≡ Some (held_of r))
+-- these are the rows of a tally
+abbrev pub AreRows : Content → List Row → Type 0
+AreRows content rows = (r : Row) → Contains rows r ↔ (content r.key r.code ≡ Some (held_of r))
 
 -- the key is in the stretch that begins with `first` and ends before the next one, if there is one
 abbrev pub is_within : ℕ → Option ℕ → ℕ → Bool

@@ -1,5 +1,5 @@
-use Rattle.pb_games.proofs.Refused as lemmas
+use Rattle.pb_games.specs.Refusing.{Refuses}
 use Rattle.pb_games.proofs.laws.refused_by_itself.Goals as goal
 
 pub returns : goal.returns
-returns c = lemmas.of_line
+returns c = record { conflict = λ line n h. h.due; full = λ line h. h.due; memory = λ line h. h.due }

@@ -32,8 +32,8 @@ returns-clause-book g c =
     let least = c.from-least.ensures ∙ c.least.ensures.value in
     let book : IsBookOfRows (frequent inside.rules.least adds.rows) adds.book = subst (λ n. IsBookOfRows (frequent n adds.rows) adds.book) least adds.is in
     let each : (r : Row) → _ = λ r. (
-      (λ h. let k = (frequent_rows inside.rules.least adds.rows r).0 h in ((adds.are.each r).0 k.0, k.1)),
-      (λ h. (frequent_rows inside.rules.least adds.rows r).1 ((adds.are.each r).1 h.0, h.1)),
+      (λ h. let k = (frequent_rows inside.rules.least adds.rows r).0 h in ((adds.are r).0 k.0, k.1)),
+      (λ h. (frequent_rows inside.rules.least adds.rows r).1 ((adds.are r).1 h.0, h.1)),
     ) in
     rw (← c.self.view_is)
     (subst (IsBook (counted T games) T.rules.least) (sym (made ∙ are))
