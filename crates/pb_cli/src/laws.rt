@@ -1,11 +1,19 @@
-//! The law of equality (`==`) between what is kept, as the contract of a function that does nothing.
+//! Laws of what the command line says, and of equality (`==`) between what is kept, as contracts of
+//! functions that do nothing.
 
-ghost use Rattle.std.specs.Prelude.{◌≡◌};
+ghost use Rattle.std.specs.Prelude.{◌≡◌, ◌<◌, ◌^◌, ℕ, List, Some, decimal};
 ghost use Rattle.std.specs.Bool.{Decides};
-ghost use Rattle.pb_cli.specs.Orders.{options_of};
+ghost use Rattle.clap.specs.Words.{Row, Text, one_of};
+ghost use Rattle.pb_cli.specs.Orders.{SaysNumber, options_of};
 ghost use Rattle.pb_cli.specs.declared.order.Keeping.{Keeping};
 
 use crate::order::Keeping;
+
+/// An option whose text is the digits of a number says that number.
+pub fn says_number()
+    ensures { (id : Text) (number : ℕ) (rows : List Row) → number < 2 ^ 64
+        → one_of id rows ≡ Some (decimal number) → SaysNumber id number rows }
+{}
 
 /// What is kept is equal exactly where it is of one kind, at paths of the same text, and synced
 /// alike.

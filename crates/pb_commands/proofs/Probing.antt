@@ -24,7 +24,7 @@ use Rattle.pb_commands.specs.Refused.{StopsOrEnds}
 use Rattle.pb_commands.specs.Shows.{Shows}
 use Rattle.pb_commands.specs.TableJudged.{table_verdict}
 use Rattle.pb_commands.specs.WithBook.{ReadsBoth}
-use Rattle.pb_commands.specs.declared.probe.Finder.{Finder}
+use Rattle.pb_commands.specs.declared.finder.Finder.{Finder}
 use Rattle.pb_commands.specs.declared.refusal.Stopped.{Stopped}
 use Rattle.pb_commands.specs.declared.refusal.Stopped.TheVariants as stopped
 use Rattle.pb_io.specs.declared.fault.Fault.{Fault}

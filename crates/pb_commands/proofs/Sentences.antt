@@ -1,5 +1,5 @@
 -- The theorem's sentence, from the effect of a run.
-use Rattle.std.proofs.Common.{◌≡◌, ◌⊎◌, ◌∙◌, ℕ, zero, suc, ◌+◌, List, [], ◌∷◌, ◌++◌, length, take, get_or, slice_get, Some, None, Contains, refl, sym, ap, subst, inl, inr, add-one, arith}
+use Rattle.std.proofs.Common.{◌≡◌, ◌⊎◌, ◌∙◌, ℕ, zero, suc, ◌+◌, ◌<◌, ◌≤◌, List, [], ◌∷◌, ◌++◌, length, take, get_or, slice_get, Some, None, Contains, refl, sym, ap, subst, inl, inr, add-one, arith}
 use Rattle.std.specs.Prelude.{codes}
 use Rattle.std.specs.List.{flat_map}
 use Rattle.std.proofs.lemmas.List.Elements.{Contains-append_left}
@@ -13,7 +13,7 @@ use Rattle.pb_accepted.specs.Accepting.{OneGame}
 use Rattle.pb_accepted.specs.Basis.{Basis}
 use Rattle.pb_accepted.specs.Laws.{NoRepeats, SameMembers}
 use Rattle.pb_accepted.specs.Replying as replied
-use Rattle.pb_accepted.specs.Replying.{AreNumbered, Arrives, IsAccepted, IsNumber, Replies, Reply, ok, refused}
+use Rattle.pb_accepted.specs.Replying.{AreNumbered, Arrives, IsAccepted, IsNewId, IsNumber, Replies, Reply, ok, refused}
 use Rattle.pb_accepted.proofs.BookLaws.{same_book}
 use Rattle.pb_accepted.proofs.OneReason.{lawful_is_not_refused}
 use Rattle.pb_accepted.proofs.Replies.{game_of, held_not_new, id_of, one_submission}
@@ -81,15 +81,16 @@ all_stay cap A [] (r ∷ R) B h s here = absurd h
 all_stay cap A (line ∷ L) [] B h s here = absurd h
 all_stay cap A (line ∷ L) (r ∷ R) B h s here = all_stay cap h.0 L R B h.2 s (stays cap A line r h.0 h.1 s here)
 
--- a line of them is replied to, and what was held before it is held in the end
+-- a line of them is replied to after those before it, and what was held then is held in the end
 replied_at : (cap : ℕ) (A : List Submission) (L R : List (List ℕ)) (B : List Submission) → Replies cap A L R B → (i : ℕ) (line : List ℕ) → slice_get L i ≡ Some line
-    → (r : List ℕ) × (M N : List Submission) × (slice_get R i ≡ Some r) × Reply cap M line r N × ((s : Submission) → Contains M s → Contains B s)
+    → (r : List ℕ) × (M N : List Submission) × (slice_get R i ≡ Some r) × Reply cap M line r N × ((s : Submission) → Contains M s → Contains B s) × Replies cap A (take i L) (take i R) M
 replied_at cap A [] R B h i line here = absurd (let none : None ≡ Some line = here in cc)
 replied_at cap A (l ∷ L) [] B h i line here = absurd h
 replied_at cap A (l ∷ L) (r ∷ R) B h zero line here =
     let is : l ≡ line = (let e : Some l ≡ Some line = here in cc) in
-    (r, A, h.0, refl, subst (λ x. Reply cap A x r h.0) is h.1, λ s here. all_stay cap h.0 L R B h.2 s (stays cap A l r h.0 h.1 s here))
-replied_at cap A (l ∷ L) (r ∷ R) B h (suc i) line here = replied_at cap h.0 L R B h.2 i line here
+    (r, A, h.0, refl, subst (λ x. Reply cap A x r h.0) is h.1, (λ s here. all_stay cap h.0 L R B h.2 s (stays cap A l r h.0 h.1 s here)), refl)
+replied_at cap A (l ∷ L) (r ∷ R) B h (suc i) line here =
+    let at = replied_at cap h.0 L R B h.2 i line here in (at.0, at.1, at.2, at.3, at.4, at.5, (h.0, h.1, at.6))
 
 refusals_leave : (cap : ℕ) (A : List Submission) (L R : List (List ℕ)) (i : ℕ) (why : List ℕ) (B C : List Submission) → slice_get R i ≡ Some (refused why)
     → Replies cap A (take i L) (take i R) B → Replies cap A (take (suc i) L) (take (suc i) R) C → C ≡ B
@@ -129,24 +130,32 @@ module _ (T : Basis) (L R : List (List ℕ)) (games : List Submission) (entries 
       let there = was.2.0 in
       ap game_of (one there.0 here.0 (s.0, g) s (contains_at L was.0 there.0 there.1) (contains_at L i here.0 here.1) there.2 here.2 refl)
 
+  -- what an arrival comes to that isn't accepted
+  abbrev Refuses : ℕ → Submission → Type 0
+  Refuses i s = (held : List Submission) × Replies 1000000 [] (take i L) (take i R) held × IsNewId s.0 held
+      × (((1000000 ≤ length held) × (slice_get R i ≡ Some (refused (s.0 ++ codes " full"))))
+      ⊎ ((length held < 1000000) × (slice_get R i ≡ Some (refused (s.0 ++ codes " memory")))))
+
   arrived : (i : ℕ) (s : Submission) (here : Arrives L i s) (r : List ℕ) (M N : List Submission) → slice_get R i ≡ Some r → Reply 1000000 M here.0 r N → ((t : Submission) → Contains M t → Contains games t)
-      → ((n : ℕ) × IsAccepted ok L R i s n) ⊎ ((slice_get R i ≡ Some (refused (s.0 ++ codes " full"))) ⊎ (slice_get R i ≡ Some (refused (s.0 ++ codes " memory"))))
-  arrived i s here r M N said (replied.new t fresh room e f) kept =
+      → Replies 1000000 [] (take i L) (take i R) M → ((n : ℕ) × IsAccepted ok L R i s n) ⊎ Refuses i s
+  arrived i s here r M N said (replied.new t fresh room e f) kept before =
       inl (length M + 1, (here, said ∙ ap (λ (x : List ℕ). Some x) (e ∙ ap (λ (x : Submission). ok x (length M + 1)) (one_submission here.0 t s fresh.0 here.2))))
-  arrived i s here r M N said (replied.full t fresh many e f) kept =
-      inr (inl (said ∙ ap (λ (x : List ℕ). Some x) (e ∙ ap (λ (x : Submission). refused (x.0 ++ codes " full")) (one_submission here.0 t s fresh.0 here.2))))
-  arrived i s here r M N said (replied.memory t fresh room e f) kept =
-      inr (inr (said ∙ ap (λ (x : List ℕ). Some x) (e ∙ ap (λ (x : Submission). refused (x.0 ++ codes " memory")) (one_submission here.0 t s fresh.0 here.2))))
-  arrived i s here r M N said (replied.repeat t n law at e f) kept =
+  arrived i s here r M N said (replied.full t fresh many e f) kept before =
+      let same = one_submission here.0 t s fresh.0 here.2 in
+      inr (M, before, subst (λ (x : Submission). IsNewId x.0 M) same fresh.1, inl (many, said ∙ ap (λ (x : List ℕ). Some x) (e ∙ ap (λ (x : Submission). refused (x.0 ++ codes " full")) same)))
+  arrived i s here r M N said (replied.memory t fresh room e f) kept before =
+      let same = one_submission here.0 t s fresh.0 here.2 in
+      inr (M, before, subst (λ (x : Submission). IsNewId x.0 M) same fresh.1, inr (room, said ∙ ap (λ (x : List ℕ). Some x) (e ∙ ap (λ (x : Submission). refused (x.0 ++ codes " memory")) same)))
+  arrived i s here r M N said (replied.repeat t n law at e f) kept before =
       inl (n, (here, said ∙ ap (λ (x : List ℕ). Some x) (e ∙ ap (λ (x : Submission). ok x n) (one_submission here.0 t s law here.2))))
-  arrived i s here r M N said (replied.conflict t g n law at differs e f) kept =
+  arrived i s here r M N said (replied.conflict t g n law at differs e f) kept before =
       let same = one_submission here.0 t s law here.2 in
       let held : Contains M (t.0, g) = contains_at M at.0 (t.0, g) at.2 in
       absurd (differs (agrees i s g here (subst (λ (x : Submission). Contains games (x.0, g)) same (kept (t.0, g) held)) ∙ ap game_of (sym same)))
-  arrived i s here r M N said (replied.refused_alone why is e f) kept = absurd (lawful_is_not_refused here.0 why s here.2 is)
+  arrived i s here r M N said (replied.refused_alone why is e f) kept before = absurd (lawful_is_not_refused here.0 why s here.2 is)
 
-  arrivals : (i : ℕ) (s : Submission) → Arrives L i s → ((n : ℕ) × IsAccepted ok L R i s n) ⊎ ((slice_get R i ≡ Some (refused (s.0 ++ codes " full"))) ⊎ (slice_get R i ≡ Some (refused (s.0 ++ codes " memory"))))
-  arrivals i s here = let at = replied_at 1000000 [] L R games effect.run i here.0 here.1 in arrived i s here at.0 at.1 at.2 at.3 at.4 at.5
+  arrivals : (i : ℕ) (s : Submission) → Arrives L i s → ((n : ℕ) × IsAccepted ok L R i s n) ⊎ Refuses i s
+  arrivals i s here = let at = replied_at 1000000 [] L R games effect.run i here.0 here.1 in arrived i s here at.0 at.1 at.2 at.3 at.4 at.5 at.6
 
   any_order : (K Q : List (List ℕ)) (others_games : List Submission) (others : List Entry) (bytes : List ℕ) → Effect T K Q others_games others bytes
       → ((s : Submission) → (WasAccepted K Q s → WasAccepted L R s) × (WasAccepted L R s → WasAccepted K Q s)) → bytes ≡ book

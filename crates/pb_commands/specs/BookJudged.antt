@@ -6,7 +6,7 @@ use Rattle.pb_poly.specs.declared.reading.BookError.TheVariants.{Unsorted, Cut}
 use Rattle.pb_io.specs.declared.fault.Fault.TheVariants.{Read, Endless, Memory}
 use Rattle.pb_commands.specs.Judged.{Verdict, refused_for}
 
--- what comes of a file for this reason why there is no book
+-- what a file comes to that gave no book for this reason
 abbrev pub book_verdict : BookError → Verdict
 book_verdict (Unsorted number) = refused_for (codes "book unsorted " ++ decimal number)
 book_verdict (Cut extra) = refused_for (codes "book cut " ++ decimal extra)

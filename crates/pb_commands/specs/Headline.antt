@@ -1,6 +1,6 @@
--- The theorem of `pbook collect`, for the bytes of a table file and of submissions, which two
--- sources handed out, those of the replies, which a sink took, and those of the book. Read this
--- file first: nothing is assumed of the submissions.
+-- The theorem of `pbook collect`, for the bytes of four texts: the table file and the submissions,
+-- which two sources handed out, the replies, which a sink took, and the book. Read this file first:
+-- nothing is assumed of the submissions.
 use Rattle.std.specs.Prelude.{◌≡◌, ℕ, ◌↔◌, List, [], ◌∷◌, ◌++◌}
 use Rattle.std.specs.List.{flat_map}
 use Rattle.std.specs.Io.KnownBytes.{Appends}
@@ -20,17 +20,17 @@ use Rattle.pb_commands.specs.Ends.{EndStates}
 -- in the end, the entries of their book, and its bytes.
 pub record Effect (T : Basis) (L R : List (List ℕ)) (games : List Submission)
     (entries : List Entry) (book : List ℕ) : Type 0 where
-  -- each line is replied to, and games are added, by the table of six steps
+  -- each line gets its reply, and games are added, by the six cases of `Reply`
   pub run : Replies 1000000 [] L R games
-  -- the games are those that were replied to by `ok`, each once, however often it came
+  -- the games are those whose lines got the reply `ok`, each once, however often it came
   pub numbered : AreNumbered ok L R games
   -- the entries and no others are the book of these games, and the bytes decode to no others
   pub is_book : (others : List Entry)
       → IsBook (counted T games) T.rules.least others ↔ (others ≡ entries)
   pub bytes : (others : List Entry) → BookBytes others book ↔ (others ≡ entries)
 
--- What is made of a table file and of submissions, by rules that say which plies count: replies,
--- and the entries and the bytes of a book.
+-- What is made of the bytes of a table file and those of submissions, by rules that say what of the
+-- games counts: the bytes of the replies that were put, and the entries and the bytes of a book.
 pub record Headline (rules : CountingRules) (file bytes put : List ℕ) (entries : List Entry)
     (book : List ℕ) : Type 0 where
   -- the rules are within their bounds, and the file is a table
@@ -44,7 +44,8 @@ pub record Headline (rules : CountingRules) (file bytes put : List ℕ) (entries
       (lines bytes) replies games entries book
   pub replied : put ≡ flat_map (λ r. r ++ 10 ∷ []) replies
 
--- all bytes that the two sources handed out, and those that the sink took
+-- all bytes that the sources of the table and of the submissions handed out, and those that the
+-- sink of the replies took: any, if it doesn't tell them, but the program's sink does
 pub record EndBytes (e : EndStates) : Type 0 where
   pub file : List ℕ
   pub bytes : List ℕ

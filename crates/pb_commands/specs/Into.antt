@@ -17,14 +17,15 @@ use Rattle.pb_commands.specs.declared.run.Report.{Report}
 use Rattle.pb_commands.specs.declared.run.Taken.{Taken}
 use Rattle.pb_commands.specs.declared.store.StoreError.{StoreError}
 
--- the bytes of the book's entries were kept with this answer, which counts them
+-- the bytes of the book's entries went to the store, whose answer counts the entries, or tells why
+-- they weren't kept
 abbrev pub KeepsEntries : Change StoreState → Taken → Result ℕ StoreError → Type 0
 KeepsEntries store taken answer = (entries : List Entry) × MakesBook taken (Ok entries)
     × across KeepsBytes store answer (book_bytes entries)
     × IfOk answer (λ n. n ≡ min (length entries) (2 ^ 64 - 1))
 
--- the book of what was taken was kept, or not; or there is none by the fault that ended that, and
--- the store is as it was
+-- the book of what was taken was kept, or the store told why not; or a fault ended the taking, so
+-- that there is no book, and the store is as it was
 abbrev pub KeepsBook : Change StoreState → Taken → Result Report NoBook → Type 0
 KeepsBook store taken (Ok report) =
     (taken.end ≡ Ok report.totals) × KeepsEntries store taken (Ok report.entries)

@@ -8,7 +8,7 @@ use Rattle.pb_board.specs.Text.{fen_text}
 use Rattle.pb_board.specs.Words.{word_of}
 use Rattle.pb_commands.specs.Judged.{Verdict, refused_for}
 
--- what comes of a text for this reason why it is no record
+-- what a text comes to that is no record for this reason
 abbrev pub record_verdict : FenError → Verdict
 record_verdict e = refused_for (codes "fen " ++ word_of e)
 

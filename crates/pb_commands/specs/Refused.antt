@@ -15,14 +15,14 @@ use Rattle.pb_commands.specs.declared.refusal.Refused.TheVariants.{Table, Book, 
 use Rattle.pb_commands.specs.declared.refusal.Stopped.{Stopped}
 use Rattle.pb_commands.specs.declared.refusal.Stopped.TheVariants as stopped
 
--- where a saved ledger isn't loaded for this reason, the line that refuses it, or a fault
+-- what a saved ledger comes to that isn't loaded for this reason: a refusal or a fault
 abbrev pub saved_verdict : LoadError → Verdict
 saved_verdict (load.Line n) = refused_for (codes "ledger line " ++ decimal n)
 saved_verdict load.Read = Err fault.Read
 saved_verdict load.Endless = Err fault.Endless
 saved_verdict load.Memory = Err fault.Memory
 
--- what comes of an input for this reason
+-- what an input comes to that is refused for this reason
 abbrev pub refused_verdict : Refused → Verdict
 refused_verdict (Fen e) = record_verdict e
 refused_verdict (Spelling n) = refused_for (codes "spelling " ++ decimal n)

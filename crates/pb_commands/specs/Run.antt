@@ -19,7 +19,7 @@ MayBeBook left (Ok entries) =
     IsBook (counted left.basis left.accepted) left.basis.rules.least entries × All IsEntry entries
 MayBeBook left (Err fault) = fault ≡ Memory
 
--- the book of what was taken, or the fault that ended that in its place
+-- the book of what was taken is made of it; or there is none, but the fault that ended the taking
 abbrev pub MakesBook : Taken → Result (List Entry) Fault → Type 0
 MakesBook taken made =
     MatchResult taken.end (λ totals. MayBeBook taken.ledger made) (λ fault. made ≡ Err fault)
@@ -37,7 +37,8 @@ Answers run makes (Ok None) = (why : Refused) × run (Err (stopped.Refused why))
 Answers run makes (Err fault) =
     run (Err (stopped.Fault fault)) ⊎ ((taken : Taken) × run (Ok taken) × makes taken (Err fault))
 
--- a run, and of the ledger that it leaves and the entries of its book this is so
+-- a run ended so, and if it took submissions, this is so of the ledger that it leaves with the
+-- entries of each book that may be made
 abbrev pub Headed : (Result Taken Stopped → Type 0) → (LedgerState → List Entry → Type 0)
     → Result Taken Stopped → Type 0
 Headed run says result = run result × IfOk result (λ taken.

@@ -24,7 +24,8 @@ use Rattle.pb_commands.specs.declared.refusal.Stopped.TheVariants as stopped
 use Rattle.pb_commands.specs.Ends.{Change, EndStates, IsSame, JournalStates}
 use Rattle.pb_commands.specs.declared.run.Taken.{Taken}
 
--- a run stopped where it was refused an input for this reason: its line was shown, or a fault came
+-- a run stopped since its input was refused for this reason: the line that says so was put, or a
+-- fault came
 abbrev pub StopsFor : Refused → Change SinkState → Stopped → Type 0
 StopsFor why sink stop = across (Accepts {X = ⊤} (Err why)) sink (Err stop)
 

@@ -1,14 +1,14 @@
 -- The theorem's sentence as one proposition over lines and replies. Each field is a phrase of it.
 -- The first phrase, that no id names two different games, is the premise of the law beside it.
-use Rattle.std.specs.Prelude.{◌≡◌, ℕ, ◌+◌, ◌<◌, ◌⊎◌, ◌↔◌, List, [], ◌++◌, Contains, Some, codes}
-use Rattle.std.specs.Prelude.{slice_get, take}
+use Rattle.std.specs.Prelude.{◌≡◌, ℕ, ◌+◌, ◌<◌, ◌≤◌, ◌⊎◌, ◌↔◌, List, [], ◌++◌, Contains, Some}
+use Rattle.std.specs.Prelude.{codes, length, slice_get, take}
 use Rattle.pb_poly.specs.Book.{BookBytes}
 use Rattle.pb_poly.specs.declared.entry.Entry.{Entry}
 use Rattle.pb_games.specs.Submissions.{Submission}
 use Rattle.pb_accepted.specs.Basis.{Basis}
 use Rattle.pb_accepted.specs.Counting.{IsBook, counted}
 use Rattle.pb_accepted.specs.Laws.{NoRepeats}
-use Rattle.pb_accepted.specs.Replying.{Arrives, IsAccepted, Replies, ok, refused}
+use Rattle.pb_accepted.specs.Replying.{Arrives, IsAccepted, IsNewId, Replies, ok, refused}
 use Rattle.pb_commands.specs.Headline.{Effect}
 
 -- a legal submission that arrived and was accepted: some line submits it, and the reply is `ok`
@@ -24,14 +24,18 @@ pub record Sentence (T : Basis) (L R : List (List ℕ)) (entries : List Entry) (
   -- the book's bytes are those of their book, and decode to its entries
   pub is_book : IsBook (counted T distinct) T.rules.least entries
   pub decodes : (others : List Entry) → BookBytes others book ↔ (others ≡ entries)
-  -- in any order and however often: they are the bytes of each run that accepted the same
+  -- in any order and however often: each run on the same basis that accepted the same submissions
+  -- has the same bytes
   pub any_order : (K Q : List (List ℕ)) (games : List Submission) (others : List Entry)
       (bytes : List ℕ) → Effect T K Q games others bytes
       → ((s : Submission) → WasAccepted K Q s ↔ WasAccepted L R s) → bytes ≡ book
-  -- every legal arrival is accepted unless room or memory is refused
+  -- every legal arrival is accepted unless room or memory is refused: its id is new to the games
+  -- held before it, and as many as may be are held, or fewer
   pub arrivals : (i : ℕ) (s : Submission) → Arrives L i s → ((n : ℕ) × IsAccepted ok L R i s n)
-      ⊎ ((slice_get R i ≡ Some (refused (s.0 ++ codes " full")))
-      ⊎ (slice_get R i ≡ Some (refused (s.0 ++ codes " memory"))))
+      ⊎ ((held : List Submission) × Replies 1000000 [] (take i L) (take i R) held
+      × IsNewId s.0 held
+      × (((1000000 ≤ length held) × (slice_get R i ≡ Some (refused (s.0 ++ codes " full"))))
+      ⊎ ((length held < 1000000) × (slice_get R i ≡ Some (refused (s.0 ++ codes " memory"))))))
   -- a repeat is answered as its first acceptance was
   pub repeats : (i j n : ℕ) (s : Submission) → i < j → IsAccepted ok L R i s n → Arrives L j s
       → slice_get R j ≡ Some (ok s n)

@@ -14,9 +14,8 @@ pub record StoreState : Type 0 where
   pub handed : Option (List ℕ)
   pub fault : Option StoreError
 
--- what keeping these bytes may leave, when it fails, in the place of what was there: nothing else
--- where the store couldn't be opened, a front of the bytes where a write failed or memory was
--- wanting
+-- what keeping these bytes leaves when it fails and what was there is gone: a front of the bytes,
+-- where a write failed or memory was wanting; a store that couldn't be opened loses nothing
 abbrev pub Spoils : StoreState → StoreError → List ℕ → Type 0
 Spoils new Open bytes = ⊥
 Spoils new why bytes = (count : ℕ) × (new.handed ≡ Some (take count bytes))

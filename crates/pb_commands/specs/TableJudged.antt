@@ -5,7 +5,7 @@ use Rattle.pb_poly.specs.declared.table_file.TableFault.TheVariants.{Long, Line,
 use Rattle.pb_io.specs.Fault.{fault_of_read}
 use Rattle.pb_commands.specs.Judged.{Verdict, refused_for}
 
--- what comes of a file for this reason why there is no table
+-- what a file comes to that gave no table for this reason
 abbrev pub table_verdict : TableFault → Verdict
 table_verdict Long = refused_for (codes "table long")
 table_verdict (Line number) = refused_for (codes "table line " ++ decimal number)

@@ -11,7 +11,7 @@ use Rattle.pb_commands.specs.BookJudged.{book_verdict}
 use Rattle.pb_commands.specs.Judged.{ByInput, Verdict}
 use Rattle.pb_commands.specs.Refused.{StopsOrEnds}
 use Rattle.pb_commands.specs.TableJudged.{table_verdict}
-use Rattle.pb_commands.specs.declared.probe.Finder.{Finder}
+use Rattle.pb_commands.specs.declared.finder.Finder.{Finder}
 use Rattle.pb_commands.specs.declared.refusal.Stopped.{Stopped}
 
 -- The table is judged first and the book second. Where both are had this is so of them, and else

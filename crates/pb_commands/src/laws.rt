@@ -22,8 +22,10 @@ ghost use Rattle.pb_commands.specs.LookupShown.{LookupShown};
 ghost use Rattle.pb_commands.specs.ProbeShown.{ProbeShown, ProbesSources};
 ghost use Rattle.pb_commands.specs.Refused.{taken};
 ghost use Rattle.pb_commands.specs.declared.refusal.Stopped.{Stopped};
+ghost use Rattle.pb_commands.specs.declared.run.Report.{Report};
 
 use crate::refusal::Stopped;
+use crate::run::Report;
 
 /// No fault ends `run_fen` but one of the sink.
 pub fn fen_ends()
@@ -38,9 +40,10 @@ pub fn epd_ends()
         → IfKnown s s' (λ ls. PutsText (LinesShown LineShown 1 ls) k k' answer) }
 {}
 
-/// Reasons why a command stopped are equal exactly where they are one.
+/// Reports are equal exactly where they are one, and so are reasons why a command stopped.
 pub fn equal_values()
-    ensures { (a b : Stopped) → Decides (⟦<Stopped as PartialEq>⟧.eq a b) (a ≡ b) }
+    ensures reports { (a b : Report) → Decides (⟦<Report as PartialEq>⟧.eq a b) (a ≡ b) }
+    ensures stopped { (a b : Stopped) → Decides (⟦<Stopped as PartialEq>⟧.eq a b) (a ≡ b) }
 {}
 
 /// What `run_show` puts, where its bytes are known, is what they show; only want of memory comes in

@@ -11,6 +11,7 @@ mod epd;
 mod exit;
 mod export;
 mod fen;
+mod finder;
 mod journaling;
 mod keeping;
 pub mod laws;

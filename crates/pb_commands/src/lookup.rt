@@ -7,11 +7,12 @@ ghost use Rattle.pb_commands.specs.LookupRun.{LooksUp};
 ghost use Rattle.pb_commands.specs.LookupShown.{moves_line};
 ghost use Rattle.pb_commands.specs.RecordJudged.{AsRecord};
 
+use crate::finder::Finder;
 use crate::line_answer::LineAnswer;
 use crate::line_refusal::{is_blank, put_refusal, refuse_line};
 use crate::lines::answer_lines;
 use crate::output::put_line;
-use crate::probe::{Finder, put_found};
+use crate::probe::put_found;
 use crate::refusal::Stopped;
 use pb_board::{Setup, read_fen, without_return};
 use pb_epd::{EpdError, read_epd};

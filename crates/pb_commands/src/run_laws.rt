@@ -2,7 +2,7 @@
 //! nothing.
 
 ghost use Rattle.std.specs.Bool.{Decides};
-ghost use Rattle.std.specs.Prelude.{◌≡◌, ◌⊎◌, ◌++◌, [], ℕ, Bool, Err, Ok, false, List, true};
+ghost use Rattle.std.specs.Prelude.{◌≡◌, ◌⊎◌, ◌++◌, [], ℕ, Bool, Err, Ok, Some, false, List, true};
 ghost use Rattle.pb_io.specs.LineTask.{IfKnown};
 ghost use Rattle.pb_io.specs.Sink.{SinkState};
 ghost use Rattle.pb_io.specs.Source.{SourceState};
@@ -30,7 +30,7 @@ ghost use Rattle.pb_commands.specs.declared.keeping.NoBook.{NoBook};
 ghost use Rattle.pb_commands.specs.declared.store.StoreError.{StoreError};
 ghost use Rattle.pb_commands.specs.CheckShown.{CheckShown};
 ghost use Rattle.pb_commands.specs.ContinueHeadline.{HasHeadlineOfBoth};
-ghost use Rattle.pb_commands.specs.Headline.{Effect};
+ghost use Rattle.pb_commands.specs.Headline.{Effect, HasHeadline, Headline};
 
 use crate::keeping::NoBook;
 use crate::store::StoreError;
@@ -44,6 +44,15 @@ pub fn sentence()
     ensures { (T : Basis) (L R : List (List ℕ)) (games : List Submission) (entries : List Entry)
         (book : List ℕ) → OneGame L → Effect T L R games entries book
         → Sentence T L R entries book }
+{}
+
+/// Over bytes in memory the theorem is of just these bytes.
+pub fn in_memory()
+    ensures { (rules : CountingRules) (e : EndStates) (file bytes put : List ℕ)
+        (entries : List Entry) (book : List ℕ) → e.table.old.to_come ≡ Some file
+        → e.lines.old.to_come ≡ Some bytes → e.replies.old.bytes ≡ Some []
+        → e.replies.new.bytes ≡ Some put → HasHeadline rules e entries book
+        → Headline rules file bytes put entries book }
 {}
 
 /// What an earlier run saved is what a run holds that goes on from it: both are one long run.

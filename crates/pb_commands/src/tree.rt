@@ -4,7 +4,8 @@ ghost use Rattle.pb_board.specs.Position.{IsSetup};
 ghost use Rattle.pb_commands.specs.Tree.{PutsTree, Tree};
 ghost use Rattle.pb_commands.specs.TreeRun.{GrowsTree};
 
-use crate::probe::{Finder, put_found};
+use crate::finder::Finder;
+use crate::probe::put_found;
 use crate::refusal::{Refused, Stopped, accept};
 use pb_board::{Setup, read_fen};
 use pb_io::{Fault, Sink, Source};

@@ -4,7 +4,7 @@ use Rattle.std.proofs.lemmas.Result.{err_from_is_err_and}
 use Rattle.pb_moves.specs.Moved.{Moved}
 use Rattle.pb_poly.specs.Found.{Found}
 use Rattle.pb_commands.proofs.Trees.{indented, is_played, line_fails, none_put, tree_fails, tree_more, tree_put}
-use Rattle.pb_commands.proofs.probe.Finder.+put_tree.Goals as goal
+use Rattle.pb_commands.proofs.finder.Finder.+put_tree.Goals as goal
 
 pub loop-m-init : goal.loop-m-init
 loop-m-init g t c = none_put _ _ _ _

@@ -6,7 +6,7 @@ use Rattle.pb_poly.specs.TableReading.{ReadsTable}
 use Rattle.pb_commands.specs.WithBook.{ReadsBoth}
 use Rattle.pb_commands.specs.declared.refusal.Refused.TheVariants.{Book, Table}
 use Rattle.pb_commands.proofs.Stopping.{accepted, refused}
-use Rattle.pb_commands.proofs.probe.Finder.read.Goals as goal
+use Rattle.pb_commands.proofs.finder.Finder.read.Goals as goal
 
 pub returns-in_err-table : goal.returns-in_err-table
 returns-in_err-table g c =

@@ -2,7 +2,7 @@ use Rattle.std.proofs.Common.{◌+◌, ◌-◌}
 use Rattle.pb_moves.specs.Successor.{after}
 use Rattle.pb_commands.specs.Tree.{Tree}
 use Rattle.pb_commands.proofs.Trees.{PutsBranches}
-use Rattle.pb_commands.proofs.probe.Finder.+put_tree.Given as goal
+use Rattle.pb_commands.proofs.finder.Finder.+put_tree.Given as goal
 
 abbrev pub decreases-put_tree : goal.decreases-put_tree
 decreases-put_tree g l = l.plies
