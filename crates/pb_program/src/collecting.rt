@@ -2,7 +2,7 @@
 
 ghost use Rattle.std.specs.Prelude.{◌≡◌};
 ghost use Rattle.pb_files.specs.Ends.{syncs};
-ghost use Rattle.pb_program.specs.Ordered.{is_synced};
+ghost use Rattle.pb_program.specs.Ordered.{IsJournalPath, is_synced};
 
 use crate::command::input;
 use crate::ordered;
@@ -101,7 +101,8 @@ fn add_games<'a, const MODE: u8>(
     order: &CollectOrder<'a>,
     ends: &mut Ends<FileSource<'a>, impl Source, impl Sink, impl Watcher>,
 ) -> Result<Report, Stop>
-    requires { syncs MODE ≡ is_synced order.now.kept }
+    requires mode { syncs MODE ≡ is_synced order.now.kept }
+    requires path { IsJournalPath order.now.kept named.name.now }
 {
     let Some(mut journal) = open_journal::<MODE>(named)? else {
         ends.replies
