@@ -84,7 +84,7 @@ def module_of(path):
 
 
 def modules_of(crate):
-    """Each type and trait of the crate, and the module that declares it: its methods' module."""
+    """Each type and trait of the crate, and the module that declares it: its own methods' module."""
     found = {}
     for file in sorted((CRATES / crate / "src").rglob("*.rt")):
         declared = r"^(?:pub(?:\(\w+\))? )?(?:struct|enum|trait) (\w+)"
@@ -100,7 +100,8 @@ def functions_of(crate, path):
     for at, line in enumerate(lines):
         if re.match(r"(unsafe )?impl\b|(pub(\(\w+\))? )?trait\b", line):
             to, trait = owner_of(" ".join(lines[at:]).partition("{")[0])
-            owner = (*modules.get(to, module_of(path)), to + trait)
+            home = module_of(path) if trait else modules.get(to, module_of(path))
+            owner = (*home, to + trait)
         elif line.startswith("}"):
             owner = module_of(path)
         begun = re.match(r"( *)(?:pub(?:\([a-z ]+\))? )?(?:const |unsafe )*fn (\w+)", line)

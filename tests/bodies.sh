@@ -22,6 +22,10 @@ more: tiny
 
 pub mod laws;
 pub mod least;
+
+pub const fn most() -> u32 {
+    9
+}
 ==== crates/tiny/src/laws.rt
 //! Laws.
 
@@ -80,9 +84,22 @@ pub fn second(a: u32) -> u32
 {
     least_of_three(a, 1, 2)
 }
+==== crates/more/src/finder.rt
+pub struct Finder;
+==== crates/more/src/finding.rt
+impl Find for Finder {
+    fn find(&self) -> u32 {
+        1
+    }
+}
+==== crates/more/proofs/finding/FinderFind/find/Answers.antt
+pub returns : goal.returns
+returns c = c.one
 ==== crates/more/proofs/more/first/Answers.antt
 pub returns : goal.returns
 returns c = c.least.ensures.left
+==== crates/more/proofs/more/+second/Answers.antt
+pub returns : goal.returns
 ==== crates/more/specs/Words.antt
 pub IsLow : ℕ → Type 0
 IsLow n = n ≤ 1
@@ -96,7 +113,7 @@ IsWord n = IsLow n × (n ≤ 2)
 #!/bin/sh
 kit=${0%/path/rt}/kit
 case $1 in
-    version) echo 'rattle-kit logic 1' ;;
+    version) echo "rattle-kit logic $(wc -l < "$0")" ;;
     doc) echo "$kit/START-HERE.md" ;;
     # The last word is a folder, where the words of a program are that is to be built and run.
     try) for word; do :; done && exec sh "$kit/program" "$(tail -n 1 "$word/waits.args")" ;;
@@ -140,9 +157,10 @@ not_proved() {
         "\`search\` did not prove \`$2\`$waits"
 }
 
-# answer_fails WHY: what is said where a written answer of the second function proves nothing
+# answer_fails WHY: what is said where a written answer of the second function proves nothing, in
+# the folder that it has if it calls itself
 answer_fails() {
-    echo "./proofs/least/least_of_three/Answers.antt:5:14: error: \`returns\`: $1"
+    echo "./proofs/least/+least_of_three/Answers.antt:5:14: error: \`returns\`: $1"
     echo "fn tiny::least::least_of_three: not proved$waits"
 }
 
@@ -189,7 +207,7 @@ report_more() {
 # all_goals FOLDER: writes there which goals the right body of `more::first` has
 all_goals() {
     mkdir -p "$1/Rattle-more-proofs/more/first"
-    printf 'abbrev pub %s : Type 0\n' returns returns-then > \
+    printf 'abbrev pub %s : Type 0\n' returns returns-then-b > \
         "$1/Rattle-more-proofs/more/first/Goals.antt"
 }
 
@@ -203,7 +221,7 @@ for word; do
     [ "$before" != --generated ] || all_goals "$word"
     before=$word
     case $word in
-        laws::low | laws::odd | laws::word | more::*) report_more "$word" ;;
+        laws::low | laws::odd | laws::word | more::* | finding::*) report_more "$word" ;;
         least::least) report_first ;;
         least::least_of_three) report_second ;;
         laws::one) echo 'fn tiny::laws::one: proved' ;;
@@ -239,15 +257,15 @@ anew() {
     mkdir -p "$work/crates/tiny/bodies" "$work/crates/more/bodies"
 }
 
-# judges STATUS LAST: whether the script ends with this status and this last line. What it says is
-# in $work/said, and $runs is how often it had the prover run.
+# judges STATUS LAST: whether the script, with $option where there is one, ends with this status and
+# this last line. What it says is in $work/said, and $runs is how often it had the prover run.
 judges() {
     due=$1 status=0
     : > "$work/runs"
     (
         cd "$work"
         env PATH="$work/path:$PATH" XDG_CACHE_HOME="$work/cache" RUNS="$work/runs" RT_JOBS=1 \
-            python3 -B scripts/bodies.py
+            python3 -B scripts/bodies.py ${option:+"$option"}
     ) > "$work/said" 2>&1 || status=$?
     runs=$(wc -l < "$work/runs")
     is_status "$due" || return 1
@@ -336,7 +354,8 @@ unread() {
     holds judges 1 '0 passed, 0 failed'
 }
 
-# What has passed is kept until a body, the crate or the script changes. What has failed isn't.
+# What has passed is kept until a body, the crate, the script or the toolchain changes. What has
+# failed isn't. Nothing kept is looked at with --anew.
 kept() {
     anew
     body least-first "$both" "$wrong"
@@ -349,10 +368,12 @@ kept() {
     done
     body least-first "$both" "$wrong"
     takes 0
-    for changed in crates/tiny/src/laws.rt scripts/bodies.py; do
+    for changed in crates/tiny/src/laws.rt scripts/bodies.py path/rt; do
         echo >> "$work/$changed"
         takes 1
     done
+    option=--anew
+    takes 1
 }
 
 # What has passed over another crate stays so when a body changes there, or how it is proved: no
@@ -372,6 +393,9 @@ kept_above() {
         "$work/crates/tiny/src/least.rt"
     takes 1
     echo 'IsLeast n m = n ≤ m' >> "$work/crates/tiny/specs/Numbers.antt"
+    takes 1
+    # What such a function gives may be the value of a constant.
+    sed -i 's/^    9$/    8/' "$work/crates/tiny/src/lib.rt"
     takes 1
     echo 'lemma : ℕ' > "$work/crates/tiny/proofs/Lemmas.antt"
     takes 1
@@ -404,10 +428,19 @@ imported() {
     holds test "$runs" -eq 1
 }
 
+# The methods of a trait have the module of their file in their names, wherever their type stands.
+elsewhere() {
+    anew
+    more find-two 'file: src/finding.rt' 'old:         1' \
+        "new:         2 // fails finding::FinderFind::find returns"
+    holds judges 0 '1 passed, 0 failed'
+    holds says 'find-two: refused at `returns` of more::finding::FinderFind::find'
+}
+
 # A goal that only the wrong body has says nothing of the contract. Where a written answer shows
 # that the right body has it, or the prover does, it refuses the body.
 own_goals() {
-    for goal in returns returns-then; do
+    for goal in returns returns-then-b; do
         anew
         more first-one 'file: src/more.rt' 'old:     least(a, 1)' \
             "new:     least(1, 1) // fails more::first $goal"
@@ -416,8 +449,13 @@ own_goals() {
     done
     anew
     more first-same 'file: src/more.rt' 'old:     least(a, 1)' \
-        'new:     if a > 1 { 1 } else { a } // fails more::first returns-else'
-    passes 0 first-same 'the right body has no goal `returns-else`, so this shows nothing'
+        'new:     if a > 1 { 1 } else { a } // fails more::first returns-then'
+    passes 0 first-same 'the right body has no goal `returns-then`, so this shows nothing'
+    # The folder of a function that calls itself has a plus in front of its name.
+    anew
+    more second-same 'file: src/more.rt' 'old:     least_of_three(a, 1, 2)' \
+        'new:     least_of_three(1, a, 2) // fails more::second returns-then'
+    passes 0 second-same 'the right body has no goal `returns-then`, so this shows nothing'
 }
 
 # turn NAME JUDGE FROM TO: gives the crate `more` a wrong definition, which this judges
@@ -526,6 +564,7 @@ check 'what no prover has judged is not refused' unread
 check 'what has passed is kept as long as nothing changes' kept
 check 'what has passed stays so when a body below changes' kept_above
 check 'an import that renames is tried alone' imported
+check 'a trait'"'"'s methods are found by the module of their file' elsewhere
 check 'a goal that only the wrong body has refuses none' own_goals
 check 'definitions are judged by laws of their own' judged
 check 'each mistake that nobody may make has its edit' list

@@ -45,8 +45,9 @@ from lib.specs import Definition, Specs
 
 TABLE = pathlib.Path("tests/data/definitions.txt")
 # What is run, with all that it rests on.
-SEEDS = ("pb_board.Position.IsRecord", "pb_board.Text.fen_text", "pb_board.Refusal.IsDueFen",
-         "pb_board.Refusal.IsFirstOf", "pb_board.Refusal.fen_errors", "pb_board.Words.word_of",
+SEEDS = ("pb_board.Position.IsRecord", "pb_board.Text.fen_text", "pb_board.Text.setup_text",
+         "pb_board.Refusal.IsDueFen", "pb_board.Refusal.IsFirstOf", "pb_board.Refusal.fen_errors",
+         "pb_board.Words.word_of",
          "pb_moves.Legal.Legal", "pb_moves.Attacks.IsPlayable", "pb_moves.Successor.after",
          "pb_moves.Successor.IsAfter", "pb_moves.Clocks.record_after",
          "pb_moves.Spelling.spelling", "pb_poly.Key.key", "pb_poly.Key.IsKey",
@@ -486,7 +487,7 @@ class Asked:
             for record, _ in plies_of:
                 add(record)
             self.played.append((start, [m for _, m in plies_of if m]))
-        for _ in range(so_many(20)):
+        for _ in range(max(1, so_many(20))):
             play(Record(chess_setups.START, 0, 1), 60)
         made = list(records)
         strange = [make(chance) for make, count in chess_setups.STRANGE

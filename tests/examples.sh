@@ -13,6 +13,8 @@ PATH=$PATH:/usr/games
 make -s install PROGRAM="$PROGRAM" PREFIX="$work/put"
 top=$PWD
 shared=$work/put/share/pbook
+mkdir "$work/temporary"
+export TMPDIR="$work/temporary"
 
 # as_pgn: the games of these submission lines as pgn-extract writes them, without a move number
 as_pgn() {
@@ -22,19 +24,23 @@ as_pgn() {
 }
 
 # tells_of STATUS TEXT COMMAND..: whether the command ends with this status, and these are the lines
-# on its standard error. What it prints is in `printed`.
+# on its standard error. What it prints is in `printed`. No temporary file may be left.
 tells_of() {
     due=$1 status=0
     printf '%s\n' "$2" | sed '/^$/d' > due
     shift 2
     "$@" > printed 2> told || status=$?
-    same_lines due told && [ "$status" -eq "$due" ] && return
-    echo "    the status is $status"
+    left=$(ls "$TMPDIR")
+    same_lines due told && [ "$status" -eq "$due" ] && [ -z "$left" ] && return
+    echo "    the status is $status, and this is left: $left"
     return 1
 }
 
 lines_of_pgn() {
-    head -n 60 "$work/games" | tr -d '\r' > games
+    head -n 59 "$work/games" | tr -d '\r' > games
+    # Without -w, pgn-extract breaks a line of more than some 1,000 plies.
+    long=$(yes g1f3 g8f6 f3g1 f6g8 | head -n 300 | paste -sd ' ')
+    printf 'long\t1-0\t%s\t%s\n' "$start" "$long" >> games
     sed 40q games | as_pgn | pgn-extract -s -Wsan > one.pgn
     sed 1,40d games | as_pgn | pgn-extract -s -Wsan > -two.pgn
     # The last line has no end, and no empty line follows it.
@@ -68,10 +74,12 @@ pgn_to_lines.sh: $two: games: 20, left out: 0, cut: 0" \
 # The start of a game may have no clocks.
 starts_of_pgn() {
     for start in '4k3/8/8/8/8/8/4P3/4K3 w - -' '4k3/8/8/8/8/8/4P3/4K3 w - - 3 9'; do
-        printf '[Result "1-0"]\n[SetUp "1"]\n[FEN "%s"]\n\n1. e4 Kd7 1-0\n\n' "$start"
-    done > starts.pgn
-    holds tells_of 0 'pgn_to_lines.sh: starts.pgn: games: 2, left out: 0, cut: 0' \
-        "$shared/pgn_to_lines.sh" w1 starts.pgn
+        printf '[Result "1-0"]\n[SetUp "1"]\n[FEN "%s"]\n\n1. e4 Kd7 1-0\n\n' "$start" \
+            > "start${start##* }.pgn"
+    done
+    holds tells_of 0 'pgn_to_lines.sh: start-.pgn: games: 1, left out: 0, cut: 0
+pgn_to_lines.sh: start9.pgn: games: 1, left out: 0, cut: 0' \
+        "$shared/pgn_to_lines.sh" w1 start-.pgn start9.pgn
     holds test "$(cut -f 3 printed)" = '4k3/8/8/8/8/8/4P3/4K3 w - - 0 1
 4k3/8/8/8/8/8/4P3/4K3 w - - 3 9'
     holds ends 0 "$PROGRAM" check < printed > replies
@@ -127,6 +135,10 @@ no_pgn() {
         holds tells_of 1 "pgn_to_lines.sh: one.pgn.${by#*:}: ${by%:*} is not installed" \
             env PATH="$PWD/few" "$shared/pgn_to_lines.sh" w1 "one.pgn.${by#*:}"
     done
+    rm few/pgn-extract
+    sed 's|:/usr/games||' "$shared/pgn_to_lines.sh" > elsewhere.sh
+    holds tells_of 1 'pgn_to_lines.sh: pgn-extract is not installed' \
+        env PATH="$PWD/few" /bin/sh elsewhere.sh w1 empty.pgn
     holds tells_of 1 "pgn_to_lines.sh: usage: pgn_to_lines.sh NAME FILE.. > lines" \
         "$shared/pgn_to_lines.sh" no.pgn
     holds tells_of 1 'pgn_to_lines.sh: empty.pgn: games: 0, left out: 0, cut: 0
@@ -144,10 +156,11 @@ pgn_to_lines.sh: a file was not read to its end' \
         env PATH="$PWD/bin:$PATH" "$shared/pgn_to_lines.sh" w1 games.pgn
 }
 
-# The bundled games: 20, of which one has no result, and four begin elsewhere.
+# The bundled games: 20, of which one has no result, and four begin elsewhere. As root and cron do,
+# this searches no /usr/games.
 bundled_pgn() {
     holds tells_of 0 'pgn_to_lines.sh: games.pgn: games: 20, left out: 0, cut: 0' \
-        in_shared ./pgn_to_lines.sh w1 games.pgn
+        in_shared env PATH="${PATH%:/usr/games}" ./pgn_to_lines.sh w1 games.pgn
     holds test "$(cut -f 3 printed | sort | uniq -c | awk '{ print $1 }' | tr '\n' ' ')" = '4 16 '
     mv printed lines
     holds tells_of 0 '' "$PROGRAM" collect -q --plies 24 --least 3 "$table" book.bin < lines
@@ -157,18 +170,20 @@ bundled_pgn() {
 }
 in_shared() (cd "$shared" && exec "$@")
 
-# as_source FILE: the numbers of a table as PolyGlot's source file has them
-as_source() { sed 's/.*/   U64(0x&),/' "$1"; }
+# as_source FILE: the numbers of a table as PolyGlot's source file has them, every other one in
+# small letters
+as_source() { sed '1~2y/abcdef/ABCDEF/; s/.*/   U64(0x&),/' "$1"; }
 
 # The numbers of the program that is installed are those of its source file. One of them that is
 # another one, one too few or one too many make no table.
 own_table() {
     from=$shared/table_from_polyglot.sh
-    holds tells_of 0 '' "$from"
+    holds tells_of 0 '' env PATH="${PATH%:/usr/games}" "$from"
     mv printed numbers
     as_source numbers > random.c
     holds tells_of 0 '' "$from" random.c
-    holds cmp printed numbers
+    tr A-F a-f < printed > small
+    holds cmp small numbers
     { sed 780q random.c && sed -n 1p random.c; } > other.c
     holds ends 1 "$from" other.c > printed 2> told
     holds grep -q '^table_from_polyglot.sh: the numbers of other.c give the initial array' told
@@ -196,6 +211,9 @@ client_answers() {
     "$PROGRAM" collect -q "$table" other.bin < "$work/games" > replies
     head -n 100 "$work/games" > first
     tail -n +101 "$work/games" > later
+    # A table may have a name like an option's.
+    cp "$table" ./-table
+    asked=-table
     client 0 '' first later
     holds cmp printed replies
     holds is_new "$book"
@@ -217,6 +235,10 @@ client_faults() {
     cat "$table" "$table" > long
     asked=long
     client 1 'pbook: long: it is longer than a table' "$work/games"
+    holds test ! -s printed
+    sed '$s/./-/' "$table" > wrong
+    asked=wrong
+    client 1 "pbook: wrong: line 781 isn't 16 hexadecimal digits" "$work/games"
     holds test ! -s printed
     # Nor is a journal that is none the answer to a game.
     asked=$table
@@ -310,6 +332,15 @@ with collector() as it:
     printf 'w2\t1-0\t%s\te2e4 e7' "$start" >> bytes
     client 0 'client.py: bytes: its last line has no end; it is left out' bytes
     holds test "$(wc -l < printed)" -eq 3
+    # An answer is printed before the next line comes.
+    mkfifo slow
+    PYTHONUNBUFFERED='' PBOOK=$PROGRAM "$shared/client.py" "$table" "$book" "$journal" slow \
+        > answers &
+    exec 7> slow
+    head -n 1 "$work/games" >&7
+    holds awaits test -s answers
+    exec 7>&-
+    holds wait $!
 }
 
 # Each thread gets the answers to its own lines.
@@ -388,6 +419,10 @@ nights() {
     mv srv ./-srv
     holds ends 0 in_place "$shared/nightly" -srv
     mv ./-srv srv
+    # A night may have no games.
+    : > srv/tonight.txt
+    night 0 ''
+    holds is_new srv/book.bin
     # Options are handed on: the first plies alone are counted.
     night 0 '' --plies 2 --least 3
     holds cmp srv/book.bin "$top/tests/data/few.bin"
@@ -408,6 +443,11 @@ cut_night() {
     cp whole srv/tonight.txt
     night 0 ''
     holds test "$(count '^ok' srv/replies)" -eq 9
+    # Lines may go while they are copied.
+    printf '#!/bin/sh\nexec /usr/bin/head -n 3 tonight.txt\n' > "$work/put/bin/head"
+    chmod 755 "$work/put/bin/head"
+    night 1 'nightly: tonight.txt changed while it was read, and nothing was done'
+    rm "$work/put/bin/head"
 }
 
 # A signal to the script alone, while the program runs, loses no answers.
@@ -421,6 +461,18 @@ stopped_night() {
     holds wait "$night"
     holds test "$(wc -l < srv/replies)" -eq "$(wc -l < srv/tonight.txt)"
     holds is_new srv/book.bin
+    # Where the script alone is killed, the program goes on, and has the folder until it ends.
+    rm srv/table.txt
+    mkfifo srv/table.txt
+    "$shared/nightly" srv &
+    awaits test -e srv/.replies.new
+    kill -9 $!
+    wait $! 2> /dev/null || :
+    status=0
+    flock -n srv/.nightly.lock true || status=$?
+    cat "$table" > srv/table.txt
+    holds test "$status" -eq 1
+    holds awaits flock -n srv/.nightly.lock true
 }
 
 bad_nights() {

@@ -224,7 +224,7 @@ others() {
     { cat pgn && head -c 20000 /dev/zero | tr '\0' ' '; } > long_pgn
     { printf '\037\213' && head -c 29 /dev/zero && echo; } > packed
     cp "$work/games" all_games
-    printf 'text of another kind\nand more of it\n' > text
+    printf '[text of a kind]\n[and more of it]\n' > text
 }
 
 refused_books() {
@@ -618,8 +618,9 @@ no_games() {
 $file: it holds no game$text" games "$file"
         holds says_only ''
         # The other files are printed.
-        holds test "$("$PROGRAM" games games "$file" games 2> told | wc -l)" -eq 18
-        holds grep -qxF "pbook: $file: it holds no game$text" told
+        holds tells_of 1 "$skipped
+$file: it holds no game$text" games games "$file" games
+        holds test "$(wc -l < "$work/replies")" -eq 18
     done << 'END'
 pgn|; it looks like PGN
 packed|; it is packed by gzip; zcat unpacks it
@@ -898,6 +899,11 @@ terminal_shared() {
     holds grep -qE "$progress" shown
     holds in_terminal "{ $slowly; } | pbook check"
     holds test "$(grep -c '^ok [^ ]*$' shown)" -eq 3
+    # How far the run is has to be drawn again below each. Else it is drawn from time to time.
+    holds in_terminal "head -n 1 games | pbook check"
+    holds grep -qx 'pbook: 1 line, 1 game, 0 refused' shown
+    holds in_terminal "head -n 1 games | pbook check > lines"
+    holds not grep -qx 'pbook: 1 line, 1 game, 0 refused' shown
 }
 
 # A line that is typed isn't written over by a count.

@@ -44,7 +44,7 @@ def piece_of(side: str, kind: str) -> Piece:
 
 
 def pawn_of(side: str) -> Piece:
-    return piece_of(side, Pawn)
+    return Piece(side, Pawn)
 
 
 def colour_number(side: str) -> int:

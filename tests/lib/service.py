@@ -176,6 +176,13 @@ def limits():
     service.process.terminate()
     service.ends(0)
     assert len(JOURNAL.read_bytes().split(b"\n")) == 6
+    # Workers beyond the files that it may open wait until others have gone.
+    service = Service(by=("sh", "-c", 'ulimit -n 16 && exec "$@"', "sh"))
+    for worker in [service.connect() for _ in range(30)]:
+        assert worker.ask(LINES[0]).startswith(b"ok ")
+        worker.cut(False)
+    service.process.terminate()
+    service.ends(0)
 
 
 # Runs serve.py where the system keeps few bytes of what workers have yet to take.
@@ -201,6 +208,10 @@ def slow():
     deaf.send(b"\n" * 6000)
     for line in LINES[:5]:
         assert worker.ask(line).split()[:2] == [b"ok", line.split(b"\t")[0]]
+    # The system asks whether the idle one's machine is still there, by the timer 02.
+    port = ":{:04X}".format(service.address[1])
+    rows = [it.split() for it in pathlib.Path("/proc/net/tcp").read_text().split("\n")[1:-1]]
+    assert any(it[1].endswith(port) and it[3] == "01" and it[5][:2] == "02" for it in rows), rows
     for _ in range(6000):
         assert deaf.answers.readline() == b"refused - shape\n"
     assert idle.ask(LINES[0][9:]).startswith(b"ok ")
