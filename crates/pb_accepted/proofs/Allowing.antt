@@ -4,7 +4,7 @@ use Rattle.std.specs.Prelude.{◌≡◌, ◌≢◌, ℕ, ◌+◌, ◌<◌, ◌�
 use Rattle.pb_games.specs.declared.game.Game.{Game}
 use Rattle.pb_games.specs.declared.refusal.Refusal.{Refusal}
 use Rattle.pb_games.specs.declared.refusal.Refusal.TheVariants.{Conflict, Full, Memory}
-use Rattle.pb_games.specs.Submissions.{Submission, IsLawful}
+use Rattle.pb_games.specs.Submissions.{Submission, Submits}
 use Rattle.pb_games.specs.Refusing.{Refuses}
 use Rattle.pb_accepted.specs.Accepting.{Adds, Along, Answer}
 use Rattle.pb_accepted.specs.Replying.{IsNewId, IsNumber}
@@ -19,7 +19,7 @@ Answers cap A s (Err e) = ⊥
 -- the answer to a line: what the list says of its submission, or else the refusal of the line by
 -- itself
 abbrev pub Reply : ℕ → List Submission → List ℕ → Answer → Type 0
-Reply cap A line r = ((s : Submission) × IsLawful line s × Answers cap A s r) ⊎ ((e : Refusal) × (r ≡ Err e) × Refuses line e)
+Reply cap A line r = ((s : Submission) × Submits line s × Answers cap A s r) ⊎ ((e : Refusal) × (r ≡ Err e) × Refuses line e)
 
 -- the answers that are allowed: the reply, or want of memory where the reply is a new number
 abbrev pub Allowed : ℕ → List Submission → List ℕ → Answer → Type 0

@@ -7,7 +7,7 @@ use Rattle.std.proofs.lemmas.List.Quantifiers.{all_pairs_push}
 use Rattle.std.proofs.lemmas.Option.{slice_get_within, get_or_from_slice_get}
 use Rattle.pb_games.specs.declared.refusal.Refusal.{Refusal}
 use Rattle.pb_games.specs.declared.refusal.Refusal.TheVariants.{Conflict, Full, Memory}
-use Rattle.pb_games.specs.Submissions.{Submission, IsLawful}
+use Rattle.pb_games.specs.Submissions.{Submission, Submits}
 use Rattle.pb_games.specs.Refusing.{Refuses}
 use Rattle.pb_games.proofs.Refused as refused
 use Rattle.pb_accepted.specs.Accepting.{Answer, Adds, Taken, OneGame}
@@ -47,7 +47,7 @@ no_repeats L R S h = Along-keeps AddsAbsent NoRepeats NoRepeats-Adds [] L R S h 
 
 -- each submission of the list is what a line of L submits under its id
 abbrev Agree : List Submission → List (List ℕ) → Type 0
-Agree A L = (s t : Submission) (c : List ℕ) → Contains A s → Contains L c → IsLawful c t → s.0 ≡ t.0 → s ≡ t
+Agree A L = (s t : Submission) (c : List ℕ) → Contains A s → Contains L c → Submits c t → s.0 ≡ t.0 → s ≡ t
 
 Agree-nil : (L : List (List ℕ)) → Agree [] L
 Agree-nil L s t c h = absurd (omega (arith, h.1))
@@ -62,13 +62,13 @@ Agree-Takes : (A : List Submission) (line : List ℕ) (L : List (List ℕ)) (r :
 Agree-Takes A line L r M one agree (inl h) s t c hs hc law e =
     elim (Contains-push_cases A h.0 s (subst (λ X. Contains X s) h.4 hs)) [
       | inl old ↦ agree s t c old (Contains-append_right (line ∷ []) L c hc) law e
-      | inr last ↦ one line c s t (Contains-head line L) (Contains-append_right (line ∷ []) L c hc) (subst (IsLawful line) last h.1) law e
+      | inr last ↦ one line c s t (Contains-head line L) (Contains-append_right (line ∷ []) L c hc) (subst (Submits line) last h.1) law e
     ]
 Agree-Takes A line L r M one agree (inr h) s t c hs hc law e =
     agree s t c (subst (λ X. Contains X s) h.1 hs) (Contains-append_right (line ∷ []) L c hc) law e
 
 -- a submission that isn't in the list has a new id
-new_id : (A : List Submission) (line : List ℕ) (L : List (List ℕ)) (t : Submission) → Agree A (line ∷ L) → IsLawful line t → (Contains A t → ⊥) → IsNewId t.0 A
+new_id : (A : List Submission) (line : List ℕ) (L : List (List ℕ)) (t : Submission) → Agree A (line ∷ L) → Submits line t → (Contains A t → ⊥) → IsNewId t.0 A
 new_id A line L t agree law absent k d lt e =
     let here = Contains-get_or A k d lt in
     absent (subst (Contains A) (agree (get_or A k d) t line here (Contains-head line L) law e) here)
@@ -97,7 +97,7 @@ Contains-number : (A : List Submission) (n : ℕ) (s : Submission) → IsNumber 
 Contains-number A n s h = (h.0, slice_get_within A h.0 s h.2, get_or_from_slice_get A h.0 s s h.2)
 
 answered_arrival : (cap : ℕ) (A : List Submission) (line : List ℕ) (L : List (List ℕ)) (s : Submission) (r : Answer)
-    → length A ≤ cap → Agree A (line ∷ L) → IsLawful line s → Answered cap A s r → Arrives cap A s r
+    → length A ≤ cap → Agree A (line ∷ L) → Submits line s → Answered cap A s r → Arrives cap A s r
 answered_arrival cap A line L s r few agree law (held n e at) = inl (n, e)
 answered_arrival cap A line L s r few agree law (new e fresh room) = inl (length A + 1, e)
 answered_arrival cap A line L s r few agree law (other n g e at differs) =
@@ -110,7 +110,7 @@ memory_arrival cap A s (inl at) = absurd (omega (arith, slice_get_within A at.0 
 memory_arrival cap A s (inr h) = (h.0, h.1)
 
 arrival : (cap : ℕ) (A : List Submission) (line : List ℕ) (L : List (List ℕ)) (s : Submission) (r : Answer)
-    → length A ≤ cap → Agree A (line ∷ L) → IsLawful line s → Allowed cap A line r → Arrives cap A s r
+    → length A ≤ cap → Agree A (line ∷ L) → Submits line s → Allowed cap A line r → Arrives cap A s r
 arrival cap A line L s r few agree law (inl (inl h)) =
     answered_arrival cap A line L s r few agree law (answered cap A s r (subst (λ t. Answers cap A t r) (one_submission line h.0 s h.1 law) h.2))
 arrival cap A line L s r few agree law (inl (inr h)) = absurd (refused.unlawful line h.0 s h.2 law)
@@ -120,7 +120,7 @@ arrival cap A line L s r few agree law (inr (e, inl h)) =
 arrival cap A line L s r few agree law (inr (e, inr h)) = absurd (refused.unlawful line h.0 s h.2 law)
 
 arrivals : (cap : ℕ) (A : List Submission) (L : List (List ℕ)) (R : List Answer) → length A ≤ cap → OneGame L → Agree A L → AllowedRun cap A L R
-    → (i : ℕ) (line : List ℕ) (s : Submission) (r : Answer) → slice_get L i ≡ Some line → IsLawful line s → slice_get R i ≡ Some r
+    → (i : ℕ) (line : List ℕ) (s : Submission) (r : Answer) → slice_get L i ≡ Some line → Submits line s → slice_get R i ≡ Some r
     → (B : List Submission) → Accepted A (take i L) (take i R) B → Arrives cap B s r
 arrivals cap A [] [] few one agree run i line s r here law said B accepted = let none : None ≡ Some line = here in cc
 arrivals cap A (b ∷ L) (q ∷ R) few one agree run zero line s r here law said B accepted =
@@ -128,7 +128,7 @@ arrivals cap A (b ∷ L) (q ∷ R) few one agree run zero line s r here law said
     let same : b ≡ line = cc in
     let f : Some q ≡ Some r = said in
     let answer : q ≡ r = cc in
-    subst (λ x. Arrives cap B s x) answer (subst (λ X. Arrives cap X s q) (sym accepted) (arrival cap A b L s q few agree (subst (λ x. IsLawful x s) (sym same) law) run.1))
+    subst (λ x. Arrives cap B s x) answer (subst (λ X. Arrives cap X s q) (sym accepted) (arrival cap A b L s q few agree (subst (λ x. Submits x s) (sym same) law) run.1))
 arrivals cap A (b ∷ L) (q ∷ R) few one agree run (suc i) line s r here law said B accepted =
     let same = Takes-unique A b q accepted.0 run.0 accepted.1 run.2 in
     arrivals cap run.0 L R (room-Takes cap A b q run.0 few run.1 run.2) (OneGame-tail b L one) (Agree-Takes A b L q run.0 one agree run.2) run.3
@@ -137,7 +137,7 @@ arrivals cap A [] (q ∷ R) few one agree run i line s r here law said B accepte
 arrivals cap A (b ∷ L) [] few one agree run i line s r here law said B accepted = absurd run
 
 pub lawful_arrives : (cap : ℕ) (L : List (List ℕ)) (R : List Answer) → OneGame L → AllowedRun cap [] L R
-    → (i : ℕ) (line : List ℕ) (s : Submission) (r : Answer) → slice_get L i ≡ Some line → IsLawful line s → slice_get R i ≡ Some r
+    → (i : ℕ) (line : List ℕ) (s : Submission) (r : Answer) → slice_get L i ≡ Some line → Submits line s → slice_get R i ≡ Some r
     → (A : List Submission) → Accepted [] (take i L) (take i R) A
     → ((n : ℕ) × (r ≡ Ok n)) ⊎ (((r ≡ Err Full) × IsNewId s.0 A × (length A ≡ cap)) ⊎ ((r ≡ Err Memory) × IsNewId s.0 A × (length A < cap)))
 lawful_arrives cap L R one run i line s r here law said A accepted = arrivals cap [] L R (omega arith) one (Agree-nil L) run i line s r here law said A accepted

@@ -7,7 +7,7 @@ use Rattle.pb_games.specs.declared.refusal.Refusal.TheVariants as refusal
 use Rattle.pb_board.specs.Fields.{field}
 use Rattle.pb_games.specs.Cuts.{fields_of}
 use Rattle.pb_games.specs.Refusing.{Refuses}
-use Rattle.pb_games.specs.Submissions.{IsLawful, Submission}
+use Rattle.pb_games.specs.Submissions.{Submits, Submission}
 use Rattle.pb_games.proofs.Dues.{none_before, order}
 use Rattle.pb_games.proofs.Texts.{fields_back}
 use Rattle.pb_accepted.specs.Accepting.{Answer}
@@ -24,7 +24,7 @@ named_field line (Err refusal.Shape) short = omega arith
 named_field line (Err refusal.Id) short = omega arith
 named_field line (Err e) short = short
 
-named_lawful : (line : List ℕ) (s : Submission) (r : Answer) → IsLawful line s → IsNamedShort line r
+named_lawful : (line : List ℕ) (s : Submission) (r : Answer) → Submits line s → IsNamedShort line r
 named_lawful line s r h =
     let is : field (fields_of line) 0 ≡ s.0 = ap (λ (cells : List (List ℕ)). slice_index_or cells 0 []) (fields_back line s h) in
     named_field line r (omega (arith, ap length is, h.id.few))

@@ -12,7 +12,7 @@ use Rattle.pb_games.specs.Tokens.{tokens_of}
 use Rattle.pb_games.proofs.OneLine.{spellings_injective}
 use Rattle.pb_games.proofs.Played.{legal_fronts}
 use Rattle.pb_games.proofs.Refused.{none_due}
-use Rattle.pb_games.specs.Submissions.{Submission, IsLawful}
+use Rattle.pb_games.specs.Submissions.{Submission, Submits}
 use Rattle.pb_accepted.specs.Refusals.{IsFirst, reasons, IsRefused}
 use Rattle.pb_accepted.proofs.RefusedTexts.{IsSaid, never_said}
 
@@ -56,5 +56,5 @@ never_first [] never why h = h
 never_first (R ∷ Rs) never why (inl h) = never 0 why h
 never_first (R ∷ Rs) never why (inr h) = never_first Rs (λ i. never (suc i)) why h.1
 
-pub lawful_is_not_refused : (line why : List ℕ) (s : Submission) → IsLawful line s → ¬ IsRefused line why
+pub lawful_is_not_refused : (line why : List ℕ) (s : Submission) → Submits line s → ¬ IsRefused line why
 lawful_is_not_refused line why s lawful = never_first (reasons line (fields_of line)) (λ i. never_said line (λ _. Unit {0}) (λ d _. none_due line s lawful d) i tt) why

@@ -7,7 +7,7 @@ use Rattle.std.proofs.lemmas.Option.{slice_get_within, get_or_from_slice_get}
 use Rattle.pb_games.specs.declared.game.Game.{Game}
 use Rattle.pb_games.specs.declared.refusal.Refusal.{Refusal}
 use Rattle.pb_games.specs.declared.refusal.Refusal.TheVariants.{Long, Shape, Id, Result, Fen, Start, Spelling, Plies, Illegal, Conflict, Full, Memory}
-use Rattle.pb_games.specs.Submissions.{Submission, IsLawful}
+use Rattle.pb_games.specs.Submissions.{Submission, Submits}
 use Rattle.pb_games.specs.Refusing.{Refuses}
 use Rattle.pb_games.proofs.OneLine as line
 use Rattle.pb_games.proofs.OneRefused as refusals
@@ -27,7 +27,7 @@ game_of s = s.1
 -- ---- lines
 
 -- a line submits one legal game at most
-pub one_submission : (b : List ℕ) (s t : Submission) → IsLawful b s → IsLawful b t → s ≡ t
+pub one_submission : (b : List ℕ) (s t : Submission) → Submits b s → Submits b t → s ≡ t
 one_submission b s t h k = line.one_lawful b s t h k
 
 -- ---- indices of the list
@@ -73,7 +73,7 @@ new_answer cap A s r fresh h = by (answered cap A s r h)
 
 -- ---- what `submit` answers and leaves, case by case
 
-module _ (cap : ℕ) (A : List Submission) (line : List ℕ) (s : Submission) (lawful : IsLawful line s) where
+module _ (cap : ℕ) (A : List Submission) (line : List ℕ) (s : Submission) (lawful : Submits line s) where
   pub Allowed-full : IsNewId s.0 A → cap ≤ length A → Allowed cap A line (Err Full)
   Allowed-full fresh many = inl (inl (s, lawful, (fresh, many)))
 
@@ -133,7 +133,7 @@ Takes-refusal cap A line e B (inl (inl h)) (inl t) =
     ]
 
 -- a submission that is added is answered with the next number, and there was room for it
-pub new_is_next : (cap : ℕ) (A : List Submission) (line : List ℕ) (s : Submission) (r : Answer) → IsLawful line s → IsNewId s.0 A → HasRoom r → Allowed cap A line r
+pub new_is_next : (cap : ℕ) (A : List Submission) (line : List ℕ) (s : Submission) (r : Answer) → Submits line s → IsNewId s.0 A → HasRoom r → Allowed cap A line r
     → (r ≡ Ok (length A + 1)) × (length A < cap)
 new_is_next cap A line s r law fresh room (inr h) = absurd (room.1 h.0)
 new_is_next cap A line s r law fresh room (inl (inr h)) = absurd (refused.unlawful line h.0 s h.2 law)
@@ -187,12 +187,12 @@ held_answered cap A s n r own at (new e fresh room) = absurd (held_not_new A at.
 held_answered cap A s n r own at (other m g e h differs) = absurd (no_number A m n s g own h differs at)
 held_answered cap A s n r own at (full e fresh many) = absurd (held_not_new A at.0 s at.2 fresh)
 
-reply_held : (cap : ℕ) (A : List Submission) (line : List ℕ) (s : Submission) (n : ℕ) (r : Answer) → HaveOwnIds A → IsLawful line s → IsNumber A n s → Reply cap A line r → r ≡ Ok n
+reply_held : (cap : ℕ) (A : List Submission) (line : List ℕ) (s : Submission) (n : ℕ) (r : Answer) → HaveOwnIds A → Submits line s → IsNumber A n s → Reply cap A line r → r ≡ Ok n
 reply_held cap A line s n r own law at (inl h) =
     held_answered cap A s n r own at (answered cap A s r (subst (λ t. Answers cap A t r) (one_submission line h.0 s h.1 law) h.2))
 reply_held cap A line s n r own law at (inr h) = absurd (refused.unlawful line h.0 s h.2 law)
 
-pub allowed_held : (cap : ℕ) (A : List Submission) (line : List ℕ) (s : Submission) (n : ℕ) (r : Answer) → HaveOwnIds A → IsLawful line s → IsNumber A n s → Allowed cap A line r → r ≡ Ok n
+pub allowed_held : (cap : ℕ) (A : List Submission) (line : List ℕ) (s : Submission) (n : ℕ) (r : Answer) → HaveOwnIds A → Submits line s → IsNumber A n s → Allowed cap A line r → r ≡ Ok n
 allowed_held cap A line s n r own law at (inl h) = reply_held cap A line s n r own law at h
 allowed_held cap A line s n r own law at (inr h) =
     let last : Ok (length A + 1) ≡ Ok n = reply_held cap A line s n (Ok (length A + 1)) own law at h.1 in

@@ -8,7 +8,7 @@ use Rattle.pb_board.specs.Fields.{field}
 use Rattle.pb_board.specs.LineEnd.{with_end}
 use Rattle.pb_games.specs.declared.refusal.Refusal.TheVariants.{Conflict, Full, Memory}
 use Rattle.pb_games.specs.Cuts.{fields_of}
-use Rattle.pb_games.specs.Submissions.{IsLawful, Submission}
+use Rattle.pb_games.specs.Submissions.{Submits, Submission}
 use Rattle.pb_games.proofs.Texts.{fields_back}
 use Rattle.pb_accepted.specs.Accepting.{Answer, Run, Step}
 use Rattle.pb_accepted.specs.Accepting as step
@@ -23,10 +23,10 @@ use Rattle.pb_accepted.proofs.RefusedTexts.{refused_to}
 use Rattle.pb_accepted.proofs.Steps.{runs_number}
 
 -- the id that a lawful line names
-id_is : (line : List ℕ) (s : Submission) → IsLawful line s → field (fields_of line) 0 ≡ s.0
+id_is : (line : List ℕ) (s : Submission) → Submits line s → field (fields_of line) 0 ≡ s.0
 id_is line s h = ap (λ (cells : List (List ℕ)). slice_index_or cells 0 []) (fields_back line s h)
 
-module _ (line : List ℕ) (s : Submission) (law : IsLawful line s) where
+module _ (line : List ℕ) (s : Submission) (law : Submits line s) where
   pub ok_is : (n : ℕ) → reply line (Ok n) ≡ ok s n
   ok_is n = ap (λ (id : List ℕ). reply_text id (Ok n)) (id_is line s law)
 
@@ -95,7 +95,7 @@ cancel : (xs ys zs : List ℕ) → xs ++ ys ≡ xs ++ zs → ys ≡ zs
 cancel [] ys zs e = e
 cancel (x ∷ xs) ys zs e = cancel xs ys zs (ap (drop 1) e)
 
-pub ok_back : (line : List ℕ) (s : Submission) (n : ℕ) (r : Answer) → IsLawful line s → ok s n ≡ reply line r → (m : ℕ) × (r ≡ Ok m) × (decimal m ≡ decimal n)
+pub ok_back : (line : List ℕ) (s : Submission) (n : ℕ) (r : Answer) → Submits line s → ok s n ≡ reply line r → (m : ℕ) × (r ≡ Ok m) × (decimal m ≡ decimal n)
 ok_back line s n (Ok m) law e =
     let same : ok s n ≡ ok s m = e ∙ ok_is line s law m in
     (m, refl, sym (ap (drop 1) (cancel s.0 (32 ∷ decimal n) (32 ∷ decimal m) (ap (drop 3) same))))

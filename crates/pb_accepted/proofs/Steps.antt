@@ -6,7 +6,7 @@ use Rattle.std.proofs.lemmas.List.{length_push}
 use Rattle.std.proofs.lemmas.Option.{get_or_from_slice_get, slice_get_within}
 use Rattle.std.specs.Prelude.{◌<◌, ◌≤◌, ◌⊎◌, All, Some, slice_get}
 use Rattle.pb_games.specs.declared.refusal.Refusal.TheVariants.{Conflict, Full, Memory}
-use Rattle.pb_games.specs.Submissions.{Submission, IsLawful}
+use Rattle.pb_games.specs.Submissions.{Submission, Submits}
 use Rattle.pb_games.specs.declared.refusal.Refusal.{Refusal}
 use Rattle.pb_accepted.specs.Accepting as steps
 use Rattle.pb_accepted.specs.Accepting.{Answer, Run, Step, OneGame, Taken}
@@ -51,7 +51,7 @@ next_is_free : (A : List Submission) (s : Submission) → IsNumber A (length A +
 next_is_free A s at = omega (arith, slice_get_within A at.0 s at.2, at.1)
 
 module _ (cap : ℕ) (A : List Submission) (line : List ℕ) (B : List Submission) where
-  lawful_step : (r : Answer) (s : Submission) → IsLawful line s → Answered cap A s r → Takes A line r B → Step cap A line r B
+  lawful_step : (r : Answer) (s : Submission) → Submits line s → Answered cap A s r → Takes A line r B → Step cap A line r B
   lawful_step r s law (held n e at) takes = steps.repeat s n law at e (Takes-unique A line r B A takes (Takes-held cap A line s law at.0 s.1 r at.2))
   lawful_step r s law (new e fresh room) takes =
       steps.new s law fresh room e (Takes-unique A line r B (A ++ s ∷ []) takes (subst (λ x. Takes A line x (A ++ s ∷ [])) (sym e) (Takes-new cap A line s law (length A + 1) fresh)))
@@ -102,7 +102,7 @@ one_step most A line q r B C own h k no_q no_r =
     reply x (inl h) known = h
     reply x (inr h) known = absurd (known h.0)
 
-pub held_step : (cap : ℕ) (A : List Submission) (line : List ℕ) (s : Submission) (n : ℕ) (r : Answer) (B : List Submission) → HaveOwnIds A → IsLawful line s → IsNumber A n s → Step cap A line r B → r ≡ Ok n
+pub held_step : (cap : ℕ) (A : List Submission) (line : List ℕ) (s : Submission) (n : ℕ) (r : Answer) (B : List Submission) → HaveOwnIds A → Submits line s → IsNumber A n s → Step cap A line r B → r ≡ Ok n
 held_step cap A line s n r B own law at h = allowed_held cap A line s n r own law at (step_to cap A line r B h).0
 
 pub refusal_step : (cap : ℕ) (A : List Submission) (line : List ℕ) (e : Refusal) (B : List Submission) → Step cap A line (Err e) B → B ≡ A
@@ -122,7 +122,7 @@ pub not_held : (A : List Submission) (n : ℕ) (s : Submission) → IsNewId s.0 
 not_held A n s fresh at = subst (λ (x : Submission). x.0 ≢ s.0) (get_or_from_slice_get A at.0 s s at.2) (fresh at.0 s (slice_get_within A at.0 s at.2)) refl
 
 -- a line that can only bring a new game, and is taken, does
-pub new_grows : (cap : ℕ) (A : List Submission) (line : List ℕ) (n : ℕ) (B : List Submission) → ((s : Submission) → IsLawful line s → IsNewId s.0 A)
+pub new_grows : (cap : ℕ) (A : List Submission) (line : List ℕ) (n : ℕ) (B : List Submission) → ((s : Submission) → Submits line s → IsNewId s.0 A)
     → Step cap A line (Ok n) B → true ≡ nat_lt (length A) (length B)
 new_grows cap A line n B fresh (steps.new s law _ room e f) = sym (lt-ltb (length A) (length B) (omega (arith, ap length f, length_push A s)))
 new_grows cap A line n B fresh (steps.repeat s m law at e f) = absurd (not_held A m s (fresh s law) at)

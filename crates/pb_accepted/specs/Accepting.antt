@@ -15,7 +15,7 @@ use Rattle.std.specs.Result.{result_map_both}
 use Rattle.pb_games.specs.declared.game.Game.{Game}
 use Rattle.pb_games.specs.declared.refusal.Refusal.{Refusal}
 use Rattle.pb_games.specs.declared.refusal.Refusal.TheVariants.{Conflict, Full, Memory}
-use Rattle.pb_games.specs.Submissions.{Submission, IsLawful}
+use Rattle.pb_games.specs.Submissions.{Submission, Submits}
 use Rattle.pb_accepted.specs.Replying.{IsNewId, IsNumber}
 use Rattle.pb_accepted.specs.declared.ledger.Accepted.{Accepted}
 use Rattle.pb_games.specs.Refusing.{Refuses}
@@ -36,15 +36,15 @@ says_new (Err e) = false
 -- A line is answered r, where the list A may have at most cap members, and A becomes B.
 pub data Step (cap : ℕ) (A : List Submission) (line : List ℕ) (r : Answer)
     (B : List Submission) : Type 0 where
-  new : (s : Submission) → IsLawful line s → IsNewId s.0 A → length A < cap → r ≡ Ok (length A + 1)
+  new : (s : Submission) → Submits line s → IsNewId s.0 A → length A < cap → r ≡ Ok (length A + 1)
       → B ≡ A ++ s ∷ [] → Step cap A line r B
-  full : (s : Submission) → IsLawful line s → IsNewId s.0 A → cap ≤ length A → r ≡ Err Full → B ≡ A
+  full : (s : Submission) → Submits line s → IsNewId s.0 A → cap ≤ length A → r ≡ Err Full → B ≡ A
       → Step cap A line r B
-  memory : (s : Submission) → IsLawful line s → IsNewId s.0 A → length A < cap → r ≡ Err Memory
+  memory : (s : Submission) → Submits line s → IsNewId s.0 A → length A < cap → r ≡ Err Memory
       → B ≡ A → Step cap A line r B
-  repeat : (s : Submission) (n : ℕ) → IsLawful line s → IsNumber A n s → r ≡ Ok n → B ≡ A
+  repeat : (s : Submission) (n : ℕ) → Submits line s → IsNumber A n s → r ≡ Ok n → B ≡ A
       → Step cap A line r B
-  conflict : (s : Submission) (g : Game) (n : ℕ) → IsLawful line s → IsNumber A n (s.0, g) → g ≢ s.1
+  conflict : (s : Submission) (g : Game) (n : ℕ) → Submits line s → IsNumber A n (s.0, g) → g ≢ s.1
       → r ≡ Err (Conflict n) → B ≡ A → Step cap A line r B
   refused : (e : Refusal) → Refuses line e → r ≡ Err e → B ≡ A → Step cap A line r B
 
@@ -70,8 +70,8 @@ HasRoom r = (r ≢ Err Full) × (r ≢ Err Memory)
 abbrev pub Adds : (List Submission → Submission → Type 0) → List Submission → List ℕ → Answer
     → List Submission → Type 0
 Adds IsNew A line r B =
-    ((s : Submission) × IsLawful line s × IsNew A s × HasRoom r × (B ≡ A ++ s ∷ []))
-    ⊎ (((s : Submission) → IsLawful line s → IsNew A s → ¬ HasRoom r) × (B ≡ A))
+    ((s : Submission) × Submits line s × IsNew A s × HasRoom r × (B ≡ A ++ s ∷ []))
+    ⊎ (((s : Submission) → Submits line s → IsNew A s → ¬ HasRoom r) × (B ≡ A))
 
 -- B is A with the distinct submissions that these lines brought, in order of their first arrival
 -- with room and memory
@@ -80,5 +80,5 @@ Taken = Along (Adds (λ A s. ¬ Contains A s))
 
 -- no two of the lines submit legal games that differ under one id
 abbrev pub OneGame : List (List ℕ) → Type 0
-OneGame L = (b c : List ℕ) (s t : Submission) → Contains L b → Contains L c → IsLawful b s
-    → IsLawful c t → s.0 ≡ t.0 → s ≡ t
+OneGame L = (b c : List ℕ) (s t : Submission) → Contains L b → Contains L c → Submits b s
+    → Submits c t → s.0 ≡ t.0 → s ≡ t

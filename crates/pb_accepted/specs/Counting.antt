@@ -27,8 +27,8 @@ points_for _ _ = 0
 
 -- what a ply gives: its points, to the key of its setup and the code of its move
 abbrev pub given_by : List ℕ → Outcome → Ply → PlyPoints
-given_by words o p =
-    record { key = key words p.0; code = encode_move p.0 p.1; points = points_for o p.0.turn }
+given_by randoms o p =
+    record { key = key randoms p.0; code = encode_move p.0 p.1; points = points_for o p.0.turn }
 
 -- what each ply gives that counts: these are the first ones of each game
 abbrev pub counted : Basis → List Submission → List PlyPoints

@@ -15,7 +15,7 @@ use Rattle.std.specs.Prelude.{◌≡◌, ◌≢◌, ℕ, ◌+◌, ◌<◌, ◌�
 use Rattle.std.specs.Prelude.{decimal, slice_get, Some, All, AllPairs}
 use Rattle.pb_games.specs.declared.game.Game.{Game}
 use Rattle.pb_accepted.specs.Refusals.{IsRefused}
-use Rattle.pb_games.specs.Submissions.{Submission, IsLawful}
+use Rattle.pb_games.specs.Submissions.{Submission, Submits}
 
 -- the submission is number n of the list, from 1
 abbrev pub IsNumber : List Submission → ℕ → Submission → Type 0
@@ -35,7 +35,7 @@ refused why = codes "refused " ++ why
 
 -- the line submits a legal game under an id that the list hasn't
 abbrev pub IsNew : List Submission → List ℕ → Submission → Type 0
-IsNew A line s = IsLawful line s × IsNewId s.0 A
+IsNew A line s = Submits line s × IsNewId s.0 A
 
 -- r is the reply to the line, where the list A may have at most cap members, and A becomes B
 pub data Reply (cap : ℕ) (A : List Submission) (line r : List ℕ)
@@ -46,9 +46,9 @@ pub data Reply (cap : ℕ) (A : List Submission) (line r : List ℕ)
       → B ≡ A → Reply cap A line r B
   memory : (s : Submission) → IsNew A line s → length A < cap
       → r ≡ refused (s.0 ++ codes " memory") → B ≡ A → Reply cap A line r B
-  repeat : (s : Submission) (n : ℕ) → IsLawful line s → IsNumber A n s → r ≡ ok s n → B ≡ A
+  repeat : (s : Submission) (n : ℕ) → Submits line s → IsNumber A n s → r ≡ ok s n → B ≡ A
       → Reply cap A line r B
-  conflict : (s : Submission) (g : Game) (n : ℕ) → IsLawful line s → IsNumber A n (s.0, g)
+  conflict : (s : Submission) (g : Game) (n : ℕ) → Submits line s → IsNumber A n (s.0, g)
       → g ≢ s.1 → r ≡ refused (s.0 ++ codes " conflict " ++ decimal n) → B ≡ A
       → Reply cap A line r B
   refused_alone : (why : List ℕ) → IsRefused line why → r ≡ refused why → B ≡ A
@@ -66,7 +66,7 @@ Replies cap A L R B = ⊥
 
 -- line i, counted from 0, submits s: it is the text of a legal game under an id
 abbrev pub Arrives : List (List ℕ) → ℕ → Submission → Type 0
-Arrives L i s = (line : List ℕ) × (slice_get L i ≡ Some line) × IsLawful line s
+Arrives L i s = (line : List ℕ) × (slice_get L i ≡ Some line) × Submits line s
 
 -- line i submits s, and the answer to it gives s the number n, for the first time or again
 abbrev pub IsAccepted : {X : Type 0} → (Submission → ℕ → X) → List (List ℕ) → List X → ℕ

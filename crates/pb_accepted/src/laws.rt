@@ -9,7 +9,7 @@ ghost use Rattle.pb_board.specs.LineEnd.{with_end};
 ghost use Rattle.pb_poly.specs.Book.{BookBytes};
 ghost use Rattle.pb_poly.specs.Table.{IsTable};
 ghost use Rattle.pb_poly.specs.declared.entry.Entry.{Entry};
-ghost use Rattle.pb_games.specs.Submissions.{IsLawful, Submission};
+ghost use Rattle.pb_games.specs.Submissions.{Submits, Submission};
 ghost use Rattle.pb_games.specs.Worked.{worked_line, worked_submission};
 ghost use Rattle.pb_games.specs.declared.refusal.Refusal.TheVariants.{Conflict, Full, Memory};
 ghost use Rattle.pb_games.specs.declared.refusal.Refusal.{Refusal};
@@ -46,7 +46,7 @@ pub fn one_line()
         (B C : List Submission) → HaveOwnIds A → Step cap A line q B → Step cap A line r C
         → q ≢ Err Memory → r ≢ Err Memory → (q ≡ r) × (B ≡ C) }
     ensures held { (cap : ℕ) (A : List Submission) (line : List ℕ) (s : Submission) (n : ℕ)
-        (r : Answer) (B : List Submission) → HaveOwnIds A → IsLawful line s → IsNumber A n s
+        (r : Answer) (B : List Submission) → HaveOwnIds A → Submits line s → IsNumber A n s
         → Step cap A line r B → r ≡ Ok n }
     ensures refused { (cap : ℕ) (A : List Submission) (line : List ℕ) (e : Refusal)
         (B : List Submission) → Step cap A line (Err e) B → B ≡ A }
@@ -73,7 +73,7 @@ pub fn replies()
         → Reply cap A line r B → ((a : Answer) × Step cap A line a B × (r ≡ reply line a))
         ⊎ ((why : List ℕ) × IsRefused line why × (r ≡ refused why) × (B ≡ A)) }
     ensures reason { (line v w : List ℕ) → IsRefused line v → IsRefused line w → v ≡ w }
-    ensures lawful { (line why : List ℕ) (s : Submission) → IsLawful line s → ¬ IsRefused line why }
+    ensures lawful { (line why : List ℕ) (s : Submission) → Submits line s → ¬ IsRefused line why }
     ensures lines { (L : List (List ℕ)) (R : List Answer)
         → replies_to L R ≡ flat_map with_end (reply_texts L R) }
     ensures numbers { (L : List (List ℕ)) (R : List Answer) (A : List Submission)
@@ -135,7 +135,7 @@ pub fn equal_values()
 /// States what the laws above ask of lines and of lists.
 pub fn premises()
     ensures one_game { (L : List (List ℕ)) → ((b c : List ℕ) (s t : Submission) → Contains L b
-        → Contains L c → IsLawful b s → IsLawful c t → s.0 ≡ t.0 → s ≡ t) → OneGame L }
+        → Contains L c → Submits b s → Submits c t → s.0 ≡ t.0 → s ≡ t) → OneGame L }
     ensures members { (S U : List Submission)
         → ((s : Submission) → Contains S s ↔ Contains U s) → SameMembers S U }
 {}

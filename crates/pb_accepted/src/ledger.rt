@@ -4,7 +4,7 @@ ghost use Rattle.std.specs.Prelude.{◌≡◌, ◌<◌, ◌≤◌, ◌+◌, ◌*
 ghost use Rattle.std.specs.Prelude.{IfOk, IfSome, MatchOption, OnErr, OnOk, Ok, false, length};
 ghost use Rattle.std.specs.Prelude.{◌↔◌, IsTrue, nat_lt};
 ghost use Rattle.pb_games.specs.Cuts.{IsCut};
-ghost use Rattle.pb_games.specs.Submissions.{IsLawful, IsSubmission, Submission};
+ghost use Rattle.pb_games.specs.Submissions.{Submits, IsSubmission, Submission};
 ghost use Rattle.pb_points.specs.Tally.{held};
 ghost use Rattle.pb_points.specs.TallyBook.{AddsSome};
 ghost use Rattle.pb_poly.specs.Entry.{IsEntry};
@@ -129,7 +129,7 @@ impl<T: Tally> Ledger<T> {
     /// is new and there was no memory for it. Nothing has changed then.
     pub fn submit(&mut self, line: &[u8]) -> Result<u32, Refusal>
         ensures step { Step self.old.cap self.old.accepted line.now result self.new.accepted }
-        ensures held { (s : Submission) (n : ℕ) → IsLawful line.now s
+        ensures held { (s : Submission) (n : ℕ) → Submits line.now s
             → IsNumber self.old.accepted n s → result ≡ Ok n }
         ensures basis { self.new.basis ≡ self.old.basis }
         ensures cap { self.new.cap ≡ self.old.cap }
@@ -143,7 +143,7 @@ impl<T: Tally> Ledger<T> {
             self.new.accepted }
         ensures new { says_new result ≡ nat_lt (length self.old.accepted)
             (length self.new.accepted) }
-        ensures held { (s : Submission) (n : ℕ) → IsLawful line.now s
+        ensures held { (s : Submission) (n : ℕ) → Submits line.now s
             → IsNumber self.old.accepted n s → result ≡ Ok (record { number = n; is_new = false }) }
         ensures basis { self.new.basis ≡ self.old.basis }
         ensures cap { self.new.cap ≡ self.old.cap }

@@ -10,7 +10,7 @@ use Rattle.pb_io.specs.Sink.{SinkState}
 use Rattle.pb_io.specs.declared.fault.Fault.{Fault}
 use Rattle.pb_io.specs.declared.fault.Fault.TheVariants as fault
 use Rattle.pb_games.specs.Refusing.{Refuses}
-use Rattle.pb_games.specs.Submissions.{IsLawful, Submission}
+use Rattle.pb_games.specs.Submissions.{Submits, Submission}
 use Rattle.pb_games.specs.declared.refusal.Refusal.{Refusal}
 use Rattle.pb_games.specs.declared.refusal.Refusal.TheVariants.{Conflict, Full, Long, Memory}
 use Rattle.pb_games.proofs.Dues.{first_due, none_at_first}
@@ -33,7 +33,7 @@ pub named_short : (line : List ℕ) (e : Refusal) → Refuses line e → length 
 named_short line e h = named_step 0 [] line (Err e) [] (steps.refused e h refl refl)
 
 -- a legal game, whose line was put in parts
-pub legal_put : (line id : List ℕ) (s : Submission) → IsLawful line s → id ≡ s.0 → CheckShown line (Ok (true, with_end (codes "ok " ++ (id ++ []))))
+pub legal_put : (line id : List ℕ) (s : Submission) → Submits line s → id ≡ s.0 → CheckShown line (Ok (true, with_end (codes "ok " ++ (id ++ []))))
 legal_put line id s law is = check.legal s law (ap (λ (w : List ℕ). let v : Verdict = Ok (true, with_end (codes "ok " ++ w)) in v) (append-nil id ∙ is))
 
 -- a line that was told is its bytes
@@ -102,7 +102,7 @@ same_refusal d e is = cc is
 never_taken : (e : Refusal) (n : ℕ) → refused_so e ≡ Ok n → ⊥
 never_taken e n is = cc is
 
-taken_step : (line : List ℕ) (s : Submission) → IsLawful line s → (most : ℕ) (A : List Submission) (e : Refusal) (B : List Submission) → Step most A line (Err e) B → IsOfOthers e
+taken_step : (line : List ℕ) (s : Submission) → Submits line s → (most : ℕ) (A : List Submission) (e : Refusal) (B : List Submission) → Step most A line (Err e) B → IsOfOthers e
 taken_step line s law most A e B (steps.new t other fresh room is same) = absurd (never_taken e _ is)
 taken_step line s law most A e B (steps.full t other fresh many is same) = inl (same_refusal e Full is)
 taken_step line s law most A e B (steps.memory t other fresh room is same) = inr (inl (same_refusal e Memory is))

@@ -48,9 +48,9 @@ module _ (rules : CountingRules) (fills : ℕ) (e : EndStates) (randoms : List �
       let T : Basis = record { randoms = randoms; rules = rules } in
       record {
         at = record {
-          file = table.0;
-          bytes = took.came;
-          put = replies (lines took.came) collects.answers;
+          table_bytes = table.0;
+          line_bytes = took.came;
+          reply_bytes = replies (lines took.came) collects.answers;
           table = handed_out _ _ _ _ _ table.1;
           lines = handed_out _ _ _ _ _ took.reads;
           replies = collects.put;
@@ -101,8 +101,8 @@ module _ (rules : CountingRules) (fills : ℕ) (e : EndStates) (source : Change 
 
 -- ---- what an earlier run saved
 
-pub goes_on_as_one_run : (rules : CountingRules) (e : EndStates) (source : Change SourceState) (left : LedgerState) (entries : List Entry) (book : List ℕ) (h : HasHeadlineOfBoth rules e source left entries book) (K : List (List ℕ)) (Q : List Answer) (A : List Submission) → Run most_games [] K Q A → Saved A h.saved → (h.held ≡ A) × (replies (K ++ lines h.goes_on.at.bytes) (Q ++ h.goes_on.answers) ≡ replies K Q ++ h.goes_on.at.put)
+pub goes_on_as_one_run : (rules : CountingRules) (e : EndStates) (source : Change SourceState) (left : LedgerState) (entries : List Entry) (book : List ℕ) (h : HasHeadlineOfBoth rules e source left entries book) (K : List (List ℕ)) (Q : List Answer) (A : List Submission) → Run most_games [] K Q A → Saved A h.saved → (h.held ≡ A) × (replies (K ++ lines h.goes_on.at.line_bytes) (Q ++ h.goes_on.answers) ≡ replies K Q ++ h.goes_on.at.reply_bytes)
 goes_on_as_one_run rules e source left entries book h K Q A run is_saved =
     let on = h.goes_on in
-    let one = continued most_games K (lines on.at.bytes) Q on.answers A h.held left.accepted h.saved run is_saved h.loads on.run in
+    let one = continued most_games K (lines on.at.line_bytes) Q on.answers A h.held left.accepted h.saved run is_saved h.loads on.run in
     (loaded_back most_games K Q A h.held h.saved run is_saved h.loads, one.1 ∙ ap (λ l. replies K Q ++ l) (sym on.replied))

@@ -59,9 +59,9 @@ module _ (rules : CountingRules) (fills : ℕ) (e : EndStates) where
       let T : Basis = record { randoms = randoms; rules = rules } in (
         (
           record {
-            file = table.0;
-            bytes = bytes;
-            put = replies (lines bytes) collects.answers;
+            table_bytes = table.0;
+            line_bytes = bytes;
+            reply_bytes = replies (lines bytes) collects.answers;
             table = handed_out _ _ _ _ _ table.1;
             lines = handed_out _ _ _ _ _ took.reads;
             replies = collects.put;

@@ -8,7 +8,7 @@ use Rattle.std.specs.Io.KnownBytes.{Appends}
 use Rattle.std.proofs.KnownBytes.{Appends-nil}
 use Rattle.pb_board.specs.LineEnd.{with_end}
 use Rattle.pb_io.specs.Lines.{ended_lines}
-use Rattle.pb_games.specs.Submissions.{IsLawful, IsSubmission, Submission, submission_text}
+use Rattle.pb_games.specs.Submissions.{Submits, IsSubmission, Submission, submission_text}
 use Rattle.pb_accepted.specs.Accepting as steps
 use Rattle.pb_accepted.specs.Accepting.{Answer, Run, Step}
 use Rattle.pb_accepted.specs.Replying.{Arrives, IsNumber}
@@ -30,7 +30,7 @@ use Rattle.pb_ledger.proofs.Journals.{journal_grows, journal_may_tear}
 -- ---- runs
 
 -- a line that was answered with a number submits the game that has it then
-numbered : (cap : ℕ) (A : List Submission) (line : List ℕ) (n : ℕ) (B : List Submission) → Step cap A line (Ok n) B → (s : Submission) × IsLawful line s × IsNumber B n s
+numbered : (cap : ℕ) (A : List Submission) (line : List ℕ) (n : ℕ) (B : List Submission) → Step cap A line (Ok n) B → (s : Submission) × Submits line s × IsNumber B n s
 numbered most A line n B (steps.new s law fresh room e f) =
     let is : n ≡ length A + 1 = cc in (s, law, (length A, is, subst (λ (X : List Submission). slice_get X (length A) ≡ Some s) (sym f) (slice_get-push A s)))
 numbered most A line n B (steps.full s law fresh many e f) = absurd (cc e)

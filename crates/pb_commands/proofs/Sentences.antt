@@ -8,7 +8,7 @@ use Rattle.pb_poly.specs.Book.{BookBytes}
 use Rattle.pb_poly.specs.Entry.{entry_bytes}
 use Rattle.pb_poly.specs.declared.entry.Entry.{Entry}
 use Rattle.pb_games.specs.declared.game.Game.{Game}
-use Rattle.pb_games.specs.Submissions.{IsLawful, Submission}
+use Rattle.pb_games.specs.Submissions.{Submits, Submission}
 use Rattle.pb_accepted.specs.Accepting.{OneGame}
 use Rattle.pb_accepted.specs.Basis.{Basis}
 use Rattle.pb_accepted.specs.Laws.{NoRepeats, SameMembers}
@@ -36,7 +36,7 @@ stays cap A line r B (replied.conflict t g n law at differs e f) s h = subst (λ
 stays cap A line r B (replied.refused_alone why is e f) s h = subst (λ X. Contains X s) (sym f) h
 
 -- a new game and a reply that leaves the list don't go together
-module _ (cap : ℕ) (A : List Submission) (line r : List ℕ) (s : Submission) (law : IsLawful line s) (fresh : replied.IsNewId s.0 A) (said : r ≡ ok s (length A + 1)) where
+module _ (cap : ℕ) (A : List Submission) (line r : List ℕ) (s : Submission) (law : Submits line s) (fresh : replied.IsNewId s.0 A) (said : r ≡ ok s (length A + 1)) where
   added_once : (C : List Submission) → Reply cap A line r C → C ≡ A ++ s ∷ []
   added_once C (replied.new t other room e f) = f ∙ ap (λ (x : Submission). A ++ x ∷ []) (one_submission line t s other.0 law)
   added_once C (replied.full t other many e f) = absurd (ok_is_no_refusal s (length A + 1) (t.0 ++ codes " full") (sym said ∙ e))

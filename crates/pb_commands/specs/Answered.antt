@@ -20,4 +20,4 @@ pub record SayAnswers (L R : List (List ℕ)) (games : List Submission) : Type 0
 -- the theorem, and the answers that its replies say
 abbrev pub IsAnswered : CountingRules → EndStates → List Entry → List ℕ → Type 0
 IsAnswered rules e entries book = (h : HasHeadline rules e entries book)
-    × SayAnswers (lines h.0.bytes) h.1.replies h.1.games
+    × SayAnswers (lines h.0.line_bytes) h.1.replies h.1.games

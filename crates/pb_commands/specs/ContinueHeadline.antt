@@ -23,16 +23,16 @@ pub record GoesOn (rules : CountingRules) (e : EndStates) (held games : List Sub
     (entries : List Entry) (book : List ℕ) : Type 0 where
   pub at : EndBytes e
   pub randoms : List ℕ
-  pub table : IsTableFile randoms at.file
+  pub table : IsTableFile randoms at.table_bytes
   pub answers : List Answer
-  pub run : Run most_games held (lines at.bytes) answers games
-  pub replied : at.put ≡ replies (lines at.bytes) answers
+  pub run : Run most_games held (lines at.line_bytes) answers games
+  pub replied : at.reply_bytes ≡ replies (lines at.line_bytes) answers
   -- Whatever earlier run left the games that were held first, of lines K with answers Q: the effect
   -- is that of one run of the lines of both. So the book is that of the games that were answered
   -- `ok` in both, each of them once.
   pub effect : (K : List (List ℕ)) (Q : List Answer) → Run most_games [] K Q held
-      → Effect (record { randoms = randoms; rules = rules }) (K ++ lines at.bytes)
-      (reply_texts (K ++ lines at.bytes) (Q ++ answers)) games entries book
+      → Effect (record { randoms = randoms; rules = rules }) (K ++ lines at.line_bytes)
+      (reply_texts (K ++ lines at.line_bytes) (Q ++ answers)) games entries book
 
 -- The games of the saved ledger, of which its source handed out all bytes, were held first, and this
 -- ledger is left.

@@ -31,30 +31,30 @@ pub record Effect (T : Basis) (L R : List (List ℕ)) (games : List Submission)
 
 -- What is made of the bytes of a table file and those of submissions, by rules that say what of the
 -- games counts: the bytes of the replies that were put, and the entries and the bytes of a book.
-pub record Headline (rules : CountingRules) (file bytes put : List ℕ) (entries : List Entry)
-    (book : List ℕ) : Type 0 where
+pub record Headline (rules : CountingRules) (table_bytes line_bytes reply_bytes : List ℕ)
+    (entries : List Entry) (book : List ℕ) : Type 0 where
   -- the rules are within their bounds, and the file is a table
   pub counting : AreRules rules
   pub randoms : List ℕ
-  pub table : IsTableFile randoms file
+  pub table : IsTableFile randoms table_bytes
   -- the lines of the submissions are replied to, and just the replies were put, each as a line
   pub replies : List (List ℕ)
   pub games : List Submission
   pub effect : Effect (record { randoms = randoms; rules = rules })
-      (lines bytes) replies games entries book
-  pub replied : put ≡ flat_map (λ r. r ++ 10 ∷ []) replies
+      (lines line_bytes) replies games entries book
+  pub replied : reply_bytes ≡ flat_map (λ r. r ++ 10 ∷ []) replies
 
 -- all bytes that the sources of the table and of the submissions handed out, and those that the
 -- sink of the replies took: any, if it doesn't tell them, but the program's sink does
 pub record EndBytes (e : EndStates) : Type 0 where
-  pub file : List ℕ
-  pub bytes : List ℕ
-  pub put : List ℕ
-  pub table : HandsOut e.table.old e.table.new file
-  pub lines : HandsOut e.lines.old e.lines.new bytes
-  pub replies : Appends e.replies.old.bytes e.replies.new.bytes put
+  pub table_bytes : List ℕ
+  pub line_bytes : List ℕ
+  pub reply_bytes : List ℕ
+  pub table : HandsOut e.table.old e.table.new table_bytes
+  pub lines : HandsOut e.lines.old e.lines.new line_bytes
+  pub replies : Appends e.replies.old.bytes e.replies.new.bytes reply_bytes
 
 -- the theorem, of all that the ends of a run handed out and took
 abbrev pub HasHeadline : CountingRules → EndStates → List Entry → List ℕ → Type 0
 HasHeadline rules e entries book =
-    (at : EndBytes e) × Headline rules at.file at.bytes at.put entries book
+    (at : EndBytes e) × Headline rules at.table_bytes at.line_bytes at.reply_bytes entries book

@@ -61,8 +61,8 @@ pub fn goes_on()
         (left : LedgerState) (entries : List Entry) (book : List ℕ)
         (h : HasHeadlineOfBoth rules e source left entries book) (K : List (List ℕ))
         (Q : List Answer) (A : List Submission) → Run most_games [] K Q A → Saved A h.saved
-        → (h.held ≡ A) × (replies (K ++ lines h.goes_on.at.bytes) (Q ++ h.goes_on.answers)
-        ≡ replies K Q ++ h.goes_on.at.put) }
+        → (h.held ≡ A) × (replies (K ++ lines h.goes_on.at.line_bytes) (Q ++ h.goes_on.answers)
+        ≡ replies K Q ++ h.goes_on.at.reply_bytes) }
 {}
 
 /// A run whose table or saved ledger is refused reads no submission, and leaves a journal alone.

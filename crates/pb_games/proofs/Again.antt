@@ -7,7 +7,7 @@ use Rattle.pb_games.specs.declared.fields.LineFields.{LineFields}
 use Rattle.pb_games.specs.declared.game.Game.{Game}
 use Rattle.pb_games.specs.Cuts.{IsCut}
 use Rattle.pb_games.specs.Repeat.{AreFieldsOf}
-use Rattle.pb_games.specs.Submissions.{IsLawful, IsSubmission, Submission, moves_text}
+use Rattle.pb_games.specs.Submissions.{Submits, IsSubmission, Submission, moves_text}
 use Rattle.pb_games.specs.Tokens.{tokens_of}
 use Rattle.pb_games.proofs.OneLine.{tokens_of_text}
 use Rattle.pb_games.proofs.Texts.{fields_back}
@@ -15,7 +15,7 @@ use Rattle.pb_games.proofs.TokenLemmas.{tokens-back}
 
 module _ (line : List ℕ) (f : LineFields) (h : IsCut line f) where
   -- a line with the fields of a legal game submits it
-  pub again : (g : Game) → IsSubmission (f.id.now, g) → AreFieldsOf g f → IsLawful line (f.id.now, g)
+  pub again : (g : Game) → IsSubmission (f.id.now, g) → AreFieldsOf g f → Submits line (f.id.now, g)
   again g known are =
       let moves_are : f.moves.now ≡ moves_text g.moves = sym (tokens-back f.moves.now) ∙ ap (join_with_byte 32) are.tokens_are in
       record {
@@ -30,7 +30,7 @@ module _ (line : List ℕ) (f : LineFields) (h : IsCut line f) where
       }
 
   -- and the fields of a line that submits a game are its id and the game's
-  pub fields_again : (s : Submission) → IsLawful line s → (f.id.now ≡ s.0) × AreFieldsOf s.1 f
+  pub fields_again : (s : Submission) → Submits line s → (f.id.now ≡ s.0) × AreFieldsOf s.1 f
   fields_again s lawful =
       let cells = sym h.cut ∙ fields_back line s lawful in
       let cell = λ (i : ℕ). ap (λ (w : List (List ℕ)). get_or w i []) cells in

@@ -24,7 +24,7 @@ use Rattle.pb_games.specs.Reading.{AreRead, AreRefused}
 use Rattle.pb_games.specs.Refusing.{Refuses}
 use Rattle.pb_games.specs.Refusing.{SpellsStart}
 use Rattle.pb_games.specs.Results.{outcome_text}
-use Rattle.pb_games.specs.Submissions.{IsLawful, IsGame, moves_text, submission_text}
+use Rattle.pb_games.specs.Submissions.{Submits, IsGame, moves_text, submission_text}
 use Rattle.pb_games.specs.Tokens.{tokens_of, move_spelt, moves_spelt}
 use Rattle.pb_games.proofs.Dues.{NoneBefore, none_more, first_due}
 use Rattle.pb_games.proofs.Headers.{none_before_fen}
@@ -94,7 +94,7 @@ module _ (line : List ℕ) (F : LineFields) (h : IsCut line F) (o : Outcome) (re
             sym (join_with_byte-slice_split 9 (strip_carriage_return line))
             ∙ ap (join_with_byte 9) (h.cut ∙ (λ i. F.id.now ∷ result_is i ∷ start.1 i ∷ moves_back i ∷ []))
 
-        lawful : AreLegal f.setup (moves_spelt F.moves.now) → IsLawful line (submission_of F.id.now f o F.moves.now)
+        lawful : AreLegal f.setup (moves_spelt F.moves.now) → Submits line (submission_of F.id.now f o F.moves.now)
         lawful legal = record {
           text = text_is;
           id = h.id_is;
@@ -120,7 +120,7 @@ module _ (line : List ℕ) (F : LineFields) (h : IsCut line F) (o : Outcome) (re
     moves_refused refusal.Memory bad = absurd bad
 
     -- the moves that were read make a lawful submission
-    pub moves_lawful : (n : ℕ) → AreRead f.setup F.moves.now n → IsLawful line (submission_of F.id.now f o F.moves.now)
+    pub moves_lawful : (n : ℕ) → AreRead f.setup F.moves.now n → Submits line (submission_of F.id.now f o F.moves.now)
     moves_lawful n read = lawful read.spelt (omega (arith, read.number, read.few)) read.legal
 
     pub moves_checked : (n : ℕ) → AreRead f.setup F.moves.now n → IsChecked (submission_of F.id.now f o F.moves.now) F.moves.now n

@@ -13,7 +13,7 @@ use Rattle.pb_games.specs.declared.game.Game.{Game}
 use Rattle.pb_games.specs.declared.outcome.Outcome.{Outcome}
 use Rattle.pb_games.specs.declared.outcome.Outcome.TheVariants as outcome
 use Rattle.pb_games.specs.Results.{outcome_text}
-use Rattle.pb_games.specs.Submissions.{IsLawful, Submission, moves_text, IsGame, submission_text}
+use Rattle.pb_games.specs.Submissions.{Submits, Submission, moves_text, IsGame, submission_text}
 use Rattle.pb_games.specs.Tokens.{tokens_of}
 use Rattle.pb_games.proofs.Bytes.{spellings_above}
 use Rattle.pb_games.proofs.Texts.{four_fields, lawful_game}
@@ -67,5 +67,5 @@ one_submission s t s-id s-game t-id t-game same =
     ∙ ap (λ o. P t.0 (game_of t.1.start o s.1.moves)) outcomes
     ∙ ap (λ ms. P t.0 (game_of t.1.start t.1.outcome ms)) moves
 
-pub one_lawful : (line : List ℕ) (s t : Submission) → IsLawful line s → IsLawful line t → s ≡ t
+pub one_lawful : (line : List ℕ) (s t : Submission) → Submits line s → Submits line t → s ≡ t
 one_lawful line s t h k = one_submission s t h.id (lawful_game line s h) k.id (lawful_game line t k) (sym h.text ∙ k.text)

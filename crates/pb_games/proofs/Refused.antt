@@ -22,7 +22,7 @@ use Rattle.pb_games.specs.Ids.{IsId}
 use Rattle.pb_games.specs.Cuts.{fields_of}
 use Rattle.pb_games.specs.Refusing.{Refuses, SpellsStart}
 use Rattle.pb_games.specs.Results.{outcome_text}
-use Rattle.pb_games.specs.Submissions.{Submission, IsLawful, moves_text}
+use Rattle.pb_games.specs.Submissions.{Submission, Submits, moves_text}
 use Rattle.pb_games.specs.Tokens.{tokens_of}
 use Rattle.pb_games.proofs.Dues.{IsDue}
 use Rattle.pb_games.proofs.OneLine.{one_lawful, tokens_of_text, spellings_injective}
@@ -34,7 +34,7 @@ use Rattle.pb_games.proofs.Played.{legal_fronts}
 spelt_from_moves : (ms : List Moved) → All IsMove ms → All IsSpelled (map spelling ms)
 spelt_from_moves ms h = All-map IsSpelled spelling ms (All-weaker IsMove (λ m. IsSpelled (spelling m)) (λ m is. (m, record { is_move = is; is = refl })) ms h)
 
-module _ (line : List ℕ) (s : Submission) (h : IsLawful line s) where
+module _ (line : List ℕ) (s : Submission) (h : Submits line s) where
   pub field_is : (i : ℕ) → field (fields_of line) i ≡ slice_index_or (s.0 ∷ outcome_text s.1.outcome ∷ fen_text s.1.start ∷ moves_text s.1.moves ∷ []) i []
   field_is i = ap (λ (w : List (List ℕ)). slice_index_or w i []) (fields_back line s h)
 
@@ -62,10 +62,10 @@ module _ (line : List ℕ) (s : Submission) (h : IsLawful line s) where
       (subst (λ ms. BreaksAt (AreLegal s.1.start.setup) ms n) moves (subst (λ t. BreaksAt (AreLegal t) due.1 n) start due.4))
   none_due _ due = due
 
-pub unlawful : (line : List ℕ) (e : Refusal) (s : Submission) → Refuses line e → ¬ IsLawful line s
+pub unlawful : (line : List ℕ) (e : Refusal) (s : Submission) → Refuses line e → ¬ Submits line s
 unlawful line e s h lawful = none_due line s lawful e h.due
 
 -- where an answer is right, it is that of the game that the line submits
-pub only_one : (line : List ℕ) (r : Result Submission Refusal) → IfOk r (λ s. IsLawful line s) → IfErr r (λ e. Refuses line e) → (s : Submission) → IsLawful line s → r ≡ Ok s
+pub only_one : (line : List ℕ) (r : Result Submission Refusal) → IfOk r (λ s. Submits line s) → IfErr r (λ e. Refuses line e) → (s : Submission) → Submits line s → r ≡ Ok s
 only_one line (Ok t) found refused s lawful = ap (λ x. Ok x) (one_lawful line t s found lawful)
 only_one line (Err e) found refused s lawful = absurd (unlawful line e s refused lawful)

@@ -13,7 +13,7 @@ use Rattle.pb_moves.specs.Played.{AreLegal}
 use Rattle.pb_moves.specs.Successor.{after}
 use Rattle.pb_board.specs.Position.{Position}
 use Rattle.pb_games.specs.Results.{outcome_text}
-use Rattle.pb_games.specs.Submissions.{IsGame, IsLawful, IsSubmission, Submission, moves_text, submission_text}
+use Rattle.pb_games.specs.Submissions.{IsGame, Submits, IsSubmission, Submission, moves_text, submission_text}
 use Rattle.pb_games.proofs.Bytes.{Above-weaker, id_above, result_above, result_short, fen_above, fen_short, moves_above, moves_short}
 use Rattle.pb_games.specs.Ids.{IsId}
 use Rattle.pb_board.proofs.LineEnds.{cases_return, strip_push, strip_same}
@@ -71,14 +71,14 @@ legal_moves : (s : Position) (ms : List Moved) → AreLegal s ms → All IsMove 
 legal_moves s [] h = All-nil IsMove
 legal_moves s (m ∷ ms) h = All-cons IsMove m ms h.0.moves.is_move (legal_moves (after s m) ms h.1)
 
-pub lawful_game : (line : List ℕ) (s : Submission) → IsLawful line s → IsGame s.1
+pub lawful_game : (line : List ℕ) (s : Submission) → Submits line s → IsGame s.1
 lawful_game line s h = record { start = h.start; moves = legal_moves s.1.start.setup s.1.moves h.legal; few = h.few }
 
-pub lawful_submission : (line : List ℕ) (s : Submission) → IsLawful line s → IsSubmission s
+pub lawful_submission : (line : List ℕ) (s : Submission) → Submits line s → IsSubmission s
 lawful_submission line s h = record { id = h.id; game = lawful_game line s h; legal = record { playable = h.playable; legal = h.legal } }
 
 -- a line that is the text of a submission, or that text and a CR, submits it
-pub submits : (line : List ℕ) (s : Submission) → IsSubmission s → (line ≡ submission_text s) ⊎ (line ≡ submission_text s ++ 13 ∷ []) → IsLawful line s
+pub submits : (line : List ℕ) (s : Submission) → IsSubmission s → (line ≡ submission_text s) ⊎ (line ≡ submission_text s ++ 13 ∷ []) → Submits line s
 submits line s h is = record {
   text = elim is [
     | inl same ↦ ap strip_carriage_return same ∙ strip_same (submission_text s) (no_final_cr (submission_text s) (one_line s h.id h.game))
@@ -92,12 +92,12 @@ submits line s h is = record {
 }
 
 -- the fields of a line are the fields of what it submits
-pub fields_back : (line : List ℕ) (s : Submission) (h : IsLawful line s) → fields_of line ≡ s.0 ∷ outcome_text s.1.outcome ∷ fen_text s.1.start ∷ moves_text s.1.moves ∷ []
+pub fields_back : (line : List ℕ) (s : Submission) (h : Submits line s) → fields_of line ≡ s.0 ∷ outcome_text s.1.outcome ∷ fen_text s.1.start ∷ moves_text s.1.moves ∷ []
 fields_back line s h =
     let Cut : List ℕ → List (List ℕ) = λ t. slice_split (λ b. eqb b 9) t in
     ap Cut h.text ∙ four_fields s h.id (lawful_game line s h)
 
-pub short_line : (line : List ℕ) (s : Submission) → IsLawful line s → length line ≤ 6312
+pub short_line : (line : List ℕ) (s : Submission) → Submits line s → length line ≤ 6312
 short_line line s h =
     let short = short_text s h.id (lawful_game line s h) in
     elim (cases_return line) [

@@ -14,7 +14,7 @@ use Rattle.pb_moves.specs.Successor.{after}
 use Rattle.pb_moves.proofs.Tested.{clear, is_harmless, is_open, may, unchecked}
 use Rattle.pb_moves.proofs.WorkedMoves.{fools_mate_legal}
 use Rattle.pb_games.specs.Ids.{IsId, IsPrintable}
-use Rattle.pb_games.specs.Submissions.{IsLawful, last_setup, submission_text}
+use Rattle.pb_games.specs.Submissions.{Submits, last_setup, submission_text}
 use Rattle.pb_games.specs.Worked.{worked_line, worked_submission}
 
 text : strip_carriage_return worked_line ≡ submission_text worked_submission
@@ -32,7 +32,7 @@ playable : IsPlayable initial
 unfolding initial_board is_harmless may king_test is_it
 playable = unchecked side.Black 60 initial_board (refl, refl, refl)
 
-pub lawful : IsLawful worked_line worked_submission
+pub lawful : Submits worked_line worked_submission
 lawful = record { text = text; id = id; start = initial_bounds; playable = playable; few = omega arith; legal = fools_mate_legal }
 
 -- the queen on h4 attacks the king on e1

@@ -54,7 +54,7 @@ pub record IsLegalGame (g : Game) : Type 0 where
   pub legal : AreLegal g.start.setup g.moves
 
 -- the line submits this legal game under this id: without one final CR it is their text
-pub record IsLawful (line : List ℕ) (s : Submission) : Type 0 where
+pub record Submits (line : List ℕ) (s : Submission) : Type 0 where
   pub text : strip_carriage_return line ≡ submission_text s
   pub id : IsId s.0
   pub start : IsRecord s.1.start

@@ -5,7 +5,7 @@ ghost use Rattle.pb_moves.specs.Played.{plies_from};
 ghost use Rattle.pb_games.specs.Cuts.{IsCut};
 ghost use Rattle.pb_games.specs.Reading.{AreRead, AreRefused};
 ghost use Rattle.pb_games.specs.Refusing.{Refuses};
-ghost use Rattle.pb_games.specs.Submissions.{IsLawful, Submission, last_setup, plies, setup_after};
+ghost use Rattle.pb_games.specs.Submissions.{Submits, Submission, last_setup, plies, setup_after};
 ghost use Rattle.pb_games.specs.Tokens.{moves_spelt};
 ghost use Rattle.pb_games.specs.declared.fields.TheConstants.{MAX_BYTES};
 
@@ -30,8 +30,8 @@ pub const MAX_PLIES: u32 = 1024;
 ///
 /// The first refusal whose cause stands, in the order of `Refusal`, from `Long` to `Illegal`.
 pub fn check_line(line: &[u8]) -> Result<Line<'_>, Refusal>
-    ensures found { IfOk result (λ s. IsLawful line.now s) }
-    ensures only { (s : Submission) → IsLawful line.now s → result ≡ Ok s }
+    ensures found { IfOk result (λ s. Submits line.now s) }
+    ensures only { (s : Submission) → Submits line.now s → result ≡ Ok s }
     ensures refused { IfErr result (λ e. Refuses line.now e) }
 {
     judge_fields(cut_line(line)?, &mut NoVisitor)
@@ -45,9 +45,9 @@ pub fn judge_fields<'a, P: MoveVisitor>(
 ) -> Result<Line<'a>, Refusal>
     requires { (line : List ℕ) × IsCut line fields }
     ensures found { (line : List ℕ) → IsCut line fields.entry
-        → IfOk result (λ s. IsLawful line s) }
+        → IfOk result (λ s. Submits line s) }
     ensures only { (line : List ℕ) → IsCut line fields.entry
-        → (s : Submission) → IsLawful line s → result ≡ Ok s }
+        → (s : Submission) → Submits line s → result ≡ Ok s }
     ensures refused { (line : List ℕ) → IsCut line fields.entry
         → IfErr result (λ e. Refuses line e) }
     ensures holds { IfOk result

@@ -12,7 +12,7 @@ ghost use Rattle.pb_games.specs.declared.id.TheConstants.{MAX_LEN};
 ghost use Rattle.pb_games.specs.declared.outcome.Outcome.{Outcome};
 ghost use Rattle.pb_games.specs.declared.refusal.Refusal.{Refusal};
 ghost use Rattle.pb_games.specs.declared.refusal.Refusal.TheVariants.{Conflict, Full, Memory};
-ghost use Rattle.pb_games.specs.Submissions.{IsLawful, last_setup, Submission, IsGame, moves_text};
+ghost use Rattle.pb_games.specs.Submissions.{Submits, last_setup, Submission, IsGame, moves_text};
 ghost use Rattle.pb_games.specs.Submissions.{submission_text};
 ghost use Rattle.pb_games.specs.Worked.{worked_line, worked_submission};
 ghost use Rattle.pb_games.specs.Ids.{IsId};
@@ -56,7 +56,7 @@ pub fn refused_by_itself()
 
 /// States that a line that is refused by itself submits no legal game.
 pub fn refused_is_unlawful()
-    ensures { (line : List ℕ) (e : Refusal) (s : Submission) → Refuses line e → ¬ IsLawful line s }
+    ensures { (line : List ℕ) (e : Refusal) (s : Submission) → Refuses line e → ¬ Submits line s }
 {}
 
 /// States that no line is refused by itself in two ways.
@@ -76,6 +76,6 @@ pub fn equal_values()
 
 /// States that a line of Fool's mate submits it, and that White is in check at its end.
 pub fn worked()
-    ensures lawful { IsLawful worked_line worked_submission }
+    ensures lawful { Submits worked_line worked_submission }
     ensures check { InCheck (last_setup worked_submission.1).board White }
 {}

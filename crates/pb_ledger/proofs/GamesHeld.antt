@@ -17,7 +17,7 @@ use Rattle.pb_games.specs.declared.refusal.Refusal.{Refusal}
 use Rattle.pb_games.specs.declared.refusal.Refusal.TheVariants as refusal
 use Rattle.pb_games.specs.Cuts.{fields_of}
 use Rattle.pb_games.specs.Refusing.{IsDue, Refuses}
-use Rattle.pb_games.specs.Submissions.{IsLawful, IsSubmission, Submission, submission_text}
+use Rattle.pb_games.specs.Submissions.{Submits, IsSubmission, Submission, submission_text}
 use Rattle.pb_games.proofs.Texts.{fields_back, lawful_submission, short_line}
 use Rattle.pb_accepted.specs.Accepting as steps
 use Rattle.pb_accepted.specs.Accepting.{Answer, Run, Step}
@@ -72,7 +72,7 @@ no_four line other = elim (cases_Bool (has_shape line)) [
 ]
 
 -- a line that submits a legal game has it
-lawful_shape : (line : List ℕ) (s : Submission) → IsLawful line s → has_shape line ≡ true
+lawful_shape : (line : List ℕ) (s : Submission) → Submits line s → has_shape line ≡ true
 lawful_shape line s h =
     let text = lawful_text s (lawful_submission line s h) in
     has_that_shape line (record {
@@ -108,7 +108,7 @@ module _ (line : List ℕ) (is : Shaped line) where
   same_parts : parts_of bare ≡ parts_of line
   same_parts = ap (fields tab) is.one
 
-  lawful_bare : (s : Submission) → IsLawful line s → IsLawful bare s
+  lawful_bare : (s : Submission) → Submits line s → Submits bare s
   lawful_bare s h = record { text = is.one ∙ h.text; id = h.id; start = h.start; playable = h.playable; few = h.few; legal = h.legal }
 
   refuses_bare : (e : Refusal) → Refuses line e → Refuses bare e

@@ -13,7 +13,7 @@ use Rattle.pb_io.specs.Reads.{chunk_len}
 use Rattle.pb_io.proofs.LineLemmas.{IsQuiet, is_line_feed, lines-begin, lines-ended}
 use Rattle.pb_poly.specs.Reading.{Tells}
 use Rattle.pb_poly.proofs.ToldReads.{all_came, came_first, no_endless, no_fault}
-use Rattle.pb_games.specs.Submissions.{IsLawful, IsSubmission, Submission, submission_text}
+use Rattle.pb_games.specs.Submissions.{Submits, IsSubmission, Submission, submission_text}
 use Rattle.pb_games.proofs.Texts.{one_line, submits}
 use Rattle.pb_accepted.specs.Accepting as steps
 use Rattle.pb_accepted.specs.Accepting.{Answer, Run, Step}
@@ -62,7 +62,7 @@ lines_of_saved A bytes games h =
 
 -- ---- texts as lines that are submitted
 
-pub lawful_text : (s : Submission) → IsSubmission s → IsLawful (submission_text s) s
+pub lawful_text : (s : Submission) → IsSubmission s → Submits (submission_text s) s
 lawful_text s h = submits (submission_text s) s h (inl refl)
 
 module _ (A B : List Submission) (s : Submission) (own : HaveOwnIds (A ++ s ∷ B)) where
@@ -78,7 +78,7 @@ HaveOwnIds-front A B own i j d lt within =
     (subst (λ (s : Submission). (get_or (A ++ B) i d).0 ≢ s.0) (get_or_append_left A B d j within) (own i j d lt (omega (arith, within, length-append A B))))
 
 -- a lawful line under a new id is added, where it isn't refused
-added : (cap : ℕ) (A : List Submission) (line : List ℕ) (s : Submission) (r : Answer) (M : List Submission) → IsLawful line s → IsNewId s.0 A → IsOk r → Step cap A line r M → M ≡ A ++ s ∷ []
+added : (cap : ℕ) (A : List Submission) (line : List ℕ) (s : Submission) (r : Answer) (M : List Submission) → Submits line s → IsNewId s.0 A → IsOk r → Step cap A line r M → M ≡ A ++ s ∷ []
 added most A line s (Err e) M law fresh ok step = cc
 added most A line s (Ok n) M law fresh ok step = elim (step_to most A line (Ok n) M step).1 [
   | inl adds ↦ adds.4 ∙ ap (λ (t : Submission). A ++ t ∷ []) (one_submission line adds.0 s adds.1 law)

@@ -1,7 +1,7 @@
 use Rattle.std.proofs.Common.{refl, subst, true, false, List, ℕ, Ok, Err}
 use Rattle.pb_accepted.specs.Replies.{reply_line}
 use Rattle.std.proofs.lemmas.Result.{err_from_is_err_and}
-use Rattle.pb_games.specs.Submissions.{IsLawful}
+use Rattle.pb_games.specs.Submissions.{Submits}
 use Rattle.pb_commands.proofs.Answering.{line_shows, put_as, stops_as}
 use Rattle.pb_commands.specs.CheckShown as check
 use Rattle.pb_commands.specs.CheckShown.{CheckShown}
@@ -16,13 +16,13 @@ returns-in_err-put_pieces-in-Ok-clause-puts g c line told =
     let p = err_from_is_err_and c.from_residual.result c.from_residual.ensures.1 in
     let is = told_is _ c.in-Some.line line c.in-Some.is told in
     rw (p.1, p.2) (stops_as (CheckShown line) _ _ true _
-    (legal_put line c.id_bytes.result.now c.in-Ok.game (subst (λ (l : List ℕ). IsLawful l c.in-Ok.game) is c.in-Ok.ensures.found) c.id_bytes.ensures) _ c.in_err-put_pieces-in-Ok.ensures)
+    (legal_put line c.id_bytes.result.now c.in-Ok.game (subst (λ (l : List ℕ). Submits l c.in-Ok.game) is c.in-Ok.ensures.found) c.id_bytes.ensures) _ c.in_err-put_pieces-in-Ok.ensures)
 
 pub returns-in_ok-put_pieces-in-Ok-clause-puts : goal.returns-in_ok-put_pieces-in-Ok-clause-puts
 returns-in_ok-put_pieces-in-Ok-clause-puts g c line told =
     let is = told_is _ c.in-Some.line line c.in-Some.is told in
     put_as (CheckShown line) _ _ true _
-    (legal_put line c.id_bytes.result.now c.in-Ok.game (subst (λ (l : List ℕ). IsLawful l c.in-Ok.game) is c.in-Ok.ensures.found) c.id_bytes.ensures) _ c.in_ok-put_pieces-in-Ok.ensures
+    (legal_put line c.id_bytes.result.now c.in-Ok.game (subst (λ (l : List ℕ). Submits l c.in-Ok.game) is c.in-Ok.ensures.found) c.id_bytes.ensures) _ c.in_ok-put_pieces-in-Ok.ensures
 
 pub returns-in-Err-clause-puts : goal.returns-in-Err-clause-puts
 returns-in-Err-clause-puts g c line told =
