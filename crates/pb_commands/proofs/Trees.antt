@@ -1,5 +1,5 @@
 -- Trees of moves, which are put line by line.
-use Rattle.std.proofs.Common.{◌≡◌, ◌∙◌, ℕ, zero, suc, ◌+◌, ◌-◌, ◌<◌, ◌≤◌, All, List, [], ◌∷◌, ◌++◌, Option, None, Some, Result, Ok, Err, codes, ap, append-nil, append_assoc, arith, drop, get_or, inl, inr, length, refl, subst, sym}
+use Rattle.std.proofs.Common.{◌≡◌, ◌∙◌, Bool, true, false, ℕ, zero, suc, ◌+◌, ◌-◌, ◌<◌, ◌≤◌, All, List, [], ◌∷◌, ◌++◌, Option, None, Some, Result, Ok, Err, codes, ap, append-nil, append_assoc, arith, drop, get_or, inl, inr, length, refl, subst, sym}
 use Rattle.std.specs.Io.KnownBytes.{Appends}
 use Rattle.std.specs.List.{repeat}
 use Rattle.std.specs.Option.{IsSome, SomeIff}
@@ -24,7 +24,7 @@ use Rattle.pb_poly.specs.declared.entry.Entry.{Entry}
 use Rattle.pb_poly.specs.Found.{Found}
 use Rattle.pb_poly.proofs.Finding.{found_is_one}
 use Rattle.pb_commands.specs.ProbeShown.{found_text}
-use Rattle.pb_commands.specs.Tree.{Branches, PutsFrontOf, PutsTree, ShowsTree, Tree, branch_line}
+use Rattle.pb_commands.specs.Tree.{Branches, FailsOrWants, PutsFrontOf, PutsTree, ShowsTree, Tree, branch_line}
 
 -- what is found is legal
 abbrev AreLegal : Position → List (Moved × ℕ) → Type 0
@@ -66,11 +66,25 @@ pub record PutsBranches (below : Moved → List ℕ → Type 0) (depth : ℕ) (p
   pub put : Appends old.bytes now.bytes done
   pub whole : (rest : List ℕ) → Branches below depth (drop i pairs) rest → Branches below depth pairs (done ++ rest)
   pub cut : (text : List ℕ) → Branches below depth pairs text → (rest : List ℕ) × Branches below depth (drop i pairs) rest × (done ++ rest ≡ text)
+  pub works : now.failed ≡ old.failed
   pub flushes : now.flushes ≡ old.flushes
+
+works_by : (was now : Bool) → now ≡ false → (was ≡ true → false ≡ true) → now ≡ was
+works_by true now works never = absurd (cc (never refl))
+works_by false now works never = works
+
+-- a put that succeeds leaves a sink that works, as it was
+still_works : (old new : SinkState) (v : Unit {0}) (bytes : List ℕ) → Put {E = Failed} old new (Ok v) bytes → new.failed ≡ old.failed
+still_works old new v bytes put = works_by old.failed new.failed put.failed put.stays_failed
+
+-- want of memory behind a sink that works
+wants_behind : (old mid new : SinkState) (fault : Fault) → mid.failed ≡ old.failed → FailsOrWants mid new fault → FailsOrWants old new fault
+wants_behind old mid new fault works (inl fails) = inl fails
+wants_behind old mid new fault works (inr wants) = inr (wants.0, wants.1 ∙ works)
 
 module _ (below : Moved → List ℕ → Type 0) (depth : ℕ) (pairs : List (Moved × ℕ)) where
   pub none_put : (old : SinkState) → PutsBranches below depth pairs 0 old old
-  none_put old = record { done = []; put = Appends-nil _; whole = λ rest h. h; cut = λ text h. (text, h, refl); flushes = refl }
+  none_put old = record { done = []; put = Appends-nil _; whole = λ rest h. h; cut = λ text h. (text, h, refl); works = refl; flushes = refl }
 
   module _ (i : ℕ) (old mid : SinkState) (before : PutsBranches below depth pairs i old mid) where
     -- a text of all, cut behind the line of one move and the text below it
@@ -99,6 +113,7 @@ module _ (below : Moved → List ℕ → Type 0) (depth : ℕ) (pairs : List (Mo
               (before.whole (line ++ (under ++ rest)) (subst (λ (ps : List (Moved × ℕ)). Branches below depth ps (line ++ (under ++ rest))) (sym (drop_more pairs i d within)) (under, rest, tree.all.1, h, refl)));
           cut = λ text h. let x = cut_at d within text h in
               (x.1, x.3, joined x.1 ∙ ap (λ xs. before.done ++ (line ++ (xs ++ x.1))) (one under x.0 tree.all.1 x.2) ∙ x.4);
+          works = tree.works ∙ still_works _ _ _ _ put ∙ before.works;
           flushes = tree.flushes ∙ put.flushes ∙ before.flushes;
         }
 
@@ -170,6 +185,7 @@ module _ (words : List ℕ) (entries : List Entry) (plies depth : ℕ) (s : Posi
           record {
             all = tt;
             front = λ text h. line_cut below depth pairs i old mid before new x e within here text (branches_of text h);
+            works = tt;
             fault = inl (refl, put.failed);
             flushes = put.flushes ∙ before.flushes;
           }
@@ -197,7 +213,8 @@ module _ (words : List ℕ) (entries : List Entry) (plies depth : ℕ) (s : Posi
             record {
               all = tt;
               front = λ text is. tree_cut below depth pairs i old mid before line_put new x v fault within here under text (branches_of text is);
-              fault = under.fault;
+              works = tt;
+              fault = wants_behind old line_put new fault (still_works _ _ _ _ put ∙ before.works) under.fault;
               flushes = under.flushes ∙ put.flushes ∙ before.flushes;
             }
 
@@ -212,7 +229,7 @@ module _ (words : List ℕ) (entries : List Entry) (plies depth : ℕ) (s : Posi
     pub tree_put : length pairs ≤ i → PutsTree tree old mid (Ok tt)
     tree_put past =
         let all = all_branches below depth pairs i old mid before past in
-        record { all = (all.0, tree_of all.0 all.1, all.2); front = tt; fault = tt; flushes = before.flushes }
+        record { all = (all.0, tree_of all.0 all.1, all.2); front = tt; works = before.works; fault = tt; flushes = before.flushes }
 
 -- the whole tree, from what was put and whether it was handed on
 module _ (is : List ℕ → Type 0) (old : SinkState) where

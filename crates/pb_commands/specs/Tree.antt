@@ -41,16 +41,18 @@ abbrev pub PutsFrontOf : (List ℕ → Type 0) → SinkState → SinkState → T
 PutsFrontOf is sink sink' = (text : List ℕ) → is text
     → (count : ℕ) × Appends sink.bytes sink'.bytes (take count text)
 
--- the sink failed, or memory was wanting
-abbrev pub FailsOrWants : SinkState → Fault → Type 0
-FailsOrWants sink' fault = ((fault ≡ Write) × (sink'.failed ≡ true)) ⊎ (fault ≡ Memory)
+-- the sink failed, or memory was wanting and it did not
+abbrev pub FailsOrWants : SinkState → SinkState → Fault → Type 0
+FailsOrWants sink sink' fault = ((fault ≡ Write) × (sink'.failed ≡ true))
+    ⊎ ((fault ≡ Memory) × (sink'.failed ≡ sink.failed))
 
 -- a text of which this is so was put, or a fault came, and nothing was handed on
 pub record PutsTree (is : List ℕ → Type 0) (sink sink' : SinkState)
     (result : Result (Unit {0}) Fault) : Type 0 where
   pub all : OnOk result ((text : List ℕ) × is text × Appends sink.bytes sink'.bytes text)
   pub front : OnErr result (PutsFrontOf is sink sink')
-  pub fault : IfErr result (FailsOrWants sink')
+  pub works : OnOk result (sink'.failed ≡ sink.failed)
+  pub fault : IfErr result (FailsOrWants sink sink')
   pub flushes : sink'.flushes ≡ sink.flushes
 
 -- the same, and the whole text was handed on
@@ -59,5 +61,5 @@ pub record ShowsTree (is : List ℕ → Type 0) (sink sink' : SinkState)
   pub all : OnOk result ((text : List ℕ) × is text × Appends sink.bytes sink'.bytes text)
   pub handed_on : OnOk result (HandedOnOnce sink sink')
   pub front : OnErr result (PutsFrontOf is sink sink')
-  pub fault : IfErr result (FailsOrWants sink')
+  pub fault : IfErr result (FailsOrWants sink sink')
   pub flushes : OnErr result (sink'.flushes ≡ sink.flushes)
