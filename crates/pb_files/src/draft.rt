@@ -1,6 +1,6 @@
 //! The draft of a file that is to be made anew.
 
-ghost use Rattle.std.specs.Prelude.{◌≡◌, IfErr};
+ghost use Rattle.std.specs.Prelude.{◌≡◌, IfErr, OnOk, true};
 ghost use Rattle.pb_commands.specs.declared.store.StoreError.TheVariants.{Write};
 ghost use Rattle.pb_files.specs.Ends.{IsSynced};
 
@@ -132,9 +132,10 @@ impl<'a> Draft<'a> {
 
     /// Gives the name to the draft, which is this file. Where that fails the draft stays, and is told:
     /// it has all that the run took.
-    pub(crate) fn name(&mut self, _file: &SystemFile<'a>) -> Result<(), StoreError>
-        requires { IsSynced _file.now }
-        ensures { IfErr result (λ why. why ≡ Write) }
+    pub(crate) fn name(&mut self, file: &mut SystemFile<'a>) -> Result<(), StoreError>
+        requires { IsSynced file.old }
+        ensures named { OnOk result (file.new ≡ record file.old { named = true }) }
+        ensures failed { IfErr result (λ why. why ≡ Write) }
     {
         let Named { messages, name } = self.named;
         if !self.is_there() {
@@ -147,6 +148,7 @@ impl<'a> Draft<'a> {
             messages.tell(&format_args!("{name}: {cause}; the new one is {draft}"));
             return Err(StoreError::Write);
         }
+        file.is_named = true;
         Ok(())
     }
 
