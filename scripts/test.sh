@@ -56,6 +56,7 @@ part count python3 -B scripts/theorem.py --check
 part bodies_judged sh tests/bodies.sh
 part shellcheck sh tests/shellcheck.sh
 part completions sh tests/completions.sh
+part mistakes sh tests/wrong_programs.sh --made
 part check sh scripts/check.sh
 had=$(ls -d crates/*/out/rlib 2> /dev/null || :)
 python3 -B scripts/lib/libraries.py note

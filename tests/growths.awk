@@ -15,6 +15,8 @@
 # - `replies KIND SAVED`: replies to submissions of five games of which so many are held before, and
 #   then what such a call makes of the games that are held. A game is refused in place, and its
 #   second line takes it; or a fault ends the call (see `is_tail`).
+# - `again`: five games are collected twice over one ledger. What wants memory first is taken by the
+#   second time, which leaves all games and their book; or a fault ends the second time.
 # - `alone`: no want of memory is told by the call.
 # In each row `failed Memory` may come after a front of the lines that are due.
 BEGIN {
@@ -86,6 +88,8 @@ function wants(row,    parts, n, d, p, times) {
     n = split(rule[row], parts, "\t")
     d = due[row]
     p = put[row]
+    # Where the second time fails the replies of the first may be no front of its own.
+    if (parts[2] == "again") sub(/replies false/, "replies true", p)
     cut = 0
     word = "own"
     if (p == "failed Memory" || p ~ /\nfailed Memory$/) {
@@ -100,6 +104,7 @@ function wants(row,    parts, n, d, p, times) {
     if (parts[2] == "ended") times = is_ended(p, d, parts, n)
     if (parts[2] == "lines") times = is_in_lines(p, d, parts[3], parts[4], parts[5])
     if (parts[2] == "replies") times = is_replied(p, d, parts[3], parts[4])
+    if (parts[2] == "again") times = is_again(p, d)
     return times ? times + cut : 0
 }
 
@@ -215,6 +220,30 @@ function is_replied(p, d, kind, saved,
     return 0
 }
 
+# What may come of games that are collected twice.
+function is_again(p, d,    first, i) {
+    first = substr(d, 1, index(d, "\n"))
+    if (is_front(first, p))
+        return is_replied(substr(p, length(first) + 1), substr(d, length(first) + 1), "collect", 5)
+    first = ", a front of the replies true"
+    for (i = 1; i <= 5; i++) if (same(p, taken_again(totals(4, 0, 1) first, 4, i))) return 1
+    for (i = 0; i <= 5; i++) if (same(p, taken_again("Err(Write)" first, i, 6))) return 1
+    return same(p, taken_again("Err(Memory)" first, 0, 6))
+}
+
+# This line, and what comes of five games of which so many were held before: all but this one, or
+# the first ones.
+function taken_again(first, held, wanting,    text, i) {
+    text = first
+    for (i = 1; i <= 5; i++)
+        text = text "\nok g" i " " (i < wanting ? i : i == wanting ? 5 : i - 1)
+    return text "\n" totals(5 - held, held, 0) "\nheld: 5" book(5)
+}
+
+function totals(new, repeats, refused) {
+    return "Ok(Totals { lines: 5, new: " new ", repeats: " repeats ", refused: " refused " })"
+}
+
 # What is due where so many lines were refused, and each was taken when it came again.
 function with_refusals(text, times) {
     sub(/repeats: 5, refused: 0/, "repeats: " 5 - times ", refused: " times, text)
@@ -235,7 +264,7 @@ function is_fault(kind, text, k, saved, none, fault,    said, run, lost) {
     run = "Err(Run(Fault(" fault ")))\nnothing is kept"
     if (kind == "collect") {
         # Its own is that of its line, before the first submission.
-        if (fault == "Memory" && !(none && k == 0)) return 0
+        if (fault == "Memory" && !(none && k == saved)) return 0
         return same(text, "Err(" fault ")\nheld: " k book(k))
     }
     if (kind == "collected") return same(text, said)

@@ -11,7 +11,8 @@
 # The programs are built from a copy of the tree without proof, a minute or two each. Of tests/io.sh,
 # which takes such a program some minutes, a mistake names a run.
 # Usage: tests/wrong_programs.sh [PROGRAM..] (at the top of the repository; all where none is given,
-# and the one without a mistake too; strace has to be there).
+# and the one without a mistake too; strace has to be there)
+#        tests/wrong_programs.sh --made   tries only that each mistake can still be made
 set -eu
 unset PROGRAM
 . tests/lib/harness.sh
@@ -60,12 +61,17 @@ make_mistake() {
         END { if (!failed) finish(); exit failed || !made }' "$1"
 }
 
-# build PROGRAM: builds it as $work/PROGRAM with its mistakes, or `right` without one
-build() {
+# make_mistakes PROGRAM: makes its mistakes in a copy of the tree, or none for `right`
+make_mistakes() {
     copy_tree . "$work/tree"
     for mistake in tests/wrong_programs/"$1"-*.edit; do
         [ "$1" = right ] || holds make_mistake "$mistake"
     done
+}
+
+# build PROGRAM: builds it as $work/PROGRAM
+build() {
+    make_mistakes "$1"
     holds build_unproved "$work/tree" "$work/$1"
 }
 
@@ -99,12 +105,21 @@ is_seen() {
 # seen_by FILE..: the script and the check that see each of these mistakes
 seen_by() { sed -n 's/^seen by: //p' "$@"; }
 
-[ $# -gt 0 ] || {
-    # shellcheck disable=SC2046 # each name is a word
-    set -- right $(for file in tests/wrong_programs/*.edit; do
+programs() {
+    for file in tests/wrong_programs/*.edit; do
         basename "$file" | sed 's/-.*//'
-    done | sort -u)
+    done | sort -u
 }
+
+if [ "$*" = --made ]; then
+    for program in $(programs); do
+        check "the mistakes of this program can be made: $program" make_mistakes "$program"
+    done
+    finish
+    exit
+fi
+# shellcheck disable=SC2046 # each name is a word
+[ $# -gt 0 ] || set -- right $(programs)
 strace -o /dev/null true 2> /dev/null || {
     leave_out 'strace is wanted' "$@"
     exit 0
