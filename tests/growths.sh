@@ -91,7 +91,9 @@ are_seen() {
             next
         }
         /^#/ || /^$/ { next }
-        !(($1, $2 == "alone" ? "failed" : "own") in seen) {
+        # Where all that follow are refused too there is no second time.
+        { told = $2 == "alone" || $2 == "again" && how == "all" ? "failed" : "own" }
+        !(($1, told) in seen) {
             print "    a row is not seen to want memory: " $1
             failed = 1
         }
