@@ -38,6 +38,8 @@ unpack() {
 # count FILE: tells how many games this file has, by what pgn-extract says of it
 count() {
     awk -v file="$1" '
+        # After each thousand games a number stands before what it says next, on the same line.
+        { sub(/^.*\r/, "") }
         $0 == "Missing result." { cut++ }
         /^[0-9]+ games? matched out of [0-9]+\.$/ { whole = $1; all = $6 + 0; ended = 1 }
         END {

@@ -107,6 +107,16 @@ bad_pgn() {
     holds cmp due lines
 }
 
+# After a thousand games pgn-extract says more on the line of their number.
+thousand_of_pgn() {
+    for event in $(seq 1000); do
+        printf '[Event "%s"]\n[Result "1-0"]\n\n1. e4 1-0\n\n' "$event"
+    done > thousand.pgn
+    holds tells_of 0 'pgn_to_lines.sh: thousand.pgn: games: 1000, left out: 0, cut: 0' \
+        "$shared/pgn_to_lines.sh" w1 thousand.pgn
+    holds test "$(count '' printed)" -eq 1000
+}
+
 no_pgn() {
     : > empty.pgn
     gzip -c "$shared/games.pgn" | head -c 2000 > cut.pgn.gz
@@ -541,7 +551,7 @@ can_kill_nights() { has python3 && has flock; }
 has_pgn_extract() { has pgn-extract && has gzip; }
 [ $# -gt 0 ] || {
     choose has_pgn_extract 'pgn-extract and gzip are wanted' lines_of_pgn starts_of_pgn \
-        bad_pgn no_pgn bundled_pgn
+        bad_pgn thousand_of_pgn no_pgn bundled_pgn
     choose 'has python3' 'python3 is wanted' client_answers client_faults client_killed \
         client_lines client_threads serve_answers serve_ends serve_limits serve_slow serve_workers
     choose 'has polyglot' 'polyglot is wanted' own_table
