@@ -81,7 +81,7 @@ killed_runs() {
     run=0
     while read -r moment; do
         : > replies
-        "$PROGRAM" collect --journal journal "$@" table book < games > replies 2> errors &
+        "$PROGRAM" collect -q --journal journal "$@" table book < games > replies 2> errors &
         collector=$!
         worker 0 "$run" & first=$!
         worker 1 "$run" & second=$!
@@ -102,9 +102,10 @@ killed_runs() {
     holds grep -q '^ok' answered
 }
 
-# The last run takes all games, and nothing interrupts it, and tells nothing on standard error.
+# The last run takes all games, and nothing interrupts it, and tells no error. That a kill has cut a
+# line is a warning, which -q leaves out.
 whole_run() {
-    "$PROGRAM" collect --journal journal "$@" table book < all > last 2> errors
+    "$PROGRAM" collect -q --journal journal "$@" table book < all > last 2> errors
     holds test ! -s errors
 }
 
