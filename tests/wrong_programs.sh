@@ -105,6 +105,7 @@ is_seen() {
 # seen_by FILE..: the script and the check that see each of these mistakes
 seen_by() { sed -n 's/^seen by: //p' "$@"; }
 
+# programs: the names of all that have mistakes
 programs() {
     for file in tests/wrong_programs/*.edit; do
         basename "$file" | sed 's/-.*//'
