@@ -33,6 +33,7 @@ use pb_poly::{
     probe, read_book, read_table, write_book, write_entry,
 };
 use std::alloc::{AllocError, Global};
+use std::error::Error;
 use std::hash::Hash;
 use std::io::Cursor;
 
@@ -53,10 +54,14 @@ macro_rules! payloads {
     };
 }
 
-/// Names the members of an enum: it doesn't compile with one more or one less.
+/// Names the members of an enum, those that hold something last: it doesn't compile with one more or
+/// one less.
 macro_rules! members {
-    ($name:ident: $($member:ident)*) => {
-        let _ = |value: $name| match value { $($name::$member { .. } => true),* };
+    ($name:ident: $($unit:ident)*; $($held:ident)*) => {
+        let _ = |value: $name| match value {
+            $($name::$unit => true,)*
+            $($name::$held { .. } => true),*
+        };
     };
 }
 
@@ -67,6 +72,8 @@ fn is_compared<T: Eq>() {}
 fn is_hashed<T: Hash>() {}
 
 fn is_ordered<T: Ord>() {}
+
+fn is_error<T: Error>() {}
 
 /// Asks the types for what callers do with their values.
 fn traits() {
@@ -80,27 +87,29 @@ fn traits() {
     each!(is_hashed: Move, MoveText, Outcome, Id);
     each!(is_hashed: FenError, SetupError, EpdError, PutError, Refusal);
     each!(is_ordered: Square, Colour, Kind, Piece);
+    each!(is_error: FenError, SetupError, EpdError, PutError, TableError, BookError);
+    each!(is_error: Failed, Refusal, CollectFault, ExportFault, LoadError, Fault, ParseFault);
 }
 
 /// Names the members of the types that have some.
 fn members() {
-    members!(Colour: White Black);
-    members!(Kind: Pawn Knight Bishop Rook Queen King);
-    members!(SetupError: Kings Pawns EnPassant);
+    members!(Colour: White Black;);
+    members!(Kind: Pawn Knight Bishop Rook Queen King;);
+    members!(SetupError: Kings Pawns EnPassant;);
     members!(FenError: Fields Placement Turn Castling EnPassantText Half Full
-        Kings Pawns EnPassantPawn);
-    members!(Operand: Word Text);
-    members!(PutError: Opcode Operand Repeated Memory);
-    members!(EpdError: Token Fields Setup Opcode Unended Repeated Memory);
-    members!(TableError: Line Count Memory);
-    members!(BookError: Unsorted Cut Read Endless Memory);
-    members!(Outcome: White Black Draw);
-    members!(Refusal: Long Shape Id Result Fen Start Spelling Plies Illegal Conflict Full Memory);
-    members!(CollectFault: Read Write Endless Memory);
-    members!(ExportFault: Write Memory);
-    members!(LoadError: Line Read Endless Memory);
-    members!(Fault: Read Write Endless Memory);
-    members!(ParseFault: Usage Memory);
+        Kings Pawns EnPassantPawn;);
+    members!(Operand:; Word Text);
+    members!(PutError: Opcode Repeated Memory; Operand);
+    members!(EpdError: Fields Unended Memory; Token Setup Opcode Repeated);
+    members!(TableError: Memory; Line Count);
+    members!(BookError: Read Endless Memory; Unsorted Cut);
+    members!(Outcome: White Black Draw;);
+    members!(Refusal: Long Shape Id Result Start Plies Full Memory; Fen Spelling Illegal Conflict);
+    members!(CollectFault: Read Write Endless Memory;);
+    members!(ExportFault: Write Memory;);
+    members!(LoadError: Read Endless Memory; Line);
+    members!(Fault: Read Write Endless Memory;);
+    members!(ParseFault: Memory; Usage);
     payloads!(Operand::Word: OperandBytes, Operand::Text: OperandBytes, PutError::Operand: usize);
     payloads!(EpdError::Token: usize, EpdError::Setup: FenError, EpdError::Opcode: usize);
     payloads!(EpdError::Repeated: usize, TableError::Line: usize, TableError::Count: usize);

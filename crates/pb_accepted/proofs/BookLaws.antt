@@ -12,7 +12,8 @@ use Rattle.pb_accepted.specs.Counting.{count, counted, times, IsGreatest, IsBook
 use Rattle.pb_accepted.specs.Laws.{NoRepeats, SameMembers}
 use Rattle.pb_accepted.specs.declared.ply_points.PlyPoints.{PlyPoints}
 use Rattle.pb_accepted.proofs.GivenPoints.{counted_of, one, share}
-use Rattle.pb_accepted.proofs.Members.{same_in_order, permutation_from_members}
+use Rattle.pb_accepted.proofs.Members.{permutation_from_members}
+use Rattle.pb_board.proofs.InOrder.{same_in_order}
 
 -- ---- one book
 

@@ -11,7 +11,7 @@ use Rattle.pb_points.specs.Rows.{IsBookOfRows, frequent}
 use Rattle.pb_points.specs.Tally.{Content, held_of}
 use Rattle.pb_points.specs.TallyBook.{AddsBookOf, is_within, stretch_of}
 use Rattle.pb_points.specs.Weight.{Before}
-use Rattle.pb_points.proofs.Elements.{contains_filter, within_filter}
+use Rattle.pb_board.proofs.Elements.{contains_filter, within_filter}
 use Rattle.pb_points.proofs.Groups.{AllPairs-append}
 use Rattle.pb_points.proofs.Stretches.{above, before, held_within, in_either, in_first, in_second, none_within, stretched}
 use Rattle.pb_accepted.specs.Counting.{IsBook, stretch}
@@ -20,7 +20,7 @@ use Rattle.pb_accepted.specs.declared.ply_points.PlyPoints.{PlyPoints}
 use Rattle.pb_accepted.proofs.BookLaws.{before_both, before_itself}
 use Rattle.pb_accepted.proofs.Books.{IsBookWithin, book_within}
 use Rattle.pb_accepted.proofs.Frequent.{frequent_rows}
-use Rattle.pb_accepted.proofs.Members.{same_in_order}
+use Rattle.pb_board.proofs.InOrder.{same_in_order}
 use Rattle.pb_accepted.proofs.SomeBooks.{some_book_of}
 
 module _ (G : List PlyPoints) (least : ℕ) (first : ℕ) (next : Option ℕ) where

@@ -5,7 +5,7 @@ use Rattle.std.proofs.lemmas.Bool.{leb-true, le-leb}
 use Rattle.std.proofs.lemmas.List.Elements.{All-contains, filter_passes}
 use Rattle.pb_points.specs.declared.row.Row.{Row}
 use Rattle.pb_points.specs.Rows.{frequent}
-use Rattle.pb_points.proofs.Elements.{contains_filter, within_filter}
+use Rattle.pb_board.proofs.Elements.{contains_filter, within_filter}
 
 -- a row is left just where it was there and occurs so often
 pub frequent_rows : (least : ℕ) (rows : List Row) (r : Row) → Contains (frequent least rows) r ↔ (Contains rows r × (least ≤ r.times))

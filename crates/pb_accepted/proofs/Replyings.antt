@@ -15,7 +15,7 @@ use Rattle.pb_accepted.specs.Accepting as step
 use Rattle.pb_accepted.specs.Refusals.{IsRefused}
 use Rattle.pb_accepted.specs.Replies.{replies, reply, reply_text, reply_texts}
 use Rattle.pb_accepted.specs.Replying as replied
-use Rattle.pb_accepted.specs.Holding.{most_games}
+use Rattle.pb_accepted.specs.Replying.{most_games}
 use Rattle.pb_accepted.specs.Replying.{AreNumbered, Arrives, IsNumber, Replies, Reply, ok, refused}
 use Rattle.pb_accepted.proofs.Decimals.{same_number}
 use Rattle.pb_accepted.proofs.Held.{has_room}

@@ -25,7 +25,7 @@ use Rattle.pb_points.specs.declared.row.Row.{Row}
 use Rattle.pb_points.specs.Rows.{frequent}
 use Rattle.pb_points.specs.Tally.{Content, Held, held_of, is_pair, nothing}
 use Rattle.pb_points.specs.Weight.{scaled}
-use Rattle.pb_points.proofs.Elements.{all_of, contains_cases, contains_head, contains_tail}
+use Rattle.pb_board.proofs.Elements.{all_of, contains_cases, contains_head, contains_tail}
 use Rattle.pb_points.proofs.Pairs.{is_pair_same}
 use Rattle.pb_points.proofs.SomeBooks.{some_book}
 use Rattle.pb_accepted.specs.Basis.{Basis}

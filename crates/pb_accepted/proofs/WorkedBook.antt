@@ -19,7 +19,7 @@ use Rattle.pb_games.specs.Submissions.{Submission}
 use Rattle.pb_games.specs.Worked.{worked_line, worked_submission}
 use Rattle.pb_games.proofs.WorkedLine as line
 use Rattle.pb_points.specs.Weight.{Before, scaled}
-use Rattle.pb_points.proofs.Elements.{contains_head, contains_tail}
+use Rattle.pb_board.proofs.Elements.{contains_head, contains_tail}
 use Rattle.pb_accepted.specs.Counting.{IsBook, IsGreatest, count, counted, times}
 use Rattle.pb_accepted.specs.Replying.{Replies, new}
 use Rattle.pb_accepted.specs.Worked.{worked_basis, worked_book, worked_bytes}

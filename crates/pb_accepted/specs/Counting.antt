@@ -32,7 +32,8 @@ given_by randoms o p =
 
 -- what each ply gives that counts: these are the first ones of each game
 abbrev pub counted : Basis → List Submission → List PlyPoints
-counted T S = flat_map (λ s. map (given_by T.randoms s.1.outcome) (take T.rules.plies (plies s.1))) S
+counted T S =
+    flat_map (λ s. map (given_by T.randoms s.1.outcome) (take T.rules.plies (plies s.1))) S
 
 -- how often a key and a code occur
 abbrev pub times : List PlyPoints → ℕ → ℕ → ℕ

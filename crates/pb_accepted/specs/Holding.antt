@@ -7,16 +7,13 @@ use Rattle.pb_games.specs.Submissions.{Submission, IsSubmission}
 use Rattle.pb_points.specs.Tally.{Content, Held, held}
 use Rattle.pb_accepted.specs.Counting.{count, counted, times}
 use Rattle.pb_accepted.specs.Ledger.{LedgerState}
+use Rattle.pb_accepted.specs.Replying.{most_games}
 use Rattle.pb_accepted.specs.Rules.{AreRules}
 use Rattle.pb_accepted.specs.declared.ply_points.PlyPoints.{PlyPoints}
 
 -- no id stands twice
 abbrev pub HaveOwnIds : List Submission → Type 0
 HaveOwnIds A = AllPairs (λ s t. s.0 ≢ t.0) A
-
--- the most games that a ledger may hold
-abbrev pub most_games : ℕ
-most_games = 1000000
 
 -- the rules that every ledger meets
 pub record IsLedger (l : LedgerState) : Type 0 where

@@ -9,7 +9,8 @@ use Rattle.pb_accepted.specs.Counting.{given_by, points_for}
 
 -- these plies of a game with this outcome were noted, what a ply of each side gives is by the
 -- outcome, and the key is that of the setup
-pub record HoldsPlies (r : Recorder) (outcome : Outcome) (ps : List Ply) (t : Position) : Type 0 where
+pub record HoldsPlies (r : Recorder) (outcome : Outcome) (ps : List Ply) (t : Position)
+    : Type 0 where
   pub outcome_is : r.outcome ≡ outcome
   pub key_is : r.key ≡ key r.table t
   pub ply_points : r.ply_points.items ≡ map (given_by r.table outcome) ps

@@ -37,6 +37,10 @@ refused why = codes "refused " ++ why
 abbrev pub IsNew : List Submission → List ℕ → Submission → Type 0
 IsNew A line s = Submits line s × IsNewId s.0 A
 
+-- the most games that a ledger may hold
+abbrev pub most_games : ℕ
+most_games = 1000000
+
 -- r is the reply to the line, where the list A may have at most cap members, and A becomes B
 pub data Reply (cap : ℕ) (A : List Submission) (line r : List ℕ)
     (B : List Submission) : Type 0 where

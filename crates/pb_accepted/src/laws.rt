@@ -18,10 +18,10 @@ ghost use Rattle.pb_accepted.specs.declared.ledger.TheConstants.{MAX_CAP};
 ghost use Rattle.pb_accepted.specs.declared.rules.TheConstants.{MAX_LEAST};
 ghost use Rattle.pb_accepted.specs.Accepting.{OneGame, Answer, Step, Run, Taken};
 ghost use Rattle.pb_accepted.specs.Counting.{IsBook, counted, count};
-ghost use Rattle.pb_accepted.specs.Holding.{most_games, HaveOwnIds};
+ghost use Rattle.pb_accepted.specs.Holding.{HaveOwnIds};
 ghost use Rattle.pb_accepted.specs.Laws.{NoRepeats, SameMembers};
 ghost use Rattle.pb_accepted.specs.Replying.{Arrives, AreNumbered, IsNewId, IsNumber, Replies};
-ghost use Rattle.pb_accepted.specs.Replying.{Reply, ok, refused};
+ghost use Rattle.pb_accepted.specs.Replying.{Reply, most_games, ok, refused};
 ghost use Rattle.pb_accepted.specs.Rules.{CountingRules};
 ghost use Rattle.pb_accepted.specs.Worked.{worked_basis, worked_book, worked_bytes};
 ghost use Rattle.pb_accepted.specs.Replies.{named, replies as replies_to, reply, reply_texts};
@@ -54,8 +54,8 @@ pub fn one_line()
         (B : List Submission) → Step cap A line r B → length (named line r) ≤ 64 }
 {}
 
-/// States that lines with their answers fix what is held, whatever room there was, and that two runs
-/// in a row are one.
+/// States that lines with their answers fix what is held, whatever room there was, and that two
+/// runs in a row are one.
 pub fn runs()
     ensures one { (cap most : ℕ) (A : List Submission) (L : List (List ℕ)) (R : List Answer)
         (B C : List Submission) → Run cap A L R B → Run most A L R C → B ≡ C }

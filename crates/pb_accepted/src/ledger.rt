@@ -10,10 +10,9 @@ ghost use Rattle.pb_points.specs.TallyBook.{AddsSome};
 ghost use Rattle.pb_poly.specs.Entry.{IsEntry};
 ghost use Rattle.pb_poly.specs.declared.entry.Entry.{Entry};
 ghost use Rattle.pb_accepted.specs.Accepting.{Step, answer_of, says_new};
-ghost use Rattle.pb_accepted.specs.Replying.{IsNewId, IsNumber};
+ghost use Rattle.pb_accepted.specs.Replying.{IsNewId, IsNumber, most_games};
 ghost use Rattle.pb_accepted.specs.Counting.{IsBook, count, counted as counted_by, stretch, times};
-ghost use Rattle.pb_accepted.specs.Holding.{IsLedger, lost as lost_of, most_games, rowed};
-ghost use Rattle.pb_accepted.specs.Holding.{with_ply_points};
+ghost use Rattle.pb_accepted.specs.Holding.{IsLedger, lost as lost_of, rowed, with_ply_points};
 ghost use Rattle.pb_accepted.specs.Rules.{AreRules, all_plies};
 
 use crate::lost_ply::{LostPly, lost_times};
@@ -259,8 +258,8 @@ impl<T: Tally> Ledger<T> {
     }
 
     /// Adds the stretch of the opening book from the key `first` on to the entries, and answers the
-    /// key with which the next one begins. All stretches from the key 0 on are the book. Where memory
-    /// is wanting, some entries may have been added.
+    /// key with which the next one begins. All stretches from the key 0 on are the book. Where
+    /// memory is wanting, some entries may have been added.
     pub fn add_stretch(
         &self,
         alloc: Global,

@@ -1,12 +1,12 @@
 -- The texts of ranks, boards and castling rights are those that the relations tell.
-use Rattle.std.proofs.Common.{◌≡◌, ℕ, zero, suc, ◌+◌, ◌*◌, ◌≤◌, false, ◌==◌, eqb, List, [], ◌∷◌, ◌++◌, length, drop, replicate, Some, None, refl, ap, subst, inl, inr, arith}
+use Rattle.std.proofs.Common.{◌≡◌, ◌↔◌, ◌∙◌, ℕ, zero, suc, ◌+◌, ◌*◌, ◌≤◌, false, ◌==◌, eqb, List, [], ◌∷◌, ◌++◌, length, drop, replicate, Some, None, refl, sym, ap, subst, inl, inr, arith}
 use Rattle.std.specs.Prelude.{codes, if◌then◌else◌}
 use Rattle.std.proofs.lemmas.List.{length-take}
 use Rattle.pb_board.specs.declared.setup.Rights.{Rights}
 use Rattle.pb_board.specs.Board.{Place}
-use Rattle.pb_board.specs.Ranks.{RankText}
+use Rattle.pb_board.specs.Ranks.{BeginsOccupied, RankText}
 use Rattle.pb_board.specs.Rights.{of_rights}
-use Rattle.pb_board.specs.Text.{castling_text, empty_squares, placement_text, rank_text}
+use Rattle.pb_board.specs.Text.{castling_text, empty_squares, piece_letter, placement_text, rank_text}
 use Rattle.pb_board.proofs.Placements.{PlacementText, rank_of}
 
 -- ---- ranks
@@ -26,6 +26,28 @@ rank_is n (None ∷ squares) few =
 rank_is zero (Some p ∷ squares) few = (squares, inl (p, refl, refl), rank_is 0 squares (omega (arith, few)))
 rank_is (suc n) (Some p ∷ squares) few =
     rw (run_is n) (Some p ∷ squares, inr (suc n, omega arith, omega (arith, few), refl, refl, tt), (squares, inl (p, refl, refl), rank_is 0 squares (omega (arith, few))))
+
+-- the text of squares that begin with so many empty ones and no more
+empty_first : (n : ℕ) (rest : List Place) → BeginsOccupied rest → rank_text (suc n) rest ≡ (48 + suc n) ∷ rank_text 0 rest
+empty_first n [] begins = run_is n
+empty_first n (Some p ∷ rest) begins = rw (run_is n) refl
+empty_first n (None ∷ rest) begins = absurd begins
+
+all_empty : (k n : ℕ) (rest : List Place) → rank_text k (replicate n None ++ rest) ≡ rank_text (k + n) rest
+all_empty k zero rest = let e : k + 0 ≡ k = omega arith in rw e refl
+all_empty k (suc n) rest = let e : k + suc n ≡ k + 1 + n = omega arith in rw e (all_empty (k + 1) n rest)
+
+rank_was : (squares : List Place) (t : List ℕ) → RankText squares t → t ≡ rank_text 0 squares
+rank_was squares [] h = rw h refl
+rank_was squares (c ∷ t) (rest, inl (p, letter, is), left) = rw (is, letter) (ap (λ (w : List ℕ). piece_letter p ∷ w) (rank_was rest t left))
+rank_was squares (c ∷ t) (rest, inr (zero, some, few, digit, is, begins), left) = absurd (omega (arith, some))
+rank_was squares (c ∷ t) (rest, inr (suc n, some, few, digit, is, begins), left) =
+    let none : 0 + suc n ≡ suc n = omega arith in
+    let blank : rank_text 0 (replicate (suc n) None ++ rest) ≡ rank_text (suc n) rest = all_empty 0 (suc n) rest ∙ ap (λ m. rank_text m rest) none in
+    rw (is, digit) (ap (λ (w : List ℕ). (48 + suc n) ∷ w) (rank_was rest t left) ∙ sym (blank ∙ empty_first n rest begins))
+
+pub rank_text_is : (squares : List Place) (t : List ℕ) → length squares ≤ 8 → RankText squares t ↔ t ≡ rank_text 0 squares
+rank_text_is squares t few = (rank_was squares t, λ e. subst (RankText squares) (sym e) (rank_is 0 squares (omega (arith, few))))
 
 rank_at : (board : List Place) (r : ℕ) → RankText (rank_of board r) (rank_text 0 (rank_of board r))
 rank_at board r = rank_is 0 (rank_of board r) (omega (arith, length-take 8 (drop (8 * r) board)))

@@ -33,21 +33,21 @@ abbrev pub HasNoEdgePawn : Board → Type 0
 HasNoEdgePawn board = (q : ℕ) (side : Colour) → Holds board q (piece_of side Pawn)
     → (0 < rank q) × (rank q < 7)
 
--- the square directly beyond an en passant square, one rank nearer to this side, which is to move:
--- the pawn stands there that made the double step
-abbrev pub beyond : Colour → ℕ → ℕ
-beyond White q = q - 8
-beyond Black q = q + 8
+-- where the pawn stands that made a double step over this en passant square: on the next square
+-- towards this side, which is to move
+abbrev pub double_stepped : Colour → ℕ → ℕ
+double_stepped White q = q - 8
+double_stepped Black q = q + 8
 
 -- the square is on the sixth rank of the side to move
 abbrev pub OnEnPassantRank : Colour → ℕ → Type 0
 OnEnPassantRank turn q = rank_for turn q ≡ 5
 
--- an en passant square is on that rank and empty, and beyond it stands an enemy pawn, as after a
--- double step
+-- an en passant square is on that rank and empty, and an enemy pawn stands where one stands after
+-- its double step
 abbrev pub EnPassantHolds : Board → Colour → Option ℕ → Type 0
 EnPassantHolds board turn ep = IfSome ep (λ q. OnEnPassantRank turn q
-    × (IsEmpty board q × Holds board (beyond turn q) (piece_of (opponent turn) Pawn)))
+    × (IsEmpty board q × Holds board (double_stepped turn q) (piece_of (opponent turn) Pawn)))
 
 -- The rules that every setup meets. Castling rights are those of the record, wherever the kings and
 -- rooks stand.

@@ -1,5 +1,5 @@
 -- The text of a rank as a relation, byte by byte. Private functions that read and write ranks are
--- proved by it; the lemma `rank_is` of proofs/Spelled.antt shows that `rank_text` gives it.
+-- proved by it. Law `rank_text_is` ties it to `rank_text`.
 use Rattle.std.specs.Prelude.{◌≡◌, ℕ, ◌+◌, ◌≤◌, ◌⊎◌, List, [], ◌∷◌, ◌++◌, replicate, Some, None}
 use Rattle.pb_board.specs.declared.piece.Piece.{Piece}
 use Rattle.pb_board.specs.Board.{Place}

@@ -42,8 +42,8 @@ impl Fen {
         Fen { setup, half, full }
     }
 
-    /// Makes the record of a setup, its half-move clock and its full move number. None exactly where
-    /// `full` is 0.
+    /// Makes the record of a setup, its half-move clock and its full move number. None exactly
+    /// where `full` is 0.
     pub fn new(setup: Setup, half: u16, full: u16) -> Option<Fen>
         ensures { SomeIff result (0 < full) (record_of setup half full) }
     {

@@ -1,14 +1,16 @@
 //! Laws of FEN records and their texts, and of equality (`==`) and order.
 
-ghost use Rattle.std.specs.Prelude.{◌≡◌, ℕ, List, codes};
+ghost use Rattle.std.specs.Prelude.{◌≡◌, ℕ, ◌↔◌, ◌≤◌, List, codes, length};
 ghost use Rattle.std.specs.Bool.{Decides};
 ghost use Rattle.std.specs.Ordering.{nat_cmp, ordering_then};
 ghost use Rattle.pb_board.specs.Position.{Position, Record, IsSetup, IsRecord, record_of};
+ghost use Rattle.pb_board.specs.Board.{Place};
 ghost use Rattle.pb_board.specs.Initial.{initial};
 ghost use Rattle.pb_board.specs.Fields.{fields, space};
 ghost use Rattle.pb_board.specs.Piece.{colour_number, kind_number};
+ghost use Rattle.pb_board.specs.Ranks.{RankText};
 ghost use Rattle.pb_board.specs.Refusal.{IsDueFen, IsFirstOf, fen_errors};
-ghost use Rattle.pb_board.specs.Text.{fen_text, setup_fields};
+ghost use Rattle.pb_board.specs.Text.{fen_text, rank_text, setup_fields};
 ghost use Rattle.pb_board.specs.declared.castling.Castling.{Castling};
 ghost use Rattle.pb_board.specs.declared.castling.CastlingSquares.{CastlingSquares};
 ghost use Rattle.pb_board.specs.declared.piece.Colour.{Colour};
@@ -38,10 +40,22 @@ pub fn one_setup()
         → four ≡ setup_fields p → four ≡ setup_fields q → p ≡ q }
 {}
 
+/// The text of a rank is the one that relates to its squares, byte by byte.
+pub fn rank_text_is()
+    ensures { (squares : List Place) (t : List ℕ) → length squares ≤ 8
+        → RankText squares t ↔ (t ≡ rank_text 0 squares) }
+{}
+
 /// No refusal is due for a text of a record.
 pub fn none_due()
     ensures { (f : Record) (t : List ℕ) (e : FenError) → IsRecord f → t ≡ fen_text f
         → ¬ IsFirstOf fen_errors (IsDueFen (fields space t)) e }
+{}
+
+/// No text is refused in two ways.
+pub fn one_refusal()
+    ensures { (texts : List (List ℕ)) (d e : FenError) → IsFirstOf fen_errors (IsDueFen texts) d
+        → IsFirstOf fen_errors (IsDueFen texts) e → d ≡ e }
 {}
 
 /// Setups are equal (`==`) exactly where they are one position, and castling rights where each flag

@@ -31,12 +31,13 @@ fn read_four(four: [&[u8]; 4]) -> Result<Result<Setup, SetupError>, FenError>
     Ok(Setup::build(board, turn, rights, ep))
 }
 
-/// Reads the setup that the first four fields of a record spell (PGN Standard 16.1.3.1 to 16.1.3.4).
+/// Reads the setup that the first four fields of a record spell (PGN Standard 16.1.3.1 to
+/// 16.1.3.4).
 ///
 /// # Errors
 ///
-/// The first that is due of `Placement`, `Turn`, `Castling` and `EnPassantText`, and then of `Kings`,
-/// `Pawns` and `EnPassantPawn`.
+/// The first that is due of `Placement`, `Turn`, `Castling` and `EnPassantText`, and then of
+/// `Kings`, `Pawns` and `EnPassantPawn`.
 pub fn read_setup(four: [&[u8]; 4]) -> Result<Setup, FenError>
     ensures found { IfOk result (λ s. IsSetup s × (map (λ t. t.now) four.entry ≡ setup_fields s)) }
     ensures only { (p : Position) → IsSetup p → map (λ t. t.now) four.entry ≡ setup_fields p
@@ -46,7 +47,8 @@ pub fn read_setup(four: [&[u8]; 4]) -> Result<Setup, FenError>
     Ok(read_four(four)??)
 }
 
-/// Reads the record that the text spells: six fields with single spaces between (PGN Standard 16.1).
+/// Reads the record that the text spells: six fields with single spaces between (PGN Standard
+/// 16.1).
 ///
 /// # Errors
 ///

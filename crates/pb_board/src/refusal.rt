@@ -11,8 +11,8 @@ pub enum SetupError {
     Kings,
     #[error("it has a pawn on rank 1 or 8")]
     Pawns,
-    /// The square isn't on rank 6 with White to move or rank 3 with Black to move, isn't empty, or no
-    /// enemy pawn stands directly beyond it.
+    /// The square isn't on rank 6 with White to move or rank 3 with Black to move, isn't empty, or
+    /// no enemy pawn stands directly beyond it.
     #[error("no pawn has just passed over its en passant square")]
     EnPassant,
 }

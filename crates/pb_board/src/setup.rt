@@ -10,8 +10,8 @@ use crate::square::Square;
 use crate::state_fields::en_passant_rank;
 use std::marker::Model;
 
-/// Holds the castling rights (PGN Standard 16.1.3.3), as they were given, even where the king or the
-/// rook isn't at home.
+/// Holds the castling rights (PGN Standard 16.1.3.3), as they were given, even where the king or
+/// the rook isn't at home.
 #[derive(Clone, Copy, Debug, PartialEq, Eq, Hash)]
 pub struct Rights {
     pub white_short: bool,
@@ -37,8 +37,8 @@ pub struct MovedPiece {
     pub piece: Piece,
 }
 
-/// Holds a board, the side to move, the castling rights and the en passant square, which meet the rules
-/// of `SetupError`.
+/// Holds a board, the side to move, the castling rights and the en passant square, which meet the
+/// rules of `SetupError`.
 #[derive(Clone, Copy, Debug, PartialEq, Eq, Hash)]
 pub struct Setup {
     bitboards: Bitboards,

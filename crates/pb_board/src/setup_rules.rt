@@ -50,7 +50,7 @@ pub(crate) fn is_en_passant_square(
     ensures { IsTrue result ↔ EnPassantHolds board.now turn (Some square) }
 {
     let square = square.index() as usize;
-    let beyond = match turn {
+    let double_stepped = match turn {
         Colour::White => square - 8,
         Colour::Black => square + 8,
     };
@@ -58,5 +58,5 @@ pub(crate) fn is_en_passant_square(
         colour: turn.opponent(),
         kind: Kind::Pawn,
     };
-    board[square].is_none() && board[beyond] == Some(pawn)
+    board[square].is_none() && board[double_stepped] == Some(pawn)
 }

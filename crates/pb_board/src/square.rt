@@ -51,7 +51,8 @@ impl Square {
 
     pub(crate) const H8: Square = Square { index: 63 };
 
-    /// Finds the square on a file and a rank, both counted from 0. None exactly where one is above 7.
+    /// Finds the square on a file and a rank, both counted from 0. None exactly where one is above
+    /// 7.
     pub fn new(file: u8, rank: u8) -> Option<Square>
         ensures { SomeIff result ((file < 8) × (rank < 8)) (8 * rank + file) }
     {

@@ -64,8 +64,8 @@ probe_command = with_rule (with_rule (with_rule (new_app (codes "probe"))
     (required_argument (codes "FEN"))
 
 abbrev pub lookup_command : App
-lookup_command = with_rule (with_rule (new_app (codes "lookup")) (required_argument (codes "TABLE")))
-    (required_argument (codes "BOOK"))
+lookup_command = with_rule (with_rule (new_app (codes "lookup"))
+    (required_argument (codes "TABLE"))) (required_argument (codes "BOOK"))
 
 -- by default it goes four plies deep from the initial array
 abbrev pub tree_command : App

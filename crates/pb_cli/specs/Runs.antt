@@ -1,5 +1,5 @@
--- What the calls promise. A program that knows no rules but those of its order cites them here, since
--- pb_commands hands on `Rules` too.
+-- What the calls promise. A program that knows no rules but those of its order cites them here,
+-- since pb_commands hands on `Rules` too.
 pub use Rattle.pb_commands.specs.Answered.{IsAnswered}
 pub use Rattle.pb_commands.specs.BookShown.{BookShown}
 pub use Rattle.pb_commands.specs.CheckRun.{ChecksOrEnds}

@@ -1,5 +1,5 @@
-//! Parses the command line of `pbook` into an `Order`, and re-exports a function for each command and
-//! the stores where a ledger and its book are kept.
+//! Parses the command line of `pbook` into an `Order`, and re-exports a function for each command
+//! and the stores where a ledger and its book are kept.
 #![tactic(auto)]
 
 mod grammar;

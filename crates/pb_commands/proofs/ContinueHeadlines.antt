@@ -14,7 +14,7 @@ use Rattle.pb_poly.specs.TableReading.{ReadsTable}
 use Rattle.pb_games.specs.Submissions.{Submission}
 use Rattle.pb_accepted.specs.Basis.{Basis}
 use Rattle.pb_accepted.specs.Counting.{IsBook, counted}
-use Rattle.pb_accepted.specs.Holding.{most_games}
+use Rattle.pb_accepted.specs.Replying.{most_games}
 use Rattle.pb_accepted.specs.Ledger.{LedgerState}
 use Rattle.pb_accepted.specs.Replies.{replies}
 use Rattle.pb_accepted.specs.Rules.{CountingRules}
@@ -32,7 +32,7 @@ use Rattle.pb_commands.specs.ContinueHeadline.{GoesOn, HasHeadlineOfBoth}
 use Rattle.pb_commands.specs.Ends.{Change, EndStates}
 use Rattle.pb_commands.specs.Run.{MakesBook}
 use Rattle.pb_commands.specs.Runs.{ContinueRun, HoldsSaved, Takes, new_ledger}
-use Rattle.pb_commands.specs.declared.run.Taken.{Taken}
+use Rattle.pb_commands.specs.declared.run.Intake.{Intake}
 use Rattle.pb_commands.proofs.Headlines.{effect}
 use Rattle.pb_commands.proofs.Taking.{same_but_games}
 
@@ -88,14 +88,14 @@ module _ (rules : CountingRules) (fills : ℕ) (e : EndStates) (source : Change 
       has_headline rules fills e randoms held.accepted left totals entries read (subst (λ (l : LedgerState). CollectsStream fills e.lines e.replies (from_to l left) totals) like takes) book bounds source loads
   by_end randoms held left (Err fault) entries read loads like takes is = absurd (cc is)
 
-  pub headline : (taken : Taken) → ContinueRun rules fills e source (Ok taken) → (entries : List Entry) → MakesBook taken (Ok entries)
+  pub headline : (taken : Intake) → ContinueRun rules fills e source (Ok taken) → (entries : List Entry) → MakesBook taken (Ok entries)
       → HasHeadlineOfBoth rules e source taken.ledger entries (book_bytes entries)
   headline taken (held, (new, (randoms, read, counting, is), loads, like), takes) entries made =
       by_end randoms held taken.ledger taken.end entries read (subst (λ (l : LedgerState). across (AtEnd fills) source (Makes Loads (from_to l held))) is loads)
       (subst (λ (l : LedgerState). held ≡ record l { accepted = held.accepted }) is like) takes made
 
   -- from the games of a saved ledger on the submissions were taken so
-  pub continued_so : (mid : SinkState) (held : LedgerState) (taken : Taken) → HoldsSaved rules fills e.table source held → mid ≡ e.replies.old
+  pub continued_so : (mid : SinkState) (held : LedgerState) (taken : Intake) → HoldsSaved rules fills e.table source held → mid ≡ e.replies.old
       → Takes fills e.lines (record e.replies { old = mid }) held taken → ContinueRun rules fills e source (Ok taken)
   continued_so mid held taken holds same takes = (held, holds, subst (λ (m : SinkState). Takes fills e.lines (record e.replies { old = m }) held taken) same takes)
 

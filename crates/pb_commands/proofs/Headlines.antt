@@ -13,7 +13,7 @@ use Rattle.pb_games.specs.Submissions.{Submission}
 use Rattle.pb_accepted.specs.Accepting.{Answer, Run}
 use Rattle.pb_accepted.specs.Basis.{Basis}
 use Rattle.pb_accepted.specs.Counting.{IsBook, counted}
-use Rattle.pb_accepted.specs.Holding.{most_games}
+use Rattle.pb_accepted.specs.Replying.{most_games}
 use Rattle.pb_accepted.specs.Ledger.{LedgerState}
 use Rattle.pb_accepted.specs.Replies.{replies, reply_texts}
 use Rattle.pb_accepted.specs.Rules.{AreRules, CountingRules}
@@ -28,7 +28,7 @@ use Rattle.pb_commands.specs.Answered.{IsAnswered}
 use Rattle.pb_commands.specs.Headline.{Effect}
 use Rattle.pb_commands.specs.Run.{MakesBook}
 use Rattle.pb_commands.specs.Runs.{CollectRun, Opens, Takes, new_ledger}
-use Rattle.pb_commands.specs.declared.run.Taken.{Taken}
+use Rattle.pb_commands.specs.declared.run.Intake.{Intake}
 
 -- the effect of lines that were answered as a ledger answers them, wherever they came from
 pub effect : (L : List (List ℕ)) (R : List Answer) (games : List Submission) → Run most_games [] L R games
@@ -86,11 +86,11 @@ module _ (rules : CountingRules) (fills : ℕ) (e : EndStates) where
   by_end randoms left (Ok totals) entries read counting takes (book, bounds) = has_headline randoms left totals entries read counting takes book bounds
   by_end randoms left (Err fault) entries read counting takes is = absurd (cc is)
 
-  pub headline : (taken : Taken) → CollectRun rules fills e (Ok taken) → (entries : List Entry) → MakesBook taken (Ok entries) → IsAnswered rules e entries (book_bytes entries)
+  pub headline : (taken : Intake) → CollectRun rules fills e (Ok taken) → (entries : List Entry) → MakesBook taken (Ok entries) → IsAnswered rules e entries (book_bytes entries)
   headline taken (new, (randoms, read, counting, is), takes) entries made =
       by_end randoms taken.ledger taken.end entries read counting (subst (λ (l : LedgerState). Takes fills e.lines e.replies l taken) is takes) made
 
   -- from the games of a table on the submissions were taken so
-  pub collected : (mid : SinkState) (new : LedgerState) (taken : Taken) → Opens rules fills e.table new → mid ≡ e.replies.old → Takes fills e.lines (record e.replies { old = mid }) new taken
+  pub collected : (mid : SinkState) (new : LedgerState) (taken : Intake) → Opens rules fills e.table new → mid ≡ e.replies.old → Takes fills e.lines (record e.replies { old = mid }) new taken
       → CollectRun rules fills e (Ok taken)
   collected mid new taken opens same takes = (new, opens, subst (λ (m : SinkState). Takes fills e.lines (record e.replies { old = m }) new taken) same takes)

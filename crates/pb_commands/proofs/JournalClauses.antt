@@ -21,7 +21,7 @@ use Rattle.pb_commands.specs.Ends.{Change, EndStates, IsSame, JournalStates}
 use Rattle.pb_commands.specs.JournalHeadline.{HasHeadlineOfJournal, LosesNone, LosesNoneLater, Survives}
 use Rattle.pb_commands.specs.Run.{MakesBook}
 use Rattle.pb_commands.specs.Runs.{JournalRun, Opens, TakesJournaled, new_ledger}
-use Rattle.pb_commands.specs.declared.run.Taken.{Taken}
+use Rattle.pb_commands.specs.declared.run.Intake.{Intake}
 use Rattle.pb_commands.proofs.JournalGains.{Replayed, replayed}
 use Rattle.pb_commands.proofs.JournalHeadlines.{has_headline}
 use Rattle.pb_commands.proofs.JournalSurvives.{HoldsBy, Safe, stream_survives, until_survives}
@@ -53,7 +53,7 @@ module _ (rules : CountingRules) (fills : ℕ) (e : EndStates) (j : JournalState
   abbrev Like : LedgerState → LedgerState → Type 0
   Like held new = held ≡ record new { accepted = held.accepted }
 
-  pub headline : (taken : Taken) → JournalRun rules fills e j (Ok taken) → (entries : List Entry) → MakesBook taken (Ok entries) → HasHeadlineOfJournal rules e j entries (book_bytes entries)
+  pub headline : (taken : Intake) → JournalRun rules fills e j (Ok taken) → (entries : List Entry) → MakesBook taken (Ok entries) → HasHeadlineOfJournal rules e j entries (book_bytes entries)
   headline taken (new, held, (randoms, read, counting, is), mended, replays, like, takes) entries made =
       made_so randoms held mended (subst (Replays mended held) is replays) (subst (Like held) is like) taken.ledger taken.end entries read takes made
 
@@ -95,14 +95,14 @@ module _ (rules : CountingRules) (fills : ℕ) (e : EndStates) (j : JournalState
   so gains follows (inl unread) = inl unread
   so gains follows (inr (kept, handed, safe)) = let h = follows kept safe in inr (kept, h.0, handed, h.1, h.2)
 
-  is_safe : (taken : Taken) → JournalRun rules fills e j (Ok taken) → Unless (Safe e j)
+  is_safe : (taken : Intake) → JournalRun rules fills e j (Ok taken) → Unless (Safe e j)
   is_safe taken (new, held, (randoms, read, counting, is), mended, replays, like, takes) =
       let replays = subst (Replays mended held) is replays in
       read_to_end (replayed fills j.kept (from_to j.journal.old mended) (from_to (new_ledger rules randoms) held) replays)
       (safe_so randoms held mended replays (subst (Like held) is like) taken.ledger taken.end takes)
 
-  pub survives : (taken : Taken) → JournalRun rules fills e j (Ok taken) → LosesNone e j
+  pub survives : (taken : Intake) → JournalRun rules fills e j (Ok taken) → LosesNone e j
   survives taken run = so (Puts j.journal) (λ kept safe. safe.0) (is_safe taken run)
 
-  pub outlives : (taken : Taken) → JournalRun rules fills e j (Ok taken) → LosesNoneLater e j
+  pub outlives : (taken : Intake) → JournalRun rules fills e j (Ok taken) → LosesNoneLater e j
   outlives taken run all = so (across LastsFirst j.journal) (λ kept safe. safe.1 all) (is_safe taken run)

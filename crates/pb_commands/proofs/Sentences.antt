@@ -18,7 +18,7 @@ use Rattle.pb_accepted.proofs.BookLaws.{same_book}
 use Rattle.pb_accepted.proofs.OneReason.{lawful_is_not_refused}
 use Rattle.pb_accepted.proofs.Replies.{game_of, held_not_new, id_of, one_submission}
 use Rattle.pb_commands.specs.Headline.{Effect}
-use Rattle.pb_commands.specs.Sentence.{WasAccepted, Sentence}
+use Rattle.pb_commands.specs.Sentence.{HeldAfter, WasAccepted, Sentence}
 
 -- ---- one reply
 
@@ -92,17 +92,28 @@ replied_at cap A (l ∷ L) (r ∷ R) B h zero line here =
 replied_at cap A (l ∷ L) (r ∷ R) B h (suc i) line here =
     let at = replied_at cap h.0 L R B h.2 i line here in (at.0, at.1, at.2, at.3, at.4, at.5, (h.0, h.1, at.6))
 
-refusals_leave : (cap : ℕ) (A : List Submission) (L R : List (List ℕ)) (i : ℕ) (why : List ℕ) (B C : List Submission) → slice_get R i ≡ Some (refused why)
-    → Replies cap A (take i L) (take i R) B → Replies cap A (take (suc i) L) (take (suc i) R) C → C ≡ B
-refusals_leave cap A L [] i why B C said h k = let none : None ≡ Some (refused why) = said in absurd (cc)
-refusals_leave cap A [] (r ∷ R) i why B C said h k = absurd k
-refusals_leave cap A (line ∷ L) (r ∷ R) zero why B C said h k =
+-- replies leave one list
+one_list : (cap : ℕ) (A : List Submission) (L R : List (List ℕ)) (B C : List Submission) → Replies cap A L R B → Replies cap A L R C → B ≡ C
+one_list cap A [] [] B C h k = h ∙ sym k
+one_list cap A [] (r ∷ R) B C h k = absurd h
+one_list cap A (line ∷ L) [] B C h k = absurd h
+one_list cap A (line ∷ L) (r ∷ R) B C h k =
+    one_list cap k.0 L R B C (subst (λ M. Replies cap M L R B) (one_left cap A line r h.0 k.0 h.1 k.1) h.2) k.2
+
+held_after : (L R : List (List ℕ)) (i : ℕ) (held : List Submission) → Replies 1000000 [] (take i L) (take i R) held → HeldAfter L R i held
+held_after L R i held h others = (λ k. one_list 1000000 [] (take i L) (take i R) others held k h, λ e. subst (λ B. Replies 1000000 [] (take i L) (take i R) B) (sym e) h)
+
+-- a list that is held before a refusal is held after it
+refused_at : (cap : ℕ) (A : List Submission) (L R : List (List ℕ)) (B : List Submission) → Replies cap A L R B → (i : ℕ) (why : List ℕ) → slice_get R i ≡ Some (refused why)
+    → (M : List Submission) × Replies cap A (take i L) (take i R) M × Replies cap A (take (suc i) L) (take (suc i) R) M
+refused_at cap A L [] B h i why said = let none : None ≡ Some (refused why) = said in absurd (cc)
+refused_at cap A [] (r ∷ R) B h i why said = absurd h
+refused_at cap A (line ∷ L) (r ∷ R) B h zero why said =
     let f : Some r ≡ Some (refused why) = said in
     let is : r ≡ refused why = cc in
-    k.2 ∙ refusal_leaves cap A line why k.0 (subst (λ x. Reply cap A line x k.0) is k.1) ∙ sym h
-refusals_leave cap A (line ∷ L) (r ∷ R) (suc i) why B C said h k =
-    let one = one_left cap A line r h.0 k.0 h.1 k.1 in
-    refusals_leave cap k.0 L R i why B C said (subst (λ M. Replies cap M (take i L) (take i R) B) one h.2) k.2
+    (A, refl, (h.0, h.1, sym (refusal_leaves cap A line why h.0 (subst (λ x. Reply cap A line x h.0) is h.1))))
+refused_at cap A (line ∷ L) (r ∷ R) B h (suc i) why said =
+    let at = refused_at cap h.0 L R B h.2 i why said in (at.0, (h.0, h.1, at.1), (h.0, h.1, at.2))
 
 -- ---- what was accepted
 
@@ -132,7 +143,7 @@ module _ (T : Basis) (L R : List (List ℕ)) (games : List Submission) (entries 
 
   -- what an arrival comes to that isn't accepted
   abbrev Refuses : ℕ → Submission → Type 0
-  Refuses i s = (held : List Submission) × Replies 1000000 [] (take i L) (take i R) held × IsNewId s.0 held
+  Refuses i s = (held : List Submission) × HeldAfter L R i held × IsNewId s.0 held
       × (((1000000 ≤ length held) × (slice_get R i ≡ Some (refused (s.0 ++ codes " full"))))
       ⊎ ((length held < 1000000) × (slice_get R i ≡ Some (refused (s.0 ++ codes " memory")))))
 
@@ -142,10 +153,10 @@ module _ (T : Basis) (L R : List (List ℕ)) (games : List Submission) (entries 
       inl (length M + 1, (here, said ∙ ap (λ (x : List ℕ). Some x) (e ∙ ap (λ (x : Submission). ok x (length M + 1)) (one_submission here.0 t s fresh.0 here.2))))
   arrived i s here r M N said (replied.full t fresh many e f) kept before =
       let same = one_submission here.0 t s fresh.0 here.2 in
-      inr (M, before, subst (λ (x : Submission). IsNewId x.0 M) same fresh.1, inl (many, said ∙ ap (λ (x : List ℕ). Some x) (e ∙ ap (λ (x : Submission). refused (x.0 ++ codes " full")) same)))
+      inr (M, held_after L R i M before, subst (λ (x : Submission). IsNewId x.0 M) same fresh.1, inl (many, said ∙ ap (λ (x : List ℕ). Some x) (e ∙ ap (λ (x : Submission). refused (x.0 ++ codes " full")) same)))
   arrived i s here r M N said (replied.memory t fresh room e f) kept before =
       let same = one_submission here.0 t s fresh.0 here.2 in
-      inr (M, before, subst (λ (x : Submission). IsNewId x.0 M) same fresh.1, inr (room, said ∙ ap (λ (x : List ℕ). Some x) (e ∙ ap (λ (x : Submission). refused (x.0 ++ codes " memory")) same)))
+      inr (M, held_after L R i M before, subst (λ (x : Submission). IsNewId x.0 M) same fresh.1, inr (room, said ∙ ap (λ (x : List ℕ). Some x) (e ∙ ap (λ (x : Submission). refused (x.0 ++ codes " memory")) same)))
   arrived i s here r M N said (replied.repeat t n law at e f) kept before =
       inl (n, (here, said ∙ ap (λ (x : List ℕ). Some x) (e ∙ ap (λ (x : Submission). ok x n) (one_submission here.0 t s law here.2))))
   arrived i s here r M N said (replied.conflict t g n law at differs e f) kept before =
@@ -181,5 +192,7 @@ holds_of_runs T L R games entries book one effect = record {
   any_order = any_order T L R games entries book one effect;
   arrivals = arrivals T L R games entries book one effect;
   repeats = effect.numbered.repeats;
-  refusals = λ i why A B said h k. refusals_leave 1000000 [] L R i why A B said h (subst (λ n. Replies 1000000 [] (take n L) (take n R) B) (add-one i) k);
+  refusals = λ i why said.
+      let at = refused_at 1000000 [] L R games effect.run i why said in
+      (at.0, held_after L R i at.0 at.1, held_after L R (i + 1) at.0 (subst (λ n. Replies 1000000 [] (take n L) (take n R) at.0) (sym (add-one i)) at.2));
 }

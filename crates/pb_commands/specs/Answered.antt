@@ -1,11 +1,11 @@
--- The theorem of `pbook collect` with the answers that its replies say: the laws of ledgers speak of
--- answers.
+-- The theorem of `pbook collect` with the answers that its replies say: the laws of ledgers speak
+-- of answers.
 use Rattle.std.specs.Prelude.{◌≡◌, ℕ, List, []}
 use Rattle.pb_io.specs.Lines.{lines}
 use Rattle.pb_poly.specs.declared.entry.Entry.{Entry}
 use Rattle.pb_games.specs.Submissions.{Submission}
 use Rattle.pb_accepted.specs.Accepting.{Answer, Run}
-use Rattle.pb_accepted.specs.Holding.{most_games}
+use Rattle.pb_accepted.specs.Replying.{most_games}
 use Rattle.pb_accepted.specs.Replies.{reply_texts}
 use Rattle.pb_accepted.specs.Rules.{CountingRules}
 use Rattle.pb_commands.specs.Ends.{EndStates}

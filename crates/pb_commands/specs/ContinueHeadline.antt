@@ -7,7 +7,7 @@ use Rattle.pb_poly.specs.Table.{IsTableFile}
 use Rattle.pb_poly.specs.declared.entry.Entry.{Entry}
 use Rattle.pb_games.specs.Submissions.{Submission}
 use Rattle.pb_accepted.specs.Accepting.{Answer, Run}
-use Rattle.pb_accepted.specs.Holding.{most_games}
+use Rattle.pb_accepted.specs.Replying.{most_games}
 use Rattle.pb_accepted.specs.Ledger.{LedgerState}
 use Rattle.pb_accepted.specs.Replies.{replies, reply_texts}
 use Rattle.pb_accepted.specs.Rules.{CountingRules}
@@ -34,8 +34,8 @@ pub record GoesOn (rules : CountingRules) (e : EndStates) (held games : List Sub
       → Effect (record { randoms = randoms; rules = rules }) (K ++ lines at.line_bytes)
       (reply_texts (K ++ lines at.line_bytes) (Q ++ answers)) games entries book
 
--- The games of the saved ledger, of which its source handed out all bytes, were held first, and this
--- ledger is left.
+-- The games of the saved ledger, of which its source handed out all bytes, were held first, and
+-- this ledger is left.
 pub record HasHeadlineOfBoth (rules : CountingRules) (e : EndStates) (source : Change SourceState)
     (left : LedgerState) (entries : List Entry) (book : List ℕ) : Type 0 where
   pub saved : List ℕ

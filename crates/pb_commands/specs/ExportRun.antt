@@ -15,11 +15,11 @@ use Rattle.pb_commands.specs.declared.refusal.Stopped.TheVariants as stopped
 use Rattle.pb_commands.specs.Ends.{Change, IsSame}
 use Rattle.pb_commands.specs.Runs.{Opens, OpensNone, Takes}
 use Rattle.pb_commands.specs.declared.run.Report.{Report}
-use Rattle.pb_commands.specs.declared.run.Taken.{Taken}
+use Rattle.pb_commands.specs.declared.run.Intake.{Intake}
 
 -- the lines of the export were put and handed on, so many, or that broke off; or none was put, by
 -- the fault that ended the submissions
-abbrev pub ExportsTaken : Change SinkState → Taken → Result Report Fault → Type 0
+abbrev pub ExportsTaken : Change SinkState → Intake → Result Report Fault → Type 0
 ExportsTaken sink taken (Ok report) = (taken.end ≡ Ok report.totals)
     × across (export.Exports taken.ledger) sink report.entries
 ExportsTaken sink taken (Err fault) = ((taken.end ≡ Err fault) × IsSame sink)
@@ -27,7 +27,7 @@ ExportsTaken sink taken (Err fault) = ((taken.end ≡ Err fault) × IsSame sink)
     × (fault ≡ fault_of_export why))
 
 -- the submissions were taken, and their replies dropped, by a sink that doesn't fail
-abbrev pub TakesSilently : CountingRules → ℕ → Change SourceState → Change SourceState → Taken
+abbrev pub TakesSilently : CountingRules → ℕ → Change SourceState → Change SourceState → Intake
     → Type 0
 TakesSilently rules fills table lines taken = (new : LedgerState) × Opens rules fills table new
     × (replies : Change SinkState) × (replies.new.failed ≡ false)
@@ -36,10 +36,10 @@ TakesSilently rules fills table lines taken = (new : LedgerState) × Opens rules
 -- how a run ends: with an export of what was taken; or before a submission was read
 abbrev pub ExportRun : CountingRules → ℕ → Change SourceState → Change SourceState
     → Change SinkState → Result Report Stopped → Type 0
-ExportRun rules fills table lines sink (Ok report) = (taken : Taken)
+ExportRun rules fills table lines sink (Ok report) = (taken : Intake)
     × TakesSilently rules fills table lines taken × ExportsTaken sink taken (Ok report)
 ExportRun rules fills table lines sink (Err why) = (OpensNone fills table sink why × IsSame lines)
-    ⊎ ((taken : Taken) × TakesSilently rules fills table lines taken
+    ⊎ ((taken : Intake) × TakesSilently rules fills table lines taken
     × (fault : Fault) × ExportsTaken sink taken (Err fault) × (why ≡ stopped.Fault fault))
 
 -- a write fault comes only from a sink that has failed, and where the sink has failed since, it

@@ -12,7 +12,7 @@ use Rattle.pb_poly.specs.declared.entry.Entry.{Entry}
 use Rattle.pb_games.specs.Submissions.{Submission}
 use Rattle.pb_accepted.specs.Basis.{Basis}
 use Rattle.pb_accepted.specs.Counting.{IsBook, counted}
-use Rattle.pb_accepted.specs.Replying.{AreNumbered, Replies, ok}
+use Rattle.pb_accepted.specs.Replying.{AreNumbered, Replies, most_games, ok}
 use Rattle.pb_accepted.specs.Rules.{AreRules, CountingRules}
 use Rattle.pb_commands.specs.Ends.{EndStates}
 
@@ -21,7 +21,7 @@ use Rattle.pb_commands.specs.Ends.{EndStates}
 pub record Effect (T : Basis) (L R : List (List ℕ)) (games : List Submission)
     (entries : List Entry) (book : List ℕ) : Type 0 where
   -- each line gets its reply, and games are added, by the six cases of `Reply`
-  pub run : Replies 1000000 [] L R games
+  pub run : Replies most_games [] L R games
   -- the games are those whose lines got the reply `ok`, each once, however often it came
   pub numbered : AreNumbered ok L R games
   -- the entries and no others are the book of these games, and the bytes decode to no others
@@ -45,7 +45,7 @@ pub record Headline (rules : CountingRules) (table_bytes line_bytes reply_bytes 
   pub replied : reply_bytes ≡ flat_map (λ r. r ++ 10 ∷ []) replies
 
 -- all bytes that the sources of the table and of the submissions handed out, and those that the
--- sink of the replies took: any, if it doesn't tell them, but the program's sink does
+-- sink of the replies took: any, if it doesn't tell them, but the program's sink, `ToWrite`, does
 pub record EndBytes (e : EndStates) : Type 0 where
   pub table_bytes : List ℕ
   pub line_bytes : List ℕ

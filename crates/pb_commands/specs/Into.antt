@@ -14,19 +14,19 @@ use Rattle.pb_commands.specs.Store.{KeepsBytes, StoreState}
 use Rattle.pb_commands.specs.declared.keeping.NoBook.{NoBook}
 use Rattle.pb_commands.specs.declared.keeping.NoBook.TheVariants as no
 use Rattle.pb_commands.specs.declared.run.Report.{Report}
-use Rattle.pb_commands.specs.declared.run.Taken.{Taken}
+use Rattle.pb_commands.specs.declared.run.Intake.{Intake}
 use Rattle.pb_commands.specs.declared.store.StoreError.{StoreError}
 
 -- the bytes of the book's entries went to the store, whose answer counts the entries, or tells why
 -- they weren't kept
-abbrev pub KeepsEntries : Change StoreState → Taken → Result ℕ StoreError → Type 0
+abbrev pub KeepsEntries : Change StoreState → Intake → Result ℕ StoreError → Type 0
 KeepsEntries store taken answer = (entries : List Entry) × MakesBook taken (Ok entries)
     × across KeepsBytes store answer (book_bytes entries)
     × IfOk answer (λ n. n ≡ min (length entries) (2 ^ 64 - 1))
 
 -- the book of what was taken was kept, or the store told why not; or a fault ended the taking, so
--- that there is no book, and the store is as it was
-abbrev pub KeepsBook : Change StoreState → Taken → Result Report NoBook → Type 0
+-- that there is no book, and the store was left alone
+abbrev pub KeepsBook : Change StoreState → Intake → Result Report NoBook → Type 0
 KeepsBook store taken (Ok report) =
     (taken.end ≡ Ok report.totals) × KeepsEntries store taken (Ok report.entries)
 KeepsBook store taken (Err (no.Keep why)) = KeepsEntries store taken (Err why)
@@ -35,14 +35,14 @@ KeepsBook store taken (Err (no.Run (stopped.Fault fault))) =
 KeepsBook store taken (Err why) = ⊥
 
 -- the book is kept once the ledger was kept with this answer: there is none without its ledger
-abbrev pub KeepsAfter : Result ℕ StoreError → Result Totals Fault → Change StoreState → Taken
+abbrev pub KeepsAfter : Result ℕ StoreError → Result Totals Fault → Change StoreState → Intake
     → Result Report NoBook → Type 0
 KeepsAfter (Err why) (Ok totals) store taken result =
     IsSame store × (result ≡ Err (no.Ledger why))
 KeepsAfter kept end store taken result = KeepsBook store taken result
 
 -- the ledger was kept, also where a fault ended the submissions, and then the book
-abbrev pub KeepsBoth : Change StoreState → Change StoreState → Taken → Result Report NoBook
+abbrev pub KeepsBoth : Change StoreState → Change StoreState → Intake → Result Report NoBook
     → Type 0
 KeepsBoth ledger book taken result = (bytes : List ℕ) × Saved taken.ledger.accepted bytes
     × (kept : Result ℕ StoreError) × across KeepsBytes ledger kept bytes
@@ -50,7 +50,7 @@ KeepsBoth ledger book taken result = (bytes : List ℕ) × Saved taken.ledger.ac
 
 -- how a run ends that keeps what is made of what it took; or it stopped before that, and the stores
 -- were left alone
-abbrev pub Into : (Result Taken Stopped → Type 0) → (Taken → Result Report NoBook → Type 0)
+abbrev pub Into : (Result Intake Stopped → Type 0) → (Intake → Result Report NoBook → Type 0)
     → Type 0 → Result Report NoBook → Type 0
-Into run keeps alone result = ((taken : Taken) × run (Ok taken) × keeps taken result)
-    ⊎ ((why : Stopped) × run (Err why) × alone × (result ≡ Err (no.Run why)))
+Into run keeps untouched result = ((taken : Intake) × run (Ok taken) × keeps taken result)
+    ⊎ ((why : Stopped) × run (Err why) × untouched × (result ≡ Err (no.Run why)))

@@ -1,5 +1,5 @@
--- What the command `lookup` writes: for each line the moves that a book has for its position, or why
--- it has none.
+-- What the command `lookup` writes: for each line the moves that a book has for its position, or
+-- why it has none.
 use Rattle.std.specs.Prelude.{◌≡◌, ℕ, List, [], ◌∷◌, Result, codes, map}
 use Rattle.std.specs.List.{join_with_byte}
 use Rattle.pb_board.specs.LineEnd.{with_end}

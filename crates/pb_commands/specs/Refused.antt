@@ -1,5 +1,6 @@
 -- Why a command stops, and what comes of an input that is refused.
-use Rattle.std.specs.Prelude.{◌≡◌, ◌++◌, Bool, Option, None, Some, Result, Ok, Err, codes, decimal, false, true}
+use Rattle.std.specs.Prelude.{◌≡◌, ◌++◌, Bool, Option, None, Some, Result, Ok, Err, codes, decimal}
+use Rattle.std.specs.Prelude.{false, true}
 use Rattle.pb_io.specs.Sink.{SinkState}
 use Rattle.pb_io.specs.declared.fault.Fault.{Fault}
 use Rattle.pb_io.specs.declared.fault.Fault.TheVariants as fault

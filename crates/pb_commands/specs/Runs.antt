@@ -6,7 +6,7 @@ use Rattle.pb_io.specs.Source.{SourceState}
 use Rattle.pb_io.specs.declared.fault.Fault.{Fault}
 use Rattle.pb_poly.specs.TableReading.{ReadsTable}
 use Rattle.pb_poly.specs.declared.table_file.TableFault.{TableFault}
-use Rattle.pb_accepted.specs.Holding.{most_games}
+use Rattle.pb_accepted.specs.Replying.{most_games}
 use Rattle.pb_accepted.specs.Ledger.{LedgerState}
 use Rattle.pb_accepted.specs.Rules.{AreRules, CountingRules}
 use Rattle.pb_ledger.specs.Change.{across}
@@ -22,7 +22,7 @@ use Rattle.pb_commands.specs.declared.refusal.Refused.TheVariants.{Ledger, Table
 use Rattle.pb_commands.specs.declared.refusal.Stopped.{Stopped}
 use Rattle.pb_commands.specs.declared.refusal.Stopped.TheVariants as stopped
 use Rattle.pb_commands.specs.Ends.{Change, EndStates, IsSame, JournalStates}
-use Rattle.pb_commands.specs.declared.run.Taken.{Taken}
+use Rattle.pb_commands.specs.declared.run.Intake.{Intake}
 
 -- a run stopped since its input was refused for this reason: the line that says so was put, or a
 -- fault came
@@ -64,7 +64,7 @@ HoldsNone rules fills table saved sink why = (OpensNone fills table sink why × 
 -- ---- how submissions are taken from these games on
 
 -- all submissions were taken, counted and answered, and the replies handed on; or that broke off
-abbrev pub Takes : ℕ → Change SourceState → Change SinkState → LedgerState → Taken → Type 0
+abbrev pub Takes : ℕ → Change SourceState → Change SinkState → LedgerState → Intake → Type 0
 Takes fills lines replies held taken =
     let ledger : Change LedgerState = record { old = held; new = taken.ledger } in
     MatchResult taken.end (CollectsStream fills lines replies ledger)
@@ -72,7 +72,7 @@ Takes fills lines replies held taken =
 
 -- the same with a journal, which gains the new games
 abbrev pub TakesJournaled : ℕ → Change SourceState → Change SinkState → Change SinkState
-    → LedgerState → Taken → Type 0
+    → LedgerState → Intake → Type 0
 TakesJournaled fills lines replies journal held taken =
     let ledger : Change LedgerState = record { old = held; new = taken.ledger } in
     MatchResult taken.end
@@ -82,21 +82,21 @@ TakesJournaled fills lines replies journal held taken =
 -- ---- runs: so the submissions were taken, or none was read
 
 -- a run of `collect`
-abbrev pub CollectRun : CountingRules → ℕ → EndStates → Result Taken Stopped → Type 0
+abbrev pub CollectRun : CountingRules → ℕ → EndStates → Result Intake Stopped → Type 0
 CollectRun rules fills e (Ok taken) = (new : LedgerState) × Opens rules fills e.table new
     × Takes fills e.lines e.replies new taken
 CollectRun rules fills e (Err why) = OpensNone fills e.table e.replies why × IsSame e.lines
 
 -- a run that goes on from a saved ledger
 abbrev pub ContinueRun : CountingRules → ℕ → EndStates → Change SourceState
-    → Result Taken Stopped → Type 0
+    → Result Intake Stopped → Type 0
 ContinueRun rules fills e saved (Ok taken) = (held : LedgerState)
     × HoldsSaved rules fills e.table saved held × Takes fills e.lines e.replies held taken
 ContinueRun rules fills e saved (Err why) =
     HoldsNone rules fills e.table saved e.replies why × IsSame e.lines
 
 -- a run with a journal, which was replayed and its end mended; or a fault ended that
-abbrev pub JournalRun : CountingRules → ℕ → EndStates → JournalStates → Result Taken Stopped
+abbrev pub JournalRun : CountingRules → ℕ → EndStates → JournalStates → Result Intake Stopped
     → Type 0
 JournalRun rules fills e j (Ok taken) = (new held : LedgerState) × Opens rules fills e.table new
     × (mended : SinkState)

@@ -8,12 +8,18 @@ use Rattle.pb_games.specs.Submissions.{Submission}
 use Rattle.pb_accepted.specs.Basis.{Basis}
 use Rattle.pb_accepted.specs.Counting.{IsBook, counted}
 use Rattle.pb_accepted.specs.Laws.{NoRepeats}
-use Rattle.pb_accepted.specs.Replying.{Arrives, IsAccepted, IsNewId, Replies, ok, refused}
+use Rattle.pb_accepted.specs.Replying.{Arrives, IsAccepted, IsNewId, Replies, most_games, ok}
+use Rattle.pb_accepted.specs.Replying.{refused}
 use Rattle.pb_commands.specs.Headline.{Effect}
 
 -- a legal submission that arrived and was accepted: some line submits it, and the reply is `ok`
 abbrev pub WasAccepted : List (List ℕ) → List (List ℕ) → Submission → Type 0
 WasAccepted L R s = (i : ℕ) × (n : ℕ) × IsAccepted ok L R i s n
+
+-- after the first i lines and their replies these games are held, and no others
+abbrev pub HeldAfter : List (List ℕ) → List (List ℕ) → ℕ → List Submission → Type 0
+HeldAfter L R i held = (others : List Submission)
+    → Replies most_games [] (take i L) (take i R) others ↔ (others ≡ held)
 
 pub record Sentence (T : Basis) (L R : List (List ℕ)) (entries : List Entry) (book : List ℕ)
     : Type 0 where
@@ -30,16 +36,14 @@ pub record Sentence (T : Basis) (L R : List (List ℕ)) (entries : List Entry) (
       (bytes : List ℕ) → Effect T K Q games others bytes
       → ((s : Submission) → WasAccepted K Q s ↔ WasAccepted L R s) → bytes ≡ book
   -- every legal arrival is accepted unless room or memory is refused: its id is new to the games
-  -- held before it, and as many as may be are held, or fewer
+  -- held before it, and the reply is `full` where as many are held as may be, else `memory`
   pub arrivals : (i : ℕ) (s : Submission) → Arrives L i s → ((n : ℕ) × IsAccepted ok L R i s n)
-      ⊎ ((held : List Submission) × Replies 1000000 [] (take i L) (take i R) held
-      × IsNewId s.0 held
-      × (((1000000 ≤ length held) × (slice_get R i ≡ Some (refused (s.0 ++ codes " full"))))
-      ⊎ ((length held < 1000000) × (slice_get R i ≡ Some (refused (s.0 ++ codes " memory"))))))
+      ⊎ ((held : List Submission) × HeldAfter L R i held × IsNewId s.0 held
+      × (((most_games ≤ length held) × (slice_get R i ≡ Some (refused (s.0 ++ codes " full"))))
+      ⊎ ((length held < most_games) × (slice_get R i ≡ Some (refused (s.0 ++ codes " memory"))))))
   -- a repeat is answered as its first acceptance was
   pub repeats : (i j n : ℕ) (s : Submission) → i < j → IsAccepted ok L R i s n → Arrives L j s
       → slice_get R j ≡ Some (ok s n)
   -- a refused submission changes nothing: the games held before it and after it are the same
-  pub refusals : (i : ℕ) (why : List ℕ) (A B : List Submission)
-      → slice_get R i ≡ Some (refused why) → Replies 1000000 [] (take i L) (take i R) A
-      → Replies 1000000 [] (take (i + 1) L) (take (i + 1) R) B → B ≡ A
+  pub refusals : (i : ℕ) (why : List ℕ) → slice_get R i ≡ Some (refused why)
+      → (held : List Submission) × HeldAfter L R i held × HeldAfter L R (i + 1) held

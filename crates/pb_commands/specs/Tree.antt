@@ -1,5 +1,5 @@
--- What the command `tree` writes: the moves that a book has for a position, each with its weight, and
--- below each those that the book has after it.
+-- What the command `tree` writes: the moves that a book has for a position, each with its weight,
+-- and below each those that the book has after it.
 use Rattle.std.specs.Prelude.{◌≡◌, ◌⊎◌, ℕ, zero, suc, ◌+◌, List, [], ◌∷◌, ◌++◌, Result, codes}
 use Rattle.std.specs.Prelude.{IfErr, OnErr, OnOk, take, true}
 use Rattle.std.specs.Io.KnownBytes.{Appends}

@@ -11,7 +11,7 @@ ghost use Rattle.pb_commands.specs.Runs.{ContinueRun, HoldsSaved, HoldsNone};
 use crate::ends::{Ends, LedgerEnds};
 use crate::keeping::{NoBook, keep_book};
 use crate::refusal::{Refused, Stopped, accept, unless_refused};
-use crate::run::{Report, Taken, book_of, open, take};
+use crate::run::{Intake, Report, book_of, open, take};
 use crate::store::Store;
 use pb_io::{Fault, Sink, Source};
 use pb_ledger::{Ledger, MapTally, Rules, Watcher, load};
@@ -137,7 +137,7 @@ pub fn continue_into<
 
 fn keep_both<LedgerStore: Store, BookStore: Store>(
     alloc: Global,
-    taken: &Taken,
+    taken: &Intake,
     ledger: &mut LedgerStore,
     book: &mut BookStore,
 ) -> Result<Report, NoBook>

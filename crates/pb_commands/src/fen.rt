@@ -21,14 +21,9 @@ use pb_io::{Fault, Sink};
 use pb_moves::{advance, read_move};
 use std::alloc::Global;
 
-/// Shows the record after the moves, or why record, spelling or move is refused. `Write` is the only
-/// fault (the law `fen_ends`).
-pub fn answer_fen<K: Sink>(
-    _alloc: Global,
-    fen: &[u8],
-    moves: &[&str],
-    sink: &mut K,
-) -> Result<bool, Stopped>
+/// Shows the record after the moves, or why record, spelling or move is refused. `Write` is the
+/// only fault (the law `fen_ends`).
+pub fn answer_fen<K: Sink>(fen: &[u8], moves: &[&str], sink: &mut K) -> Result<bool, Stopped>
     ensures { StopsOrEnds (FenShown fen.now (texts moves.now)) (K.state sink.old)
         (K.state sink.new) result }
 {
@@ -39,7 +34,7 @@ pub fn answer_fen<K: Sink>(
 
 /// Does what `answer_fen` does, and answers whether the input was taken.
 pub fn run_fen<K: Sink>(
-    alloc: Global,
+    _alloc: Global,
     fen: &[u8],
     moves: &[&str],
     sink: &mut K,
@@ -47,7 +42,7 @@ pub fn run_fen<K: Sink>(
     ensures { PutsOrEnds (FenShown fen.now (texts moves.now)) (K.state sink.old) (K.state sink.new)
         result }
 {
-    Ok(unless_refused(answer_fen(alloc, fen, moves, sink))?.is_some())
+    Ok(unless_refused(answer_fen(fen, moves, sink))?.is_some())
 }
 
 fn record_after(fen: &[u8], moves: &[&str]) -> Result<Fen, Refused>

@@ -11,7 +11,7 @@ ghost use Rattle.pb_commands.specs.Runs.{JournalRun};
 use crate::ends::{Ends, JournalEnds};
 use crate::keeping::{NoBook, keep_book};
 use crate::refusal::Stopped;
-use crate::run::{Report, Taken, open};
+use crate::run::{Intake, Report, open};
 use crate::store::Store;
 use pb_io::{Sink, Source};
 use pb_ledger::{Rules, Watcher, collect_journaled, replay};
@@ -72,5 +72,5 @@ pub fn journal_into<
         &mut ends.watcher,
         fills,
     );
-    keep_book(alloc, &Taken { ledger, end }, book)
+    keep_book(alloc, &Intake { ledger, end }, book)
 }

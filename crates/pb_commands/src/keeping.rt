@@ -11,7 +11,7 @@ ghost use Rattle.pb_commands.specs.declared.keeping.NoBook.TheVariants as no;
 
 use crate::ends::Ends;
 use crate::refusal::Stopped;
-use crate::run::{Report, Taken, open, take};
+use crate::run::{Intake, Report, open, take};
 use crate::store::{Store, StoreError};
 use crate::text::LedgerBook;
 use pb_io::{Sink, Source};
@@ -22,8 +22,8 @@ use thiserror::Error;
 /// Why no book is kept at its store.
 #[derive(Clone, Copy, Debug, PartialEq, Eq, Error)]
 pub enum NoBook {
-    /// The run stopped before there was a book, whose store was left alone. A ledger is kept, if its
-    /// store took it, where submissions were read.
+    /// The run stopped before there was a book, whose store was left alone. A ledger is kept, if
+    /// its store took it, where submissions were read.
     #[error("there is no book: {0}")]
     Run(Stopped),
     /// The ledger was not kept, and the book's store was left alone.
@@ -48,8 +48,8 @@ impl From<Stopped> for NoBook {
 ///
 /// # Errors
 ///
-/// `Run` is a refused table, or a fault of the table, the submissions or the replies; `Keep` is that
-/// of the store, or want of memory for the book.
+/// `Run` is a refused table, or a fault of the table, the submissions or the replies; `Keep` is
+/// that of the store, or want of memory for the book.
 pub fn collect_into<Table: Source, In: Source, Out: Sink, Watch: Watcher, BookStore: Store>(
     alloc: Global,
     rules: Rules,
@@ -78,7 +78,7 @@ pub fn collect_into<Table: Source, In: Source, Out: Sink, Watch: Watcher, BookSt
 /// Keeps the book of what was taken, if no fault ended that.
 pub(crate) fn keep_book<BookStore: Store>(
     alloc: Global,
-    taken: &Taken,
+    taken: &Intake,
     store: &mut BookStore,
 ) -> Result<Report, NoBook>
     ensures { KeepsBook (between BookStore.state store.old store.new) taken.now result }

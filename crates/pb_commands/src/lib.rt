@@ -1,6 +1,6 @@
-//! The commands of `pbook` as functions over the ends that they are handed, and over the stores where
-//! a ledger and its book are kept; and what all commands share: the exit status, why one stopped,
-//! answers to lines.
+//! The commands of `pbook` as functions over the ends that they are handed, and over the stores
+//! where a ledger and its book are kept; and what all commands share: the exit status, why one
+//! stopped, answers to lines.
 #![tactic(auto)]
 
 mod check;
@@ -42,7 +42,7 @@ pub use keeping::{NoBook, collect_into};
 pub use lookup::answer_lookup;
 pub use pb_io::Fault;
 pub use pb_ledger::{
-    Accepted, LoadError, MAX_LEAST, MAX_PLIES, Refusal, Rules, Totals, Watcher, WriteFault,
+    Accepted, ExportFault, LoadError, MAX_LEAST, MAX_PLIES, Refusal, Rules, Totals, Watcher,
     pick_games,
 };
 pub use probe::{answer_probe, run_probe};

@@ -22,7 +22,7 @@ pub struct Report {
 
 /// What a run has taken.
 #[derive(Drop)]
-pub(crate) struct Taken {
+pub(crate) struct Intake {
     /// The games that are held.
     pub(crate) ledger: Ledger<MapTally>,
     /// What became of the lines, or the fault that ended them.
@@ -57,7 +57,7 @@ pub(crate) fn take<In: Source, Out: Sink, Watch: Watcher>(
     replies: &mut Out,
     watcher: &mut Watch,
     fills: u32,
-) -> Taken
+) -> Intake
     ensures { Takes fills (between In.state lines.old lines.new)
         (between Out.state replies.old replies.new) ledger result }
 {
@@ -71,10 +71,10 @@ pub(crate) fn take<In: Source, Out: Sink, Watch: Watcher>(
         watcher,
         fills,
     );
-    Taken { ledger, end }
+    Intake { ledger, end }
 }
 
-pub(crate) fn book_of(alloc: Global, taken: &Taken) -> Result<Book, Fault>
+pub(crate) fn book_of(alloc: Global, taken: &Intake) -> Result<Book, Fault>
     ensures { MakesBook taken.now result }
 {
     taken.end?;

@@ -8,6 +8,7 @@ ghost use Rattle.pb_io.specs.Sink.{SinkState};
 ghost use Rattle.pb_io.specs.Source.{SourceState};
 ghost use Rattle.pb_io.specs.declared.fault.Fault.TheVariants.{Memory};
 ghost use Rattle.pb_io.specs.Lines.{lines};
+ghost use Rattle.pb_poly.specs.Book.{book_bytes};
 ghost use Rattle.pb_poly.specs.declared.entry.Entry.{Entry};
 ghost use Rattle.pb_games.specs.Submissions.{Submission};
 ghost use Rattle.pb_games.specs.declared.refusal.Refusal.{Refusal};
@@ -15,7 +16,7 @@ ghost use Rattle.pb_games.specs.declared.refusal.Refusal.TheVariants as refusal;
 ghost use Rattle.pb_accepted.specs.Rules.{CountingRules};
 ghost use Rattle.pb_accepted.specs.Accepting.{Answer, Step, Run, OneGame};
 ghost use Rattle.pb_accepted.specs.Replies.{reply_line, replies};
-ghost use Rattle.pb_accepted.specs.Holding.{most_games};
+ghost use Rattle.pb_accepted.specs.Replying.{most_games};
 ghost use Rattle.pb_accepted.specs.Ledger.{LedgerState};
 ghost use Rattle.pb_accepted.specs.Basis.{Basis};
 ghost use Rattle.pb_ledger.specs.Saving.{Saved};
@@ -23,10 +24,15 @@ ghost use Rattle.pb_commands.specs.Judged.{PutsText};
 ghost use Rattle.pb_commands.specs.declared.refusal.Refused.{Refused};
 ghost use Rattle.pb_commands.specs.CheckRun.{ChecksOrEnds, ChecksShown};
 ghost use Rattle.pb_commands.specs.Ends.{Change, EndStates, IsSame, JournalStates};
+ghost use Rattle.pb_commands.specs.Into.{KeepsBook};
+ghost use Rattle.pb_commands.specs.Run.{MakesBook};
 ghost use Rattle.pb_commands.specs.Runs.{CollectRun, ContinueRun, JournalRun};
+ghost use Rattle.pb_commands.specs.Store.{StoreState};
 ghost use Rattle.pb_commands.specs.declared.refusal.Stopped.TheVariants as stopped;
 ghost use Rattle.pb_commands.specs.Sentence.{Sentence};
 ghost use Rattle.pb_commands.specs.declared.keeping.NoBook.{NoBook};
+ghost use Rattle.pb_commands.specs.declared.run.Intake.{Intake};
+ghost use Rattle.pb_commands.specs.declared.run.Report.{Report};
 ghost use Rattle.pb_commands.specs.declared.store.StoreError.{StoreError};
 ghost use Rattle.pb_commands.specs.CheckShown.{CheckShown};
 ghost use Rattle.pb_commands.specs.ContinueHeadline.{HasHeadlineOfBoth};
@@ -44,6 +50,13 @@ pub fn sentence()
     ensures { (T : Basis) (L R : List (List ℕ)) (games : List Submission) (entries : List Entry)
         (book : List ℕ) → OneGame L → Effect T L R games entries book
         → Sentence T L R entries book }
+{}
+
+/// Where a book was kept, just the bytes of its entries were handed to what has the store's name.
+pub fn kept()
+    ensures { (store : Change StoreState) (taken : Intake) (report : Report)
+        → KeepsBook store taken (Ok report) → (entries : List Entry) × MakesBook taken (Ok entries)
+        × (store.new.handed ≡ Some (book_bytes entries)) }
 {}
 
 /// Over bytes in memory the theorem is of just these bytes.

@@ -4,7 +4,7 @@ ghost use Rattle.std.specs.Prelude.{◌≡◌, ℕ, List};
 ghost use Rattle.pb_commands.specs.Store.{KeepsText, StoreState, store_error};
 
 use crate::text::Text;
-use pb_ledger::WriteFault;
+use pb_ledger::ExportFault;
 use thiserror::Error;
 
 /// Why a text was not kept.
@@ -21,13 +21,13 @@ pub enum StoreError {
     Memory,
 }
 
-impl From<WriteFault> for StoreError {
+impl From<ExportFault> for StoreError {
     ghost from_gives = { λ fault result. result ≡ store_error fault };
 
-    fn from(fault: WriteFault) -> StoreError {
+    fn from(fault: ExportFault) -> StoreError {
         match fault {
-            WriteFault::Write => StoreError::Write,
-            WriteFault::Memory => StoreError::Memory,
+            ExportFault::Write => StoreError::Write,
+            ExportFault::Memory => StoreError::Memory,
         }
     }
 }

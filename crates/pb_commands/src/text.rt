@@ -7,7 +7,7 @@ ghost use Rattle.pb_ledger.specs.Saving.{Saved};
 ghost use Rattle.pb_commands.specs.Store.{TellsText};
 
 use pb_io::Sink;
-use pb_ledger::{Ledger, Tally, WriteFault, save, save_book};
+use pb_ledger::{ExportFault, Ledger, Tally, save, save_book};
 use std::alloc::Global;
 
 /// What has a text, as a book and a ledger have.
@@ -21,7 +21,7 @@ pub trait Text {
     ///
     /// The sink has failed, or there was no memory for what was to be put next. A front of the text
     /// may have been put then.
-    fn write<K: Sink>(&self, sink: &mut K) -> Result<u64, WriteFault>
+    fn write<K: Sink>(&self, sink: &mut K) -> Result<u64, ExportFault>
         ensures { TellsText (is_text self.now)
             (WritesOrWants (between K.state sink.old sink.new) result) result };
 }
@@ -30,7 +30,7 @@ impl<T: Tally> Text for Ledger<T> {
     ghost is_text = { λ ledger bytes count. Saved ledger.accepted bytes
         × (count ≡ length ledger.accepted) };
 
-    fn write<K: Sink>(&self, sink: &mut K) -> Result<u64, WriteFault> {
+    fn write<K: Sink>(&self, sink: &mut K) -> Result<u64, ExportFault> {
         save(self, sink)?;
         Ok(u64::from(self.len()))
     }
@@ -59,7 +59,7 @@ impl<'a, T: Tally> LedgerBook<'a, T> {
 impl<T: Tally> Text for LedgerBook<'_, T> {
     ghost is_text = { λ book bytes count. BookText book.ledger.now bytes count };
 
-    fn write<K: Sink>(&self, sink: &mut K) -> Result<u64, WriteFault> {
+    fn write<K: Sink>(&self, sink: &mut K) -> Result<u64, ExportFault> {
         save_book(self.alloc, self.ledger, sink)
     }
 }

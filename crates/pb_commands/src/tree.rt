@@ -1,4 +1,5 @@
-//! The command `tree`: the moves that a book has from a position on, those after each move below it.
+//! The command `tree`: the moves that a book has from a position on, those after each move below
+//! it.
 ghost use Rattle.std.specs.Prelude.{◌+◌, ◌<◌, ◌^◌};
 ghost use Rattle.pb_board.specs.Position.{IsSetup};
 ghost use Rattle.pb_commands.specs.Tree.{PutsTree, Tree};
@@ -14,8 +15,8 @@ use pb_poly::probe;
 use std::alloc::Global;
 
 /// Shows the moves that a book has for a record's setup, each with its weight, in the book's order,
-/// and below each, two spaces further in, those for the setup after it, so many plies deep. Or shows
-/// why the first of table, book and record is refused.
+/// and below each, two spaces further in, those for the setup after it, so many plies deep. Or
+/// shows why the first of table, book and record is refused.
 pub fn answer_tree<TableIn: Source, BookIn: Source, Out: Sink>(
     alloc: Global,
     table_source: &mut TableIn,

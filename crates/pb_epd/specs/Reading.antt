@@ -5,8 +5,8 @@ use Rattle.std.specs.List.{slice_split}
 use Rattle.pb_board.specs.Refusal.{BreaksAt}
 use Rattle.pb_epd.specs.declared.operand.Operand.{Operand}
 use Rattle.pb_epd.specs.declared.read.SoFar.{SoFar}
-use Rattle.pb_epd.specs.declared.read.Taken.{Taken}
-use Rattle.pb_epd.specs.declared.read.Taken.TheVariants as taken
+use Rattle.pb_epd.specs.declared.read.NextOperation.{NextOperation}
+use Rattle.pb_epd.specs.declared.read.NextOperation.TheVariants as next
 use Rattle.pb_epd.specs.declared.refusal.EpdError.{EpdError}
 use Rattle.pb_epd.specs.declared.refusal.EpdError.TheVariants as epd
 use Rattle.pb_epd.specs.Token.{Token, word, end_mark, TokensAfter}
@@ -65,19 +65,19 @@ pub record BeginsWithOperation (ts : List Token) (o : Operation) (rest : List �
   pub is : ts ≡ operation_tokens o ++ others
   pub after : TokensAfter end_mark others rest
 
-abbrev pub TakenFrom : Taken → List Token → Type 0
-TakenFrom taken.Done ts = ts ≡ []
-TakenFrom taken.Unended ts = (ts ≢ []) × AreOperands ts
-TakenFrom taken.Unnamed ts = BeginsUnnamed ts
-TakenFrom (taken.Operation opcode operands rest) ts =
+abbrev pub NextFrom : NextOperation → List Token → Type 0
+NextFrom next.Done ts = ts ≡ []
+NextFrom next.Unended ts = (ts ≢ []) × AreOperands ts
+NextFrom next.Unnamed ts = BeginsUnnamed ts
+NextFrom (next.Operation opcode operands rest) ts =
     BeginsWithOperation ts (opcode.now, operands.items) rest.now
 
 -- an operation is lawful and takes some bytes, and the bytes are tokens if what follows it is
-abbrev pub IsSound : Taken → Token → List ℕ → Type 0
-IsSound taken.Done before bytes = HasTokens before bytes
-IsSound taken.Unended before bytes = Unit {0}
-IsSound taken.Unnamed before bytes = Unit {0}
-IsSound (taken.Operation opcode operands rest) before bytes =
+abbrev pub IsSound : NextOperation → Token → List ℕ → Type 0
+IsSound next.Done before bytes = HasTokens before bytes
+IsSound next.Unended before bytes = Unit {0}
+IsSound next.Unnamed before bytes = Unit {0}
+IsSound (next.Operation opcode operands rest) before bytes =
     (length rest.now < length bytes) × IsOperation (opcode.now, operands.items)
     × (HasTokens end_mark rest.now → HasTokens before bytes)
 

@@ -9,7 +9,7 @@ ghost use Rattle.pb_epd.specs.Epd.{EpdRecord, IsEpd, EpdText};
 ghost use Rattle.pb_epd.specs.Operation.{IsOpcode, IsOperand, IsOperation, operand_token};
 ghost use Rattle.pb_epd.specs.Refusal.{IsFirstDueEpd, IsFourWords, IsNamed};
 ghost use Rattle.pb_epd.specs.Reading.{HasTokens, EndsSoundly, Follow, FourFollow};
-ghost use Rattle.pb_epd.specs.Reading.{EndsWithOperands, AreOperands, TakenFrom, IsSound};
+ghost use Rattle.pb_epd.specs.Reading.{EndsWithOperands, AreOperands, NextFrom, IsSound};
 ghost use Rattle.pb_epd.specs.Reading.{AreOperations, RefusesTokens, StandsWith};
 ghost use Rattle.pb_epd.specs.declared.refusal.EpdError.TheVariants as epd;
 
@@ -22,7 +22,7 @@ use pb_board::{Setup, read_setup};
 use std::alloc::{AllocError, Global};
 
 #[derive(Drop)]
-enum Taken<'a> {
+enum NextOperation<'a> {
     Done,
     Unended,
     /// It doesn't begin with an opcode.
@@ -131,31 +131,31 @@ fn next_operation<'a>(
     alloc: Global,
     before: Lexeme<'_>,
     text: &'a [u8],
-) -> Result<Taken<'a>, AllocError>
+) -> Result<NextOperation<'a>, AllocError>
     ensures taken { IfOk result (λ r. (ts : List Token)
-        → TokensAfter (token_of before.entry) ts text.now → TakenFrom r ts) }
+        → TokensAfter (token_of before.entry) ts text.now → NextFrom r ts) }
     ensures sound { IfOk result (λ r. IsSound r (token_of before.entry) text.now) }
     ensures memory { OnErr result ((ts : List Token)
         → TokensAfter (token_of before.entry) ts text.now → ts ≢ []) }
 {
     let (first, rest) = match next_token(before, text) {
-        Next::Done => return Ok(Taken::Done),
+        Next::Done => return Ok(NextOperation::Done),
         Next::Found(first, rest) => (first, rest),
-        Next::Bad(_) => return Ok(Taken::Unended),
+        Next::Bad(_) => return Ok(NextOperation::Unended),
     };
     if !first.is_operand() {
-        return Ok(Taken::Unnamed);
+        return Ok(NextOperation::Unnamed);
     }
     let Some((operands, rest)) = read_operands(alloc, first, rest)? else {
-        return Ok(Taken::Unended);
+        return Ok(NextOperation::Unended);
     };
     match opcode_of(first) {
-        Some(opcode) => Ok(Taken::Operation {
+        Some(opcode) => Ok(NextOperation::Operation {
             opcode,
             operands,
             rest,
         }),
-        None => Ok(Taken::Unnamed),
+        None => Ok(NextOperation::Unnamed),
     }
 }
 
@@ -204,10 +204,10 @@ fn read_operations(
             return Err(EpdError::Memory);
         };
         match taken {
-            Taken::Done => break,
-            Taken::Unended => return Err(EpdError::Unended),
-            Taken::Unnamed => return Err(EpdError::Opcode(so_far.count + 1)),
-            Taken::Operation {
+            NextOperation::Done => break,
+            NextOperation::Unended => return Err(EpdError::Unended),
+            NextOperation::Unnamed => return Err(EpdError::Opcode(so_far.count + 1)),
+            NextOperation::Operation {
                 opcode,
                 operands,
                 rest,
@@ -244,8 +244,8 @@ fn read_tokens(alloc: Global, text: &[u8]) -> Result<Epd, EpdError>
 ///
 /// # Errors
 ///
-/// The first that is due, in the order of `EpdError`'s variants; only want of memory may come before
-/// those of the operations.
+/// The first that is due, in the order of `EpdError`'s variants; only want of memory may come
+/// before those of the operations.
 pub fn read_epd(alloc: Global, text: &[u8]) -> Result<Epd, EpdError>
     ensures found { IfOk result (λ e. IsEpd e × EpdText e text.now) }
     ensures only { (e : EpdRecord) → IsEpd e → EpdText e text.now

@@ -50,8 +50,8 @@ fn put_operations(out: &mut Vec<u8>, epd: &Epd) -> Result<(), AllocError>
     Ok(())
 }
 
-/// Gives the one ordered text of the record (PGN Standard 16.2.1 and 16.2.2): the four fields and the
-/// operations, with single spaces, no space before an end and none after the last.
+/// Gives the one ordered text of the record (PGN Standard 16.2.1 and 16.2.2): the four fields and
+/// the operations, with single spaces, no space before an end and none after the last.
 ///
 /// # Errors
 ///

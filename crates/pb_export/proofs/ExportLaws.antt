@@ -13,7 +13,7 @@ use Rattle.pb_accepted.specs.Counting.{counted}
 use Rattle.pb_export.specs.Exporting.{StandsBefore, Listed, IsListed, IsListing, ExportLines, text_of_lines, ExportText}
 use Rattle.pb_accepted.specs.Laws.{NoRepeats, SameMembers}
 use Rattle.pb_accepted.proofs.BookLaws.{one_book, same_book}
-use Rattle.pb_accepted.proofs.Members.{same_in_order}
+use Rattle.pb_board.proofs.InOrder.{same_in_order}
 use Rattle.pb_accepted.proofs.Steps.{once}
 
 -- ---- one export

@@ -47,8 +47,8 @@ impl IndexedBook {
         &rest[..count_under(rest, key)]
     }
 
-    /// The index of the first entry of each key. What is read for them lies far apart, and in a short
-    /// loop the processor waits for several at once.
+    /// The index of the first entry of each key. What is read for them lies far apart, and in a
+    /// short loop the processor waits for several at once.
     pub(crate) fn firsts_under(&self, alloc: Global, keys: &[u64]) -> Result<Vec<usize>, AllocError>
         ensures { IfOk result (λ firsts. AreFirstsUnder self.now keys.now firsts.items) }
     {
@@ -68,7 +68,8 @@ impl IndexedBook {
     }
 }
 
-/// The index of the first entry of each front, as far as 32 bits hold it: a lower one serves as well.
+/// The index of the first entry of each front, as far as 32 bits hold it: a lower one serves as
+/// well.
 fn firsts_of(alloc: Global, entries: &[Entry]) -> Result<Vec<u32>, AllocError>
     requires { NeverFall entries.now }
     ensures { IfOk result (λ firsts. AreFirsts entries.now firsts.items) }

@@ -33,8 +33,8 @@ type SetupText = Text<89>;
 #[derive(Clone, Copy)]
 pub(crate) struct ListedSetup {
     pub(crate) fields: SetupText,
-    first: u32,
-    end: u32,
+    first: usize,
+    end: usize,
 }
 
 #[derive(Drop)]
@@ -82,7 +82,7 @@ impl Listing {
         requires { HasMoves self.now.moves.items listed.now }
         ensures { result.now ≡ moves_of self.now.moves.items listed.now }
     {
-        &self.moves[listed.first as usize..listed.end as usize]
+        &self.moves[listed.first..listed.end]
     }
 
     fn add_game(
@@ -121,9 +121,9 @@ impl Listing {
             return Ok(());
         }
         self.note_recent(key);
-        let first = in_32_bits(self.moves.len())?;
+        let first = self.moves.len();
         add_moves(&mut self.moves, entries, setup)?;
-        let end = in_32_bits(self.moves.len())?;
+        let end = self.moves.len();
         if first < end {
             self.setups.push(ListedSetup { fields, first, end })?;
         }
@@ -191,14 +191,6 @@ fn keyed_setups(alloc: Global, table: &Table, game: &Game) -> Result<KeyedSetups
         }
     }
     Ok(KeyedSetups { keys, setups })
-}
-
-/// The count in 32 bits, so that a listed setup takes less room. More than that counts as want of
-/// memory.
-fn in_32_bits(count: usize) -> Result<u32, AllocError>
-    ensures { IfOk result (λ n. n ≡ count) }
-{
-    u32::try_from(count).map_err(|_| AllocError)
 }
 
 /// Adds the moves of the entries.

@@ -47,8 +47,8 @@ impl Drop for Draft<'_> {
 }
 
 impl<'a> Draft<'a> {
-    /// Gives the empty draft of the file that this name leads to, or None where it leads to a device
-    /// or a pipe.
+    /// Gives the empty draft of the file that this name leads to, or None where it leads to a
+    /// device or a pipe.
     pub(crate) fn of(named: Named<'a>, reads: bool) -> io::Result<Option<Draft<'a>>> {
         let rt = named.messages.rt;
         let path = resolve(rt, named.name)?;
@@ -130,8 +130,8 @@ impl<'a> Draft<'a> {
         Ok(())
     }
 
-    /// Gives the name to the draft, which is this file. Where that fails the draft stays, and is told:
-    /// it has all that the run took.
+    /// Gives the name to the draft, which is this file. Where that fails the draft stays, and is
+    /// told: it has all that the run took.
     pub(crate) fn name(&mut self, file: &mut SystemFile<'a>) -> Result<(), StoreError>
         requires { IsSynced file.old }
         ensures named { OnOk result (file.new ≡ record file.old { named = true }) }

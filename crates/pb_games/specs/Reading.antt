@@ -34,4 +34,5 @@ AreRefused start field _ = ⊥
 -- some plies of some game are held, which led here, and a further one isn't too many
 abbrev pub CanTake : (Outcome → List Ply → Position → Type 0) → Position → Type 0
 CanTake holds setup =
-    (outcome : Outcome) × (known : List Ply) × holds outcome known setup × (length known < MAX_PLIES)
+    (outcome : Outcome) × (known : List Ply) × holds outcome known setup
+    × (length known < MAX_PLIES)

@@ -17,10 +17,11 @@ use Rattle.pb_games.specs.Ids.{IsId}
 use Rattle.pb_games.specs.Results.{outcome_text}
 use Rattle.pb_games.specs.Tokens.{tokens_of}
 
--- the third of a line's cells spells the record, and below, these tokens spell the moves
+-- the third of a line's cells spells the record
 abbrev pub SpellsStart : List (List ℕ) → Record → Type 0
 SpellsStart cells f = IsRecord f × (field cells 2 ≡ fen_text f)
 
+-- these tokens spell the moves
 abbrev pub SpellsMoves : List (List ℕ) → List Moved → Type 0
 SpellsMoves tokens moves = All IsMove moves × (map spelling moves ≡ tokens)
 

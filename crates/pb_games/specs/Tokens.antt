@@ -40,7 +40,8 @@ promotion_spelt c =
 abbrev pub move_spelt : List ℕ → Moved
 move_spelt token =
     moved_of (square_spelt (slice_index token 0) (slice_index token 1))
-    (square_spelt (slice_index token 2) (slice_index token 3)) (promotion_spelt (slice_index token 4))
+    (square_spelt (slice_index token 2) (slice_index token 3))
+    (promotion_spelt (slice_index token 4))
 
 abbrev pub moves_spelt : List ℕ → List Moved
 moves_spelt field = map move_spelt (tokens_of field)

@@ -38,7 +38,8 @@ pub trait MoveVisitor {
         ensures played { IsTrue result → (setup.new ≡ after setup.old m) }
         ensures stays { ¬ IsTrue result → (setup.new ≡ setup.old) }
         ensures holds { IsTrue result → (o : Outcome) (ps : List Ply)
-            → holds self.old o ps setup.old → holds self.new o (ps ++ (setup.old, m) ∷ []) setup.new }
+            → holds self.old o ps setup.old
+            → holds self.new o (ps ++ (setup.old, m) ∷ []) setup.new }
         ensures fixed { fixed self.new ≡ fixed self.old };
 }
 

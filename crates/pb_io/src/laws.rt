@@ -5,6 +5,7 @@ ghost use Rattle.std.specs.Bool.{Decides};
 ghost use Rattle.std.specs.List.{join_with_byte};
 ghost use Rattle.pb_io.specs.Lines.{ended_lines, line_feed, line_limit, line_pieces, lines};
 ghost use Rattle.pb_io.specs.Reads.{chunk_len};
+ghost use Rattle.pb_io.specs.Source.{HandsOut, SourceState};
 ghost use Rattle.pb_io.specs.declared.fault.Fault.{Fault};
 ghost use Rattle.pb_io.specs.declared.fault.ReadFault.{ReadFault};
 ghost use Rattle.pb_io.specs.declared.lines.TheConstants.{LINE_LIMIT};
@@ -25,6 +26,12 @@ pub fn equal_faults()
     ensures failed { (e f : Failed) → Decides (⟦<Failed as PartialEq>⟧.eq e f) (e ≡ f) }
     ensures read { (e f : ReadFault) → Decides (⟦<ReadFault as PartialEq>⟧.eq e f) (e ≡ f) }
     ensures fault { (e f : Fault) → Decides (⟦<Fault as PartialEq>⟧.eq e f) (e ≡ f) }
+{}
+
+/// Between two of its states a source has handed out one text.
+pub fn handed_is_one()
+    ensures { (old new : SourceState) (a b : List ℕ) → HandsOut old new a → HandsOut old new b
+        → a ≡ b }
 {}
 
 /// The pieces of a text, joined by LFs, are the text.

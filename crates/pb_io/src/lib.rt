@@ -1,6 +1,6 @@
 //! Byte sources and sinks, and streams cut into lines. No chess and no format is known here. For
-//! tests there are ends that fail after so many calls (`FuseSource`, `FuseSink`), and one that never
-//! ends (`NeverSource`).
+//! tests there are ends that fail after so many calls (`FuseSource`, `FuseSink`), and one that
+//! never ends (`NeverSource`).
 #![tactic(auto)]
 
 mod fault;

@@ -7,7 +7,7 @@ ghost use Rattle.pb_ledger.specs.Booking.{PutsOn, WritesBook};
 ghost use Rattle.pb_ledger.specs.Change.{between};
 
 use pb_accepted::Ledger;
-pub use pb_export::ExportFault as WriteFault;
+use pb_export::ExportFault;
 use pb_io::{Failed, Sink};
 use pb_points::Tally;
 use pb_poly::{ENTRIES_AT_ONCE, Entry, write_entries};
@@ -25,7 +25,7 @@ pub fn save_book<T: Tally, K: Sink>(
     alloc: Global,
     ledger: &Ledger<T>,
     sink: &mut K,
-) -> Result<u64, WriteFault>
+) -> Result<u64, ExportFault>
     ensures { WritesBook ledger.now (between K.state sink.old sink.new) result }
 {
     let mut entries = Vec::new(alloc);

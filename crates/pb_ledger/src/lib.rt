@@ -21,7 +21,7 @@ mod submitting;
 mod totals;
 mod watcher;
 
-pub use booking::{WriteFault, save_book};
+pub use booking::save_book;
 pub use collecting::{CollectFault, collect, collect_journaled};
 pub use games::pick_games;
 pub use loading::{LoadError, load};
@@ -31,6 +31,6 @@ pub use pb_accepted::{
 };
 pub use pb_export::{ExportFault, export};
 pub use replaying::replay;
-pub use saving::{put_game, save};
+pub use saving::{HEADER, save};
 pub use totals::Totals;
-pub use watcher::Watcher;
+pub use watcher::{SEALED, Watcher};

@@ -15,11 +15,11 @@ use pb_moves::Move;
 use pb_points::Tally;
 
 /// The first line of a saved ledger.
-pub(crate) const HEADER: &[u8] = b"pbook-ledger 1";
+pub const HEADER: &[u8] = b"pbook-ledger 1";
 
 /// Writes the saved form of a ledger and flushes: a header, and then the submission line of each
-/// game that is held, in order of acceptance. It takes no memory, so what is held can be saved where
-/// there was none for more.
+/// game that is held, in order of acceptance. It takes no memory, so what is held can be saved
+/// where there was none for more.
 ///
 /// # Errors
 ///
@@ -41,7 +41,7 @@ pub fn save<T: Tally, K: Sink>(ledger: &Ledger<T>, sink: &mut K) -> Result<(), F
 /// # Errors
 ///
 /// The sink has failed. A front of the line may have been put then.
-pub fn put_game<K: Sink>(sink: &mut K, id: &Id, game: &Game) -> Result<(), Failed>
+fn put_game<K: Sink>(sink: &mut K, id: &Id, game: &Game) -> Result<(), Failed>
     ensures { Put (K.state sink.old) (K.state sink.new) result
         (with_end (submission_text (id.now, game.now))) }
 {

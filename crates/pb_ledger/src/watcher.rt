@@ -4,12 +4,12 @@ use crate::saving::HEADER;
 use pb_accepted::{Accepted, Refusal};
 use pb_board::without_return;
 
-/// The end of a line that was sealed.
-const SEALED: &[u8] = b"\t\t\t\t";
+/// The end of a line of a journal that was torn and sealed.
+pub const SEALED: &[u8] = b"\t\t\t\t";
 
 /// What is told how a run goes on: for people, so no contract says what it is told.
 pub trait Watcher {
-    /// Takes the number of a journal's line, from 1, that was skipped.
+    /// Takes the number of a line, from 1, that was skipped.
     fn skipped(&mut self, number: u64);
 
     /// Takes the answer to a submission, after its reply was put.

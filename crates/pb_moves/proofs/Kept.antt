@@ -10,7 +10,7 @@ use Rattle.pb_board.specs.declared.piece.Kind.TheVariants.{Pawn, King}
 use Rattle.pb_board.specs.declared.piece.Piece.{Piece}
 use Rattle.pb_board.specs.Piece.{opponent, king_of, pawn_of, piece_of, rook_of}
 use Rattle.pb_board.specs.Board.{Board, Place, file, rank, rank_for, Holds, IsForward}
-use Rattle.pb_board.specs.Position.{Position, position_of, IsOnlyKing, IsSetup, HasKings, HasNoEdgePawn, EnPassantHolds, OnEnPassantRank, beyond}
+use Rattle.pb_board.specs.Position.{Position, position_of, IsOnlyKing, IsSetup, HasKings, HasNoEdgePawn, EnPassantHolds, OnEnPassantRank, double_stepped}
 use Rattle.pb_board.specs.Castling.{castling_row}
 use Rattle.pb_board.proofs.Kings.{both_kings}
 use Rattle.pb_moves.specs.Legal.{MayGo, PseudoLegal, Pushes}
@@ -42,7 +42,7 @@ beside_spares s m k side ok (passing pawn takes e) =
     let square = en_passant_at s m.to ok takes.0 in
     let F : Piece → Kind = λ z. z.kind in
     subst (All (Spares s side)) (sym e)
-    (All-cons (Spares s side) (beyond s.turn m.to, None) [] ((λ e. absurd cc), λ h. let same = ap F (holds_one s.board (beyond s.turn m.to) _ _ square.1.1 h) in cc) (All-nil (Spares s side)))
+    (All-cons (Spares s side) (double_stepped s.turn m.to, None) [] ((λ e. absurd cc), λ h. let same = ap F (holds_one s.board (double_stepped s.turn m.to) _ _ square.1.1 h) in cc) (All-nil (Spares s side)))
 beside_spares s m k side ok (castling king c x asks e) =
     let row = castling_row c in
     let rook : Piece = rook_of row.colour in
@@ -130,7 +130,7 @@ NoPawn c = (side : Colour) → c.1 ≢ Some (pawn_of side)
 
 beside_no_pawn : (s : Position) (m : Moved) (kind : Kind) → Way s m kind → All NoPawn (besides s.board m s.turn kind)
 beside_no_pawn s m k (alone goes e) = subst (All NoPawn) (sym e) (All-nil NoPawn)
-beside_no_pawn s m k (passing pawn takes e) = subst (All NoPawn) (sym e) (All-cons NoPawn (beyond s.turn m.to, None) [] (λ side e. cc) (All-nil NoPawn))
+beside_no_pawn s m k (passing pawn takes e) = subst (All NoPawn) (sym e) (All-cons NoPawn (double_stepped s.turn m.to, None) [] (λ side e. cc) (All-nil NoPawn))
 beside_no_pawn s m k (castling king c x asks e) =
     let row = castling_row c in
     let rook : Piece = rook_of row.colour in
@@ -184,7 +184,7 @@ crosses s m kind (inr (inr (king, x))) = inl (ep_other s.turn kind m (λ pawn. c
 -- a double step passes a square of the rank for it, next before its target
 halfway_fits : (side : Colour) (from to halfway : ℕ) → from < 64 → rank_for side from ≡ 1 → file to ≡ file from → file halfway ≡ file from
     → IsForward side 2 from to → IsForward side 1 from halfway
-    → OnEnPassantRank (opponent side) halfway × (to ≡ beyond (opponent side) halfway) × (halfway ≢ from) × (halfway ≢ to) × (rank_for side to ≢ 7)
+    → OnEnPassantRank (opponent side) halfway × (to ≡ double_stepped (opponent side) halfway) × (halfway ≢ from) × (halfway ≢ to) × (rank_for side to ≢ 7)
 halfway_fits White from to halfway on home to_file halfway_file two one = (omega arith, omega arith, (λ same. omega arith), (λ same. omega arith), λ last. omega arith)
 halfway_fits Black from to halfway on home to_file halfway_file two one = (omega arith, omega arith, (λ same. omega arith), (λ same. omega arith), λ last. omega arith)
 
@@ -219,7 +219,7 @@ en_passant_after_holds s m ok h =
             fits.0,
             (
               differs.others halfway (off_two halfway (m.from, None) (m.to, Some q) fits.2 fits.3) ∙ halfway_empty s m.from m.to h.is_move.from_on_board h.is_move.to_on_board half.0 x.pushes.way,
-              holds_at (after s m).board m.to (beyond (opponent s.turn) halfway) _ fits.1 there,
+              holds_at (after s m).board m.to (double_stepped (opponent s.turn) halfway) _ fits.1 there,
             ),
           ))
     ]

@@ -8,7 +8,7 @@ use Rattle.pb_board.specs.declared.piece.Kind.TheVariants.{Pawn, Knight, King}
 use Rattle.pb_board.specs.declared.piece.Piece.{Piece}
 use Rattle.pb_board.specs.Piece.{opponent, king_of, rook_of}
 use Rattle.pb_board.specs.Board.{Board, Place, file, rank, Holds, IsEmpty, IsForward}
-use Rattle.pb_board.specs.Position.{Position, IsOnlyKing, beyond}
+use Rattle.pb_board.specs.Position.{Position, IsOnlyKing, double_stepped}
 use Rattle.pb_board.specs.declared.castling.Castling.{Castling}
 use Rattle.pb_board.proofs.Kings.{only_king}
 use Rattle.pb_moves.specs.Attacks.{Attacks}
@@ -83,10 +83,10 @@ empty_at board q r e empty = let P : ℕ → Type 0 = λ k. IsEmpty board k in s
 pub pawn_reach : (colour : Colour) (kind : Kind) (board : Board) (a b : ℕ) → Attacks colour kind board a b → kind ≡ Pawn → IsForward colour 1 a b
 pawn_reach _ _ board a b r e = r.1 e
 
--- the pawn that is taken en passant stands beyond the square that it stepped over
-pub gone_is_beyond : (side : Colour) (from to gone : ℕ) → IsForward side 1 from to → file gone ≡ file to → rank gone ≡ rank from → gone ≡ beyond side to
-gone_is_beyond White from to gone forward gone_file gone_rank = omega arith
-gone_is_beyond Black from to gone forward gone_file gone_rank = omega arith
+-- the pawn that is taken en passant stands where its double step took it
+pub gone_is_double_stepped : (side : Colour) (from to gone : ℕ) → IsForward side 1 from to → file gone ≡ file to → rank gone ≡ rank from → gone ≡ double_stepped side to
+gone_is_double_stepped White from to gone forward gone_file gone_rank = omega arith
+gone_is_double_stepped Black from to gone forward gone_file gone_rank = omega arith
 
 -- where king and rook go nothing stood
 pub castling_unpinned : (c : Castling) (s : Position) → Asks (castling_row c) s

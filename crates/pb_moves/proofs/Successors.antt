@@ -10,7 +10,7 @@ use Rattle.pb_board.specs.declared.piece.Piece.{Piece}
 use Rattle.pb_board.specs.declared.setup.Rights.{Rights}
 use Rattle.pb_board.specs.Piece.{king_of, piece_of, rook_of}
 use Rattle.pb_board.specs.Board.{Board, Place, file, rank, at, Holds, IsForward}
-use Rattle.pb_board.specs.Position.{Position, IsSetup, beyond}
+use Rattle.pb_board.specs.Position.{Position, IsSetup, double_stepped}
 use Rattle.pb_board.specs.declared.castling.Castling.{Castling}
 use Rattle.pb_board.specs.declared.castling.Castling.TheVariants.{WhiteShort, WhiteLong, BlackShort, BlackLong}
 use Rattle.pb_moves.specs.Attacks.{files_apart, ranks_apart}
@@ -23,7 +23,7 @@ use Rattle.pb_moves.proofs.MovedPiece.{put, puts}
 use Rattle.pb_moves.proofs.Castlings.{IsRow, near_is_none, rook_goes}
 use Rattle.pb_moves.proofs.Differing.{All-two, carried_put, differs_put, moved_board, off_two}
 use Rattle.pb_moves.proofs.Unique.{step_ranks, en_passant_at}
-use Rattle.pb_moves.proofs.Kings.{gone_is_beyond}
+use Rattle.pb_moves.proofs.Kings.{gone_is_double_stepped}
 
 -- a board on which a king and a rook were moved
 pub castled_writes : (row : CastlingRow) (old : Board) → IsRow row → length old ≡ 64
@@ -95,13 +95,13 @@ beside_castling c side board m k king own from to rook =
     ∙ rook_at c board
     ∙ ap (λ (place : Place). let goes : List (ℕ × Place) = (row.rook_from, None) ∷ (row.rook_to, place) ∷ [] in goes) rook
 
--- en passant, the pawn beyond the square goes
+-- en passant, the pawn goes that made the double step
 pub taken_is : (s : Position) (m : Moved) (side : Colour) (k : Kind) → IsSetup s → k ≡ Pawn → files_apart m.from m.to ≡ 1 → IsForward s.turn 1 m.from m.to → s.ep ≡ Some m.to
-    → besides s.board m side k ≡ (beyond s.turn m.to, None) ∷ []
+    → besides s.board m side k ≡ (double_stepped s.turn m.to, None) ∷ []
 taken_is s m side k ok pawn files forward square =
     let gone = 8 * rank m.from + file m.to in
     let ranks : ranks_apart m.from m.to ≡ 1 = step_ranks s.turn 1 m.from m.to forward in
-    let same : gone ≡ beyond s.turn m.to = gone_is_beyond s.turn m.from m.to gone forward (omega arith) (omega arith) in
+    let same : gone ≡ double_stepped s.turn m.to = gone_is_double_stepped s.turn m.from m.to gone forward (omega arith) (omega arith) in
     beside_passing side k s.board m pawn (λ e. omega arith) (en_passant_at s m.to ok square).1.0
     ∙ ap (λ (g : ℕ). let goes : List (ℕ × Place) = (g, None) ∷ [] in goes) same
 

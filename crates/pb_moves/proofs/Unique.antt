@@ -16,7 +16,7 @@ piece_is p colour kind c k =
     let G : Colour → Piece = λ x. record { colour = x; kind = kind } in
     ap F k ∙ ap G c
 
--- the en passant square of a setup is empty, and the pawn that made the double step stands beyond
+-- the en passant square of a setup is empty, and the pawn that made the double step stands there
 pub en_passant_at : (s : Position) (q : ℕ) → IsSetup s → s.ep ≡ Some q → EnPassantHolds s.board s.turn (Some q)
 en_passant_at s q ok here =
     let P : Option ℕ → Type 0 = λ ep. EnPassantHolds s.board s.turn ep in

@@ -10,7 +10,7 @@ use Rattle.pb_board.specs.declared.piece.Piece.{Piece}
 use Rattle.pb_board.specs.declared.castling.Castling.{Castling}
 use Rattle.pb_board.specs.Piece.{opponent, king_of, piece_of}
 use Rattle.pb_board.specs.Board.{Board, Place, file, rank, rank_for, Holds, IsEmpty, IsForward}
-use Rattle.pb_board.specs.Position.{Position, IsSetup, beyond, position_of}
+use Rattle.pb_board.specs.Position.{Position, IsSetup, double_stepped, position_of}
 use Rattle.pb_board.specs.Castling.{castling_row}
 use Rattle.pb_moves.specs.Attacks.{Attacks, files_apart, ranks_apart}
 use Rattle.pb_moves.specs.Candidate.{GoesAlone, GoesInTwo, IsOwn, Promotes, Steps, TakesEnPassant}
@@ -19,7 +19,7 @@ use Rattle.pb_moves.specs.Moved.{Moved, IsMove}
 use Rattle.pb_moves.specs.Successor.{Differs, after, besides, changes, en_passant_after, rights_after}
 use Rattle.pb_moves.proofs.Castlings.{Asks, IsByRow, asked_by, by_row, rook_goes, rows}
 use Rattle.pb_moves.proofs.Differing.{carried_past_put, carried_put}
-use Rattle.pb_moves.proofs.Kings.{gone_is_beyond, holds_one, pawn_reach}
+use Rattle.pb_moves.proofs.Kings.{gone_is_double_stepped, holds_one, pawn_reach}
 use Rattle.pb_moves.proofs.MovedPiece.{carried, puts}
 use Rattle.pb_moves.proofs.Successors.{beside_castling, beside_piece, beside_straight, beside_taking, castled_writes, taken_is}
 use Rattle.pb_moves.proofs.Unique.{king_near, pawn_files, piece_is, step_ranks}
@@ -130,7 +130,7 @@ pub record Passes (s : Position) (m : Moved) : Type 0 where
   pub forward : IsForward s.turn 1 m.from m.to
   pub files : files_apart m.from m.to ≡ 1
   pub ranks : ranks_apart m.from m.to ≡ 1
-  pub gone : 8 * rank m.from + file m.to ≡ beyond s.turn m.to
+  pub gone : 8 * rank m.from + file m.to ≡ double_stepped s.turn m.to
 
 pub passes : (s : Position) (m : Moved) → TakesEnPassant s m → Passes s m
 passes s m takes =
@@ -140,13 +140,13 @@ passes s m takes =
       forward = forward;
       files = pawn_files s.turn Pawn s.board m.from m.to takes.1 refl;
       ranks = ranks;
-      gone = gone_is_beyond s.turn m.from m.to (8 * rank m.from + file m.to) forward (omega arith) (omega arith);
+      gone = gone_is_double_stepped s.turn m.from m.to (8 * rank m.from + file m.to) forward (omega arith) (omega arith);
     }
 
 -- a piece goes so, with what changes besides
 pub data Way (s : Position) (m : Moved) (kind : Kind) : Type 0 where
   alone : GoesAlone s m (piece_of s.turn kind) → besides s.board m s.turn kind ≡ [] → Way s m kind
-  passing : kind ≡ Pawn → TakesEnPassant s m → besides s.board m s.turn kind ≡ (beyond s.turn m.to, None) ∷ [] → Way s m kind
+  passing : kind ≡ Pawn → TakesEnPassant s m → besides s.board m s.turn kind ≡ (double_stepped s.turn m.to, None) ∷ [] → Way s m kind
   castling : kind ≡ King → (c : Castling) → IsByRow s.turn m.from m.to c → Asks (castling_row c) s
       → besides s.board m s.turn kind ≡ rook_goes (castling_row c) → Way s m kind
 
@@ -199,7 +199,7 @@ module _ (s : Position) (m : Moved) (kind : Kind) (ok : IsSetup s) (is : IsMove 
       let ranks : ranks_apart m.from m.to ≡ 1 = x.ranks in
       let on_from = is.from_on_board in
       let D : ℕ → Type 0 = λ g. Differs s.board (puts s.board (named ((g, None) ∷ []))) (named ((g, None) ∷ [])) in
-      puts_differ ((beyond s.turn m.to, None) ∷ []) e
+      puts_differ ((double_stepped s.turn m.to, None) ∷ []) e
       (subst D x.gone (carried_past_put s.board m.from m.to gone becoming ok.places on_from is.to_on_board (omega arith) is.moves (λ e. omega arith) (λ e. omega arith)))
   way_differs promotes (castling king c x asks e) =
       let row = castling_row c in

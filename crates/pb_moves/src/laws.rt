@@ -7,6 +7,7 @@ ghost use Rattle.pb_board.specs.Position.{IsSetup, Position, Record, record_of};
 ghost use Rattle.pb_board.specs.Text.{fen_text};
 ghost use Rattle.pb_moves.specs.Clocks.{record_after};
 ghost use Rattle.pb_moves.specs.Legal.{Legal, PseudoLegal};
+ghost use Rattle.pb_moves.specs.Listing.{ListsLegal};
 ghost use Rattle.pb_moves.specs.Moved.{Moved, IsMove};
 ghost use Rattle.pb_moves.specs.Played.{AreLegal, Plays};
 ghost use Rattle.pb_moves.specs.Spelling.{spelling};
@@ -30,6 +31,11 @@ pub fn after_is()
         → IsAfter s m t ↔ (t ≡ after s m) }
 {}
 
+/// A setup has one list of its legal moves.
+pub fn one_list()
+    ensures { (s : Position) (a b : List Moved) → ListsLegal s a → ListsLegal s b → a ≡ b }
+{}
+
 /// Moves are equal (`==`) exactly where they are one value, and their texts where the bytes are.
 pub fn equal_moves()
     ensures moves { (a b : Moved) → IsMove a → IsMove b
@@ -38,8 +44,8 @@ pub fn equal_moves()
     ensures texts { (t u : List ℕ) → Decides (⟦<MoveText as PartialEq>⟧.eq t u) (t ≡ u) }
 {}
 
-/// In the initial array e2e4 and the moves of Fool's mate are legal. A double step, castling, taking
-/// en passant and promotion lead to these records.
+/// In the initial array e2e4 and the moves of Fool's mate are legal. A double step, castling,
+/// taking en passant and promotion lead to these records.
 pub fn worked()
     ensures legal { Legal initial e2e4 }
     ensures text { fen_text (record_after (record_of initial 0 1) e2e4)

@@ -73,8 +73,8 @@ pub(crate) fn king_after(setup: &Setup, m: Move, piece: Piece) -> Square
     }
 }
 
-/// Whether the moves that put this piece alone elsewhere need no test of check: its king wouldn't be
-/// attacked if it were gone.
+/// Whether the moves that put this piece alone elsewhere need no test of check: its king wouldn't
+/// be attacked if it were gone.
 #[inline(always)]
 pub(crate) fn is_unpinned(setup: &Setup, enemy: Sight, from: Square, piece: Piece) -> bool
     requires own { IsOwn setup.now from piece }

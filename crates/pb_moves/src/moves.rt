@@ -36,8 +36,8 @@ impl Move {
     ghost use Rattle.std.specs.Prelude.{◌+◌, ◌*◌};
     ghost use Rattle.pb_moves.specs.Moved.{IsPromotion, IsMove, moved_of, promotion_number};
 
-    /// Makes the move between these squares, or none exactly where they are one square, or `promo` is a
-    /// pawn or a king.
+    /// Makes the move between these squares, or none exactly where they are one square, or `promo`
+    /// is a pawn or a king.
     #[inline]
     pub fn new(from: Square, to: Square, promo: Option<Kind>) -> Option<Move>
         ensures on_board { (from < 64) × (to < 64) }

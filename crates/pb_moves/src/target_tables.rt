@@ -1,4 +1,5 @@
-//! Where a piece may go on an empty board, and a pawn also by a capture: for each square a bitboard.
+//! Where a piece may go on an empty board, and a pawn also by a capture: for each square a
+//! bitboard.
 
 /// An array of numbers, written as a table.
 macro_rules! table {

@@ -10,7 +10,8 @@ use pb_board::Text;
 pub type MoveText = Text<5>;
 
 impl Move {
-    /// Spells the move: its two squares and the small letter of a promotion, as e2e4, e1g1 or e7e8q.
+    /// Spells the move: its two squares and the small letter of a promotion, as e2e4, e1g1 or
+    /// e7e8q.
     pub fn text(self) -> MoveText
         ensures { result ≡ spelling self }
     {

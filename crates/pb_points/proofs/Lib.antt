@@ -2,7 +2,6 @@ pub mod AddedRows
 pub mod BagRows
 pub mod BlockRows
 pub mod DistinctRows
-pub mod Elements
 pub mod Groups
 pub mod ListRows
 pub mod NarrowSums

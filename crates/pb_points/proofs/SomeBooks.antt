@@ -7,7 +7,7 @@ use Rattle.pb_points.specs.declared.row.Row.{Row}
 use Rattle.pb_points.specs.Group.{entry_with}
 use Rattle.pb_points.specs.Rows.{Gives, IsBookOfRows, IsTop}
 use Rattle.pb_points.specs.Weight.{Before, scaled}
-use Rattle.pb_points.proofs.Elements.{all_of, contains_cases, contains_head, contains_tail, pairs_head, pairs_tail}
+use Rattle.pb_board.proofs.Elements.{all_of, contains_cases, contains_head, contains_tail, pairs_head, pairs_tail}
 use Rattle.pb_points.proofs.Tops.{IsTop-unique}
 use Rattle.pb_points.proofs.Weighing.{Gives-unique}
 

@@ -10,7 +10,7 @@ use Rattle.pb_points.specs.Group.{AddsBook}
 use Rattle.pb_points.specs.Rows.{frequent, from}
 use Rattle.pb_points.specs.Tally.{Content, Held, held_of}
 use Rattle.pb_points.specs.TallyBook.{AddsBookOf, AreRows, is_within, stretch_of}
-use Rattle.pb_points.proofs.Elements.{contains_filter, within_filter}
+use Rattle.pb_board.proofs.Elements.{contains_filter, within_filter}
 use Rattle.pb_points.proofs.Groups.{KeysBelow, adds_both, adds_nothing}
 
 -- a row that occurs often enough is one of the rows

@@ -57,8 +57,8 @@ pub trait Tally: Drop {
         ensures each { IfOk result (λ v. (r : Row)
             → Contains v.items r ↔ (content self.now r.key r.code ≡ Some (held_of r))) };
 
-    /// Adds the book of a stretch of keys from `first` on, of moves that were played at least so many
-    /// times, and answers with which key the next stretch begins, or none after the last.
+    /// Adds the book of a stretch of keys from `first` on, of moves that were played at least so
+    /// many times, and answers with which key the next stretch begins, or none after the last.
     ///
     /// # Errors
     ///
@@ -80,8 +80,8 @@ pub trait Tally: Drop {
         Ok(None)
     }
 
-    /// Adds the book of moves that were played at least so many times, one stretch of keys after the
-    /// other.
+    /// Adds the book of moves that were played at least so many times, one stretch of keys after
+    /// the other.
     ///
     /// # Errors
     ///

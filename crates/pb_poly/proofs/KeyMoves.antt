@@ -5,7 +5,7 @@ use Rattle.pb_board.specs.declared.piece.Colour.{Colour}
 use Rattle.pb_board.specs.declared.piece.Colour.TheVariants.{White, Black}
 use Rattle.pb_board.specs.Piece.{opponent, piece_of}
 use Rattle.pb_board.specs.Board.{at, file, rank_for, IsForward}
-use Rattle.pb_board.specs.Position.{Position, IsSetup, beyond}
+use Rattle.pb_board.specs.Position.{Position, IsSetup, double_stepped}
 use Rattle.pb_board.specs.Rights.{only_if}
 use Rattle.pb_moves.specs.declared.effect.Effect.{Effect}
 use Rattle.pb_moves.specs.Effect.{IsEffect}
@@ -21,9 +21,9 @@ use Rattle.pb_poly.specs.KeyChange.{stepped_offsets}
 use Rattle.pb_poly.proofs.Offsets.{passing_offsets}
 
 -- the pawn made a double step over the square half way, which lies before it
-step_beyond : (side : Colour) (from to : ℕ) → file to ≡ file from → IsForward side 2 from to → (beyond (opponent side) ((from + to) / 2) ≡ to) × (file ((from + to) / 2) ≡ file to)
-step_beyond White from to same forward = (omega arith, omega arith)
-step_beyond Black from to same forward = (omega arith, omega arith)
+step_double_stepped : (side : Colour) (from to : ℕ) → file to ≡ file from → IsForward side 2 from to → (double_stepped (opponent side) ((from + to) / 2) ≡ to) × (file ((from + to) / 2) ≡ file to)
+step_double_stepped White from to same forward = (omega arith, omega arith)
+step_double_stepped Black from to same forward = (omega arith, omega arith)
 
 -- the squares beside the one reached are neither of the move's two
 step_aside : (side : Colour) (from to : ℕ) → from < 64 → file to ≡ file from → IsForward side 2 from to → rank_for side from ≡ 1
@@ -56,9 +56,9 @@ steps_after s m e ok is =
       | inl none ↦ offsets None none refl
       | inr (x, some) ↦
           (let halfway = (m.from + m.to) / 2 in
-          let aside = step_beyond s.turn m.from m.to x.pushes.same_file x.forward in
+          let aside = step_double_stepped s.turn m.from m.to x.pushes.same_file x.forward in
           offsets (Some halfway) some
-          (ap (λ (side : Colour). only_if (has_capturer t.board side (beyond side halfway)) (772 + file halfway)) turn
+          (ap (λ (side : Colour). only_if (has_capturer t.board side (double_stepped side halfway)) (772 + file halfway)) turn
           ∙ ap (λ q. only_if (has_capturer t.board enemy q) (772 + file halfway)) aside.0
           ∙ ap (λ flag. only_if flag (772 + file halfway)) (capturers_stay s m enemy ok h x)))
     ]

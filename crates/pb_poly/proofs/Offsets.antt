@@ -10,7 +10,7 @@ use Rattle.pb_board.specs.declared.piece.Piece.{Piece}
 use Rattle.pb_board.specs.declared.setup.Rights.{Rights}
 use Rattle.pb_board.specs.Piece.{colour_number, kind_number, piece_number}
 use Rattle.pb_board.specs.Board.{Board, Place, at, file}
-use Rattle.pb_board.specs.Position.{Position, IsSetup, beyond}
+use Rattle.pb_board.specs.Position.{Position, IsSetup, double_stepped}
 use Rattle.pb_board.specs.Rights.{of_rights, only_if}
 use Rattle.pb_poly.specs.Key.{AreOffsets, HasOffset, of_piece, of_right, en_passant, white_to_move, HasCapturer, has_capturer, en_passant_offsets, piece_offset, piece_offsets, offsets}
 use Rattle.pb_poly.proofs.Capturers.{capturer_known, capturer_there}
@@ -112,32 +112,32 @@ distinct_turn Black = tt
 
 -- ---- the en passant square
 
-capturer_of : (s : Position) (square : ℕ) → has_capturer s.board s.turn (beyond s.turn square) ≡ true → HasCapturer s square
+capturer_of : (s : Position) (square : ℕ) → has_capturer s.board s.turn (double_stepped s.turn square) ≡ true → HasCapturer s square
 capturer_of s square h =
-    let found = capturer_there s.board s.turn (beyond s.turn square) h in
+    let found = capturer_there s.board s.turn (double_stepped s.turn square) h in
     record { capturer = found.0; stands = found.1; same_rank = found.2; next_file = found.3 }
 
-of_capturer : (s : Position) (square : ℕ) → HasCapturer s square → has_capturer s.board s.turn (beyond s.turn square) ≡ true
-of_capturer s square h = capturer_known s.board s.turn (beyond s.turn square) h.capturer h.stands h.same_rank h.next_file
+of_capturer : (s : Position) (square : ℕ) → HasCapturer s square → has_capturer s.board s.turn (double_stepped s.turn square) ≡ true
+of_capturer s square h = capturer_known s.board s.turn (double_stepped s.turn square) h.capturer h.stands h.same_rank h.next_file
 
 -- the offset of such an en passant square
 abbrev pub passing_offsets : Position → Option ℕ → List ℕ
-passing_offsets s ep = option_map_or (λ q. only_if (has_capturer s.board s.turn (beyond s.turn q)) (772 + file q)) ep []
+passing_offsets s ep = option_map_or (λ q. only_if (has_capturer s.board s.turn (double_stepped s.turn q)) (772 + file q)) ep []
 
 among_en_passant : (s : Position) (ep : Option ℕ) (n : ℕ) → Among (passing_offsets s ep) n → (square : ℕ) × (ep ≡ Some square) × HasCapturer s square × (n ≡ 772 + file square)
 among_en_passant s None n h = absurd h
 among_en_passant s (Some square) n h =
-    let flag = among_flag (has_capturer s.board s.turn (beyond s.turn square)) (772 + file square) n h in
+    let flag = among_flag (has_capturer s.board s.turn (double_stepped s.turn square)) (772 + file square) n h in
     (square, refl, capturer_of s square flag.0, flag.1)
 
 en_passant_among : (s : Position) (ep : Option ℕ) (square n : ℕ) → ep ≡ Some square → HasCapturer s square → n ≡ 772 + file square → Among (passing_offsets s ep) n
 en_passant_among s ep square n is capturer offset =
     let P : Option ℕ → Type 0 = λ o. Among (passing_offsets s o) n in
-    subst P (sym is) (flag_among (has_capturer s.board s.turn (beyond s.turn square)) (772 + file square) n (of_capturer s square capturer) offset)
+    subst P (sym is) (flag_among (has_capturer s.board s.turn (double_stepped s.turn square)) (772 + file square) n (of_capturer s square capturer) offset)
 
 distinct_en_passant : (s : Position) (ep : Option ℕ) → Distinct (passing_offsets s ep)
 distinct_en_passant s None = tt
-distinct_en_passant s (Some square) = distinct_flag (has_capturer s.board s.turn (beyond s.turn square)) (772 + file square)
+distinct_en_passant s (Some square) = distinct_flag (has_capturer s.board s.turn (double_stepped s.turn square)) (772 + file square)
 
 -- ---- all offsets
 

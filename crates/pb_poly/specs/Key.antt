@@ -10,7 +10,7 @@ use Rattle.pb_board.specs.declared.piece.Colour.TheVariants.{White}
 use Rattle.pb_board.specs.declared.piece.Piece.{Piece}
 use Rattle.pb_board.specs.declared.piece.Kind.TheVariants.{Pawn}
 use Rattle.pb_board.specs.Piece.{colour_number, piece_number, piece_of}
-use Rattle.pb_board.specs.Position.{Position, beyond}
+use Rattle.pb_board.specs.Position.{Position, double_stepped}
 use Rattle.pb_board.specs.Board.{Board, file, rank, at, Holds, is_piece}
 use Rattle.pb_board.specs.Rights.{of_rights, only_if}
 use Rattle.pb_moves.specs.Attacks.{files_apart}
@@ -38,7 +38,7 @@ has_capturer board turn q =
 -- double step, whether or not it may take
 abbrev pub en_passant_offsets : Position → List ℕ
 en_passant_offsets s = option_map_or
-    (λ q. only_if (has_capturer s.board s.turn (beyond s.turn q)) (772 + file q)) s.ep []
+    (λ q. only_if (has_capturer s.board s.turn (double_stepped s.turn q)) (772 + file q)) s.ep []
 
 -- all offsets of a setup, each once: of pieces, castling rights, en passant and White to move
 abbrev pub offsets : Position → List ℕ
@@ -55,8 +55,8 @@ key randoms s = fold (λ k offset. bit_xor k (slice_index randoms offset)) 0 (of
 pub record HasCapturer (s : Position) (square : ℕ) : Type 0 where
   pub capturer : ℕ
   pub stands : Holds s.board capturer (piece_of s.turn Pawn)
-  pub same_rank : rank capturer ≡ rank (beyond s.turn square)
-  pub next_file : files_apart capturer (beyond s.turn square) ≡ 1
+  pub same_rank : rank capturer ≡ rank (double_stepped s.turn square)
+  pub next_file : files_apart capturer (double_stepped s.turn square) ≡ 1
 
 -- the setup has this offset into the table
 pub data HasOffset (s : Position) (offset : ℕ) : Type 0 where

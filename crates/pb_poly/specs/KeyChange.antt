@@ -27,7 +27,8 @@ square_offsets (Some p) square = piece_offset p square ∷ []
 abbrev pub going_offsets : Piece → MovedPiece → List ℕ
 going_offsets leaving c = piece_offset leaving c.from ∷ piece_offset c.piece c.to ∷ []
 
--- the first piece goes, what stood where it arrives is taken, and the second goes where there is one
+-- the first piece goes, what stood where it arrives is taken, and the second goes where there is
+-- one
 abbrev pub moved_offsets : Board → Effect → List ℕ
 moved_offsets board e = going_offsets e.piece e.first
     ++ (square_offsets (at board e.first.to) e.first.to

@@ -5,7 +5,8 @@ ghost use Rattle.std.specs.Int.{bit_at};
 ghost use Rattle.pb_board.specs.Piece.{colour_number};
 ghost use Rattle.pb_board.specs.Board.{file, rank};
 ghost use Rattle.pb_moves.specs.Attacks.{files_apart};
-ghost use Rattle.pb_board.specs.Position.{IsSetup, OnEnPassantRank, beyond as beyond_by};
+ghost use Rattle.pb_board.specs.Position.{IsSetup, OnEnPassantRank};
+ghost use Rattle.pb_board.specs.Position.{double_stepped as double_stepped_by};
 ghost use Rattle.pb_board.specs.Rights.{of_rights, only_if};
 ghost use Rattle.pb_poly.specs.Key.{IsKey, en_passant_offsets};
 ghost use Rattle.pb_poly.specs.Key.{has_capturer as has_capturer_by, key as key_by};
@@ -71,9 +72,9 @@ pub(crate) fn rights_key(table: &Table, rights: Rights) -> u64
         ^ random_if(table, rights.black_long, CASTLING_START + 3)
 }
 
-fn beyond(turn: Colour, square: Square) -> u8
+fn double_stepped(turn: Colour, square: Square) -> u8
     requires { OnEnPassantRank turn square }
-    ensures value { result ≡ beyond_by turn square }
+    ensures value { result ≡ double_stepped_by turn square }
     ensures on_board { result < 64 }
 {
     match turn {
@@ -119,7 +120,7 @@ pub(crate) fn en_passant_key(table: &Table, setup: &Setup) -> u64
     let turn = setup.turn();
     match setup.ep() {
         Some(square) => {
-            let flag = has_capturer(setup, turn, beyond(turn, square));
+            let flag = has_capturer(setup, turn, double_stepped(turn, square));
             random_if(table, flag, en_passant_offset(square))
         }
         None => 0,

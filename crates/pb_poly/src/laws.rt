@@ -1,7 +1,7 @@
 //! Laws, each the contract of a function that does nothing.
 
 ghost use Rattle.std.specs.Bool.{Decides};
-ghost use Rattle.std.specs.Prelude.{◌≡◌, ◌<◌, ℕ, List, Some, false, length};
+ghost use Rattle.std.specs.Prelude.{◌≡◌, ◌<◌, ℕ, List, Result, Some, false, length};
 ghost use Rattle.pb_io.specs.Source.{SourceState};
 ghost use Rattle.pb_board.specs.Position.{IsSetup, Position};
 ghost use Rattle.pb_moves.specs.Moved.{Moved};
@@ -10,7 +10,8 @@ ghost use Rattle.pb_poly.specs.Code.{HasCode};
 ghost use Rattle.pb_poly.specs.Found.{Found};
 ghost use Rattle.pb_poly.specs.Key.{IsKey, key};
 ghost use Rattle.pb_poly.specs.Table.{IsTable};
-ghost use Rattle.pb_poly.specs.Reading.{Tells};
+ghost use Rattle.pb_poly.specs.TableReading.{AsTable};
+ghost use Rattle.pb_poly.specs.Reading.{AsBook, Tells};
 ghost use Rattle.pb_poly.specs.declared.entry.Entry.{Entry};
 ghost use Rattle.pb_poly.specs.declared.entry.TheConstants.{ENTRIES_AT_ONCE};
 ghost use Rattle.pb_poly.specs.declared.reading.BookError.{BookError};
@@ -32,6 +33,14 @@ pub fn limits()
 pub fn code_is_one()
     ensures { (s : Position) (m n : Moved) (number : ℕ) → IsSetup s → HasCode s m number
         → HasCode s n number → m ≡ n }
+{}
+
+/// Bytes are one book, or none for one reason, and so with tables.
+pub fn one_reading()
+    ensures book { (bytes : List ℕ) (r x : Result (List Entry) BookError) → AsBook bytes r
+        → AsBook bytes x → r ≡ x }
+    ensures table { (bytes : List ℕ) (r x : Result (List ℕ) TableFault) → AsTable bytes r
+        → AsTable bytes x → r ≡ x }
 {}
 
 /// The key is the one number that is, bit by bit, the parity of the randoms at a setup's offsets.

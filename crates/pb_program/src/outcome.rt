@@ -80,10 +80,9 @@ pub(crate) fn spare_games(messages: Messages<'_>, book: &str) -> Result<(), Stop
 
 /// Only an ordinary file that has bytes is looked at: a pipe gives its bytes once.
 fn looks_of_file(rt: &HostRuntime, name: &str) -> Option<Looks> {
-    let told = fs::metadata(rt, name).ok()?;
-    if !told.is_file() || told.len() == 0 {
-        return None;
-    }
+    fs::metadata(rt, name)
+        .ok()
+        .filter(|told| told.is_file() && told.len() > 0)?;
     let mut front = [0; LOOKED_AT];
     let count = File::open(rt, name).ok()?.read(&mut front).ok()?;
     Some(looks_of(&front[..count]))

@@ -13,7 +13,8 @@ const BASIS: u64 = 0xcbf2_9ce4_8422_2325;
 
 const PRIME: u64 = 0x0000_0100_0000_01b3;
 
-/// Tells how many lines an answer has and the checksum of its bytes, then its first and its last line.
+/// Tells how many lines an answer has and the checksum of its bytes, then its first and its last
+/// line.
 pub fn tell_digest(page: &mut Page, answer: &str) {
     let mut sum = BASIS;
     for byte in answer.as_bytes() {

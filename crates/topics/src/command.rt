@@ -1,6 +1,6 @@
 //! Each command over the ends that a word of the row names, such as `input=reader:5 output=room:9`.
-//! With `put=hidden` what was put isn't told, and with `next=told` the next three bytes of the input
-//! are.
+//! With `put=hidden` what was put isn't told, and with `next=told` the next three bytes of the
+//! input are.
 
 use crate::collecting::{self, Passed};
 use crate::ends::{Output, fills_in, is_told, rules_in};

@@ -9,8 +9,8 @@ ghost use Rattle.std.specs.Prelude.{◌≡◌, [], IfOk};
 use crate::ends::{Output, fills_in, rules_in};
 use crate::game::{lines_of, stream_of};
 use pb_ledger::{
-    CollectFault, Ledger, ListTally, MAX_CAP, MapTally, Tally, Totals, collect, export, load,
-    replay, save,
+    CollectFault, Ledger, ListTally, MAX_CAP, MapTally, Rules, Tally, Totals, collect, export,
+    load, replay, save,
 };
 use pb_poly::{MemSink, Sink, ToWrite};
 use rows::book::tell;
@@ -78,7 +78,12 @@ fn new_ledger<T: Tally>(alloc: Global, ends: &str) -> Result<Ledger<T>, Trouble>
     let powers = text_of(alloc, "{powers}")?;
     let table = table_of(alloc, end_of(ends, "table", powers.as_str()))?;
     let cap = small_of(end_of(ends, "cap", "1000")).clamp(1, MAX_CAP);
-    Ok(Ledger::with_rules(alloc, &table, cap, rules_in(ends)?)?)
+    let rules = rules_in(ends)?;
+    Ok(if rules == Rules::all_plies() {
+        Ledger::new(alloc, &table, cap)?
+    } else {
+        Ledger::with_rules(alloc, &table, cap, rules)?
+    })
 }
 
 fn submit_all<T: Tally>(page: &mut Page, ledger: &mut Ledger<T>, lines: &[&str]) -> Done {

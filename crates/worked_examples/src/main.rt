@@ -14,12 +14,14 @@
 //! The topic `run` runs the program `pbook` over the words that follow. What it prints comes after
 //! the row's name in a line of its own. Standard input has its submissions, and the folder of the
 //! run what it reads. The topic `words` has command lines, and compares the program's help with the
-//! completions and the manual page, which lie there in `installed`. `topics` answers all others.
+//! completions and the manual page, which lie there in `installed`. The topic `surface` tells whether
+//! the calls that another program is promised answer as they should. `topics` answers all others.
 //! `make bench` has rows of its own for `bench`.
 #![tactic(auto)]
 
 mod words;
 
+use library_uses::surface::surface;
 use pb_program::run;
 use rows::page::{Done, NO_ROW, Page};
 use rows::runs::{each, fuses, tell_digest};
@@ -30,6 +32,14 @@ use std::io::{self, BufRead, BufReader};
 fn answer(rt: &HostRuntime, page: &mut Page, topic: &str, call: &[&str]) -> Done {
     match topic {
         "words" => words::answer(rt, page, call),
+        "surface" => {
+            page.put(if surface(page.alloc)? {
+                "true"
+            } else {
+                "false"
+            });
+            Ok(())
+        }
         "run" => {
             page.put_count("status ", &run(rt, call));
             Ok(())

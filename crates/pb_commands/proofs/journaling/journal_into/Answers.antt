@@ -2,7 +2,7 @@ use Rattle.std.proofs.Common.{inl, inr, refl}
 use Rattle.std.proofs.lemmas.Result.{err_from_is_err_and}
 use Rattle.pb_commands.specs.declared.refusal.Stopped.TheVariants as stopped
 use Rattle.pb_commands.specs.Ends.{EndStates, JournalStates, journal_states, states}
-use Rattle.pb_commands.specs.declared.run.Taken.{Taken}
+use Rattle.pb_commands.specs.declared.run.Intake.{Intake}
 use Rattle.pb_commands.proofs.JournalClauses.{headline, journaled, outlives, survives}
 use Rattle.pb_commands.proofs.Taking.{found_so, none_so}
 use Rattle.pb_commands.proofs.journaling.journal_into.Goals as goal
@@ -39,7 +39,7 @@ returns-clause-survives g c =
     let opened = c.in_ok-ledger.ensures in
     let replay = c.replay.ensures in
     let found = found_so stopped.Fault c.replay.result c.map_err.result c.in_ok-map_err.field-0 c.map_err.ensures.cases c.in_ok-map_err.was in
-    let taken : Taken = record { ledger = end.new.ledger; end = end.result } in
+    let taken : Intake = record { ledger = end.new.ledger; end = end.result } in
     let run = journaled c.args.rules c.args.fills e j _ (g.Journal.Sink.state c.replay.new.journal) c.in_ok-ledger.ledger c.replay.new.ledger end.new.ledger end.result opened.0 opened.1 (rw found at replay.ok)
     replay.basis replay.cap end.ensures.ok end.ensures.fault in
     (survives c.args.rules c.args.fills e j taken run, outlives c.args.rules c.args.fills e j taken run)

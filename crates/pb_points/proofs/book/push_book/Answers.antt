@@ -5,7 +5,7 @@ use Rattle.std.proofs.lemmas.List.Kept.{AllPairs-filter}
 use Rattle.std.proofs.lemmas.List.Sorted.{answers_always}
 use Rattle.pb_points.specs.Rows.{IsBelow, frequent, from}
 use Rattle.pb_points.specs.TallyBook.{AddsSome}
-use Rattle.pb_points.proofs.Elements.{filter_both}
+use Rattle.pb_board.proofs.Elements.{filter_both}
 use Rattle.pb_points.proofs.Groups.{IsCut, adds_both, adds_more, adds_nothing, cut_group, keys_equal, keys_rise, so_far_all, so_far_more, so_far_starts}
 use Rattle.pb_points.proofs.book.push_book.Goals as goal
 

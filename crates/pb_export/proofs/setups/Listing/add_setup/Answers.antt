@@ -54,7 +54,7 @@ returns-in_ok-push c = λ words book key_is under known lists.
     let same = noted words book known _ moves _ listed c.note_recent.ensures.moves c.note_recent.ensures.setups lists in
     let w = finds words book c.args.entries.now s c.args.key moves c.add_moves.new.moves.items key_is under (c.in_ok-add_moves.ensures words) in
     subst (λ (xs : List ListedSetup). ListsSetups words book (known ++ s ∷ []) c.add_moves.new.moves.items xs) (sym c.in_ok-push.ensures.items)
-    (one_listed words book known moves listed same s c.turn-turn.ensures.rules w.found c.add_moves.new.moves.items _ w.is w.has c.fields_of-fields.ensures (omega (arith, c.len.ensures, c.in_ok-first.ensures)) (omega (arith, c.len-2.ensures, c.in_ok-end.ensures)) c.if-first-end.true)
+    (one_listed words book known moves listed same s c.turn-turn.ensures.rules w.found c.add_moves.new.moves.items _ w.is w.has c.fields_of-fields.ensures (omega (arith, c.len-first.ensures)) (omega (arith, c.len-end.ensures)) c.if-first-end.true)
 
 pub returns-else-first-end : goal.returns-else-first-end
 returns-else-first-end c = λ words book key_is under known lists.
@@ -64,5 +64,5 @@ returns-else-first-end c = λ words book key_is under known lists.
     let same = noted words book known _ moves _ listed c.note_recent.ensures.moves c.note_recent.ensures.setups lists in
     let new = c.add_moves.new.moves.items in
     let w = finds words book c.args.entries.now s c.args.key moves new key_is under (c.in_ok-add_moves.ensures words) in
-    let empty : w.found ≡ [] = none w.found (omega (arith, c.if-first-end.false, c.len.ensures, c.in_ok-first.ensures, c.len-2.ensures, c.in_ok-end.ensures, ap length w.is, length-append moves w.found)) in
+    let empty : w.found ≡ [] = none w.found (omega (arith, c.if-first-end.false, c.len-first.ensures, c.len-end.ensures, ap length w.is, length-append moves w.found)) in
     no_move words book known moves listed same s c.turn-turn.ensures.rules new (w.is ∙ ap (λ xs. moves ++ xs) empty) (subst (Found book words s) empty w.has)
