@@ -109,7 +109,7 @@ class Library:
         return passed and passed[0] + place[3]
 
     def find(self, module, name):
-        """Where a word is declared that is imported so, and the first line of that."""
+        """Where a word is declared that is imported so, and its first line with its comment."""
         declared, file = declared_of(self.root, module), self.file(module)
         if declared:
             return declared
@@ -117,11 +117,13 @@ class Library:
             passed = self.passed_on(module)
             return self.find(passed, name) if passed else (module, name)
         source = file.read_text(encoding="utf-8")
-        found = re.search(rf"^ *{BEFORE}((?:\w+ )*{re.escape(name)} .*: .*)", source, re.M)
+        line = rf"((?:^ *-- .*\n)*)^ *{BEFORE}((?:\w+ )*{re.escape(name)} .*: .*)"
+        found = re.search(line, source, re.M)
         passed = imports(source).get(name)
         if passed and not found:
             return self.find(*passed)
-        return file, found[1] if found else name
+        comment = re.sub(r"(?m)^ *(.*)\n", r"\n        \1", found[1]) if found else ""
+        return file, found[2] + comment if found else name
 
 
 def print_definitions(specs, files):
@@ -147,7 +149,10 @@ def print_types(specs, imported):
         print(f"==== {path}", *names.values(), "", sep="\n\n", end="")
     texts = "".join(it for names in types.values() for it in names.values())
     fields = set(re.findall(r"(?:: |[(<])(\w+)", re.sub("///.*", "", texts)))
-    model = r"^impl\S* Model for (\w+)(?:(?!^\}).)*?ghost Value = \{ (.*?) \};"
+    # (what a type has as a parameter is no type of the code)
+    for names in re.findall(r"struct \w+<([^>]*)>", texts):
+        fields -= {*names.split(", ")}
+    model = r"^impl(?:<[^>]*>)? Model for (\w+)(?:(?!^\}).)*?ghost Value = \{ (.*?) \};"
     print("==== What definitions see in the place of types of fields\n")
     for path in sorted(specs.crates.glob("*/src/*.rt")):
         for name, value in re.findall(model, path.read_text(encoding="utf-8"), re.M | re.S):

@@ -2,13 +2,18 @@
 # Tries scripts/bodies.py, the judge of wrong bodies, on made-up crates and by a prover that only
 # repeats what the real one said of one of them, and says of the other what its edits tell: no body
 # passes that is proved, that can't be read, or whose function isn't proved for another reason than
-# the body's own. It tries scripts/named_mistakes.sh on a made-up list too, and scripts/check.sh
-# over a program that answers nothing. The first check that doesn't hold ends it.
+# the body's own. It tries scripts/named_mistakes.sh on a made-up list too, scripts/test.sh and
+# scripts/build.sh over what fails, and scripts/check.sh, scripts/unproved.sh and tests/rows.sh over
+# a program that answers nothing. The first check that doesn't hold ends it.
 # Usage: tests/bodies.sh (at the top of the repository; it needs no toolchain).
 # shellcheck disable=SC2016 # backquotes are what the prover and the list have
 set -eu
 . tests/lib/harness.sh
 top=$PWD
+# What no check can see that rests on it: where something doesn't hold, that ends a check.
+for judge in 'holds false' 'check none false' 'check none holds false'; do
+    if ($judge) > /dev/null; then echo "FAILED: $judge" && exit 1; fi
+done
 
 # The toolchain's command, how it reads crates, and its prover. It reports on each function that it
 # is asked for by what stands in the copy that it is run in. Of the crate `more` an edit's text says
@@ -117,6 +122,7 @@ case $1 in
     doc) echo "$kit/START-HERE.md" ;;
     # The last word is a folder, where the words of a program are that is to be built and run.
     try) for word; do :; done && exec sh "$kit/program" "$(tail -n 1 "$word/waits.args")" ;;
+    ci) exit 1 ;;
 esac
 ==== kit/program
 #!/bin/sh
@@ -426,6 +432,11 @@ imported() {
         'new:     least(a, 2) // fails more::second returns'
     holds judges 0 '2 passed, 0 failed'
     holds test "$runs" -eq 1
+    # Nor is what a function says tried beside others.
+    more second-same 'file: src/more.rt' 'old:     least_of_three(a, 1, 2)' "$same"
+    more first-renamed 'file: src/more.rt' 'old: pub fn first(a: u32)' \
+        'new: pub fn first(b: u32) /* fails more::first returns fails more::second returns */'
+    passes 1 second-same
 }
 
 # The methods of a trait have the module of their file in their names, wherever their type stands.
@@ -522,7 +533,7 @@ list() {
     two='second: `crates/tiny/must-fail/two.edit`'
     holds named 0 "$one" "$two"
     holds named 1 "$one"
-    holds named 1 "$one" "$two" "$two"
+    holds named 1 "$two" "$one" "$two"
     holds named 1 "$one" "$two" 'third: none'
     holds named 1 "$one" "$two" 'third: `crates/tiny/must-fail/three.edit`'
     holds named 1
@@ -537,7 +548,7 @@ list() {
 # such a program, and ends so
 checks_nothing() {
     status=0
-    (cd "$work/whole" && env PATH="$work/path:$PATH" sh scripts/check.sh "$@") \
+    (cd "$work/whole" && env PATH="$work/path:$PATH" TMPDIR="$work" sh scripts/check.sh "$@") \
         > "$work/said" 2>&1 || status=$?
     is_status 1 || return 1
     for part; do
@@ -555,6 +566,39 @@ failing() {
     cp -R "$top/scripts" "$top/tests" "$top/examples" "$work/whole"
     holds checks_nothing replies
     holds checks_nothing files messages demo replies locks order
+    holds ends 1 env PROGRAM=/bin/true TMPDIR="$work" ROWS=record sh tests/rows.sh > "$work/said"
+}
+
+# The gate ends where a part fails, and counts what has.
+gate() {
+    mkdir -p "$work/gate/scripts/lib"
+    cp scripts/test.sh "$work/gate/scripts"
+    cp scripts/lib/total.sh "$work/gate/scripts/lib"
+    echo 'echo "3 passed, 2 failed" && exit 1' > "$work/gate/scripts/named_mistakes.sh"
+    cd "$work/gate"
+    holds ends 1 sh scripts/test.sh > "$work/said" 2>&1
+    holds test "$(tail -n 2 "$work/said" | paste -sd ' ')" = 'FAILED: named 3 passed, 2 failed'
+}
+
+# A crate that isn't proved is told so.
+unproved() {
+    cp scripts/build.sh "$work/scripts"
+    cd "$work"
+    : > HANDLES
+    holds ends 1 env PATH="$work/path:$PATH" sh scripts/build.sh tiny > said 2>&1
+    holds grep -qx 'It failed.' said
+}
+
+# A program that is older than a source isn't shown, nor installed one that doesn't answer.
+stale() {
+    cp Makefile "$work/whole"
+    cd "$work/whole"
+    mkdir build/unproved
+    printf '#!/bin/sh\n: > %s/shown\n' "$work" > build/pbook
+    chmod 755 build/pbook
+    touch -d yesterday build/pbook
+    holds not env -u PROGRAM PATH="$work/path:$PATH" sh examples/demo.sh > "$work/said" 2>&1
+    holds not test -e "$work/shown" -o -e build/unproved/pbook
 }
 
 check 'wrong bodies are refused at goals of their own functions' refused
@@ -569,4 +613,7 @@ check 'a goal that only the wrong body has refuses none' own_goals
 check 'definitions are judged by laws of their own' judged
 check 'each mistake that nobody may make has its edit' list
 check 'a program that does nothing passes no part of make check' failing
+check 'the gate ends where a part fails' gate
+check 'a crate that is not proved ends the build' unproved
+check 'a stale program is not shown' stale
 finish

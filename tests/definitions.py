@@ -195,7 +195,7 @@ def fen_by_stockfish(f: Record) -> bytes:
     """The record as Stockfish tells it: no pawn beside, no en passant square."""
     s = f.setup
     if s.ep is not None and not chess.has_capturer(
-            s.board, s.turn, chess.beyond(s.turn, s.ep)):
+            s.board, s.turn, chess.double_stepped(s.turn, s.ep)):
         s = s._replace(ep=None)
     return chess.fen_text(f._replace(setup=s))
 

@@ -135,6 +135,7 @@ no_pgn() {
     done
     holds tells_of 1 "pgn_to_lines.sh: a name has at most 53 bytes: $long" \
         "$shared/pgn_to_lines.sh" "$long" "$shared/games.pgn"
+    holds ends 0 "$shared/pgn_to_lines.sh" "${long#0}" "$shared/games.pgn" > printed 2> told
     # What unpacks a file may not be there.
     mkdir few
     for tool in awk cat dirname mktemp pgn-extract rm; do
@@ -235,6 +236,7 @@ client_answers() {
 }
 
 client_faults() {
+    client 1 'usage: client.py TABLE BOOK JOURNAL FILE..'
     client 3 "pbook: $journal: no such file (an empty one begins a journal)" "$work/games"
     : > "$journal"
     client 1 'client.py: [Errno 2] No such file or directory: '"'no.txt'" no.txt
@@ -429,6 +431,8 @@ nights() {
     mv srv ./-srv
     holds ends 0 in_place "$shared/nightly" -srv
     mv ./-srv srv
+    # The script may be named from its own folder.
+    holds ends 0 in_shared env PATH=/usr/bin:/bin ./nightly "$place/srv"
     # A night may have no games.
     : > srv/tonight.txt
     night 0 ''
@@ -491,7 +495,8 @@ bad_nights() {
     cp "$work/games" srv/tonight.txt
     night 0 ''
     cp srv/replies before
-    failed="nightly: pbook ended with status 3; $place/srv/replies.failed has its answers"
+    failed="$place/srv/replies.failed has its answers, which may not hold"
+    failed="nightly: pbook ended with status 3; $failed"
     # Another run holds the ledger.
     exec 7< srv/games.ledger
     flock -n 7
@@ -505,15 +510,17 @@ $failed"
     night 3 "pbook: games.ledger: no such file (an empty one begins a ledger)
 $failed"
     holds is_new srv/book.bin
-    # Another night has the folder.
+    # Another night has the folder, and its hidden files stay.
     : > srv/games.ledger
     exec 7> srv/.nightly.lock
     flock -n 7
     night 1 "nightly: another night has $place/srv, or flock is not installed"
+    : > srv/.replies.new
+    holds ends 1 "$shared/nightly" srv 2> told
+    holds test -e srv/.replies.new
     exec 7<&-
     holds cmp srv/replies before
     # A good night leaves no answers of a bad one, nor hidden files.
-    : > srv/.replies.old
     night 0 ''
     holds cmp srv/replies before
     holds test ! -e srv/replies.failed

@@ -71,7 +71,7 @@ old_book() {
 # into it, ends the run, which has no end of it to read. The ledger is kept though the book isn't.
 streams() {
     with_ledger
-    holds collects 0 /dev/null
+    for input in "$work/games" /dev/null; do holds collects 0 /dev/null "$input"; done
     holds collects 3 /dev/full "$work/games" --ledger "$ledger"
     holds not says 'fault open'
     holds test -c /dev/null -a -c /dev/full
@@ -298,7 +298,7 @@ unrenamed() {
     cp first whole
     holds collects 0 "$work/made" "$work/games" --ledger "$place/whole"
     failing "$place/.games.ledger.pbook" rename EIO
-    holds collects 3 "$book" "$work/games" --ledger "$ledger"
+    holds collects 3 "$book" "$work/games" -q --ledger "$ledger"
     holds stays_drafted "$ledger" first whole
     holds is_old "$book"
     runner=

@@ -325,6 +325,22 @@ book.bin .kept.pbook games $work/replies --ledger kept table .kept.pbook
 END
         rm .book.bin.pbook .kept.pbook
     done
+    # So it is of the draft of what a link leads to.
+    mkdir far
+    cp book.bin far/kept
+    cp table far/.kept.pbook
+    ln -s far/kept link
+    holds one_file '.* and .* are .*' games "$work/replies" far/.kept.pbook link
+}
+
+# Files of two disks that have one number are different ones.
+other_disks() {
+    for disk in one two; do mkdir "$disk" && mount -t tmpfs tmpfs "$place/$disk"; done
+    cp "$table" one/table
+    cp "$work/old" two/book.bin
+    holds has_node "$(node one/table)" two/book.bin
+    table=one/table
+    holds collects 0 two/book.bin
 }
 
 # is_closed STREAM WORD..: a run with these words, for which this stream is closed, ends with status
@@ -485,8 +501,19 @@ changed_ledgers() {
     holds end 3
     holds is_changed games.ledger
     holds test "$(cat games.ledger.changed)" = precious
+    holds grep -q '^pbook: .*games\.ledger\.changed: ' told
     holds not test -e book.bin
     cd ..
+    # It lies beside the file that a link leads to.
+    mkdir far
+    : > far/kept
+    ln -s far/kept link
+    begin "$PROGRAM" collect -q --ledger link "$table" book.bin
+    holds say_ok 1
+    printf 'torn' > far/kept
+    holds end 0
+    holds test "$(cat far/kept.changed)" = torn
+    holds grep -q '^pbook: link: .*far/kept\.changed' told
     # One that is gone is made, and what only touches it harms nobody.
     for how in removed renamed; do
         changed_file "$how" --ledger games.ledger
@@ -577,6 +604,7 @@ claimed_by_another() {
     choose true '' held_files held_new_ledger one_book left_claim read_meanwhile \
         book_is_held different_files different_drafts closed_streams changed_journals \
         changed_ledgers lost_claims claimed_by_another
+    choose can_mount 'nothing can be mounted' other_disks
     choose can_trace 'strace is wanted' replaced_when_opened failed_locks added_meanwhile
 }
 try_all "$@"

@@ -93,6 +93,7 @@ table.link table.txt table.link table.txt
 table.txt table.link --ledger table.link table.txt book.bin
 kept kept.link --ledger kept table.txt kept.link
 table.txt table.link --journal kept table.txt table.link
+table.txt table.link -q table.txt table.link
 END
     holds cmp table.txt "$work/table"
 }
@@ -120,6 +121,8 @@ full_output() {
     holds tells_of 3 "$full" fen "$start"
     input=lines
     each_tells 3 "$full" '' epd 'lookup table.txt book.bin'
+    input=games
+    holds tells_of 3 "$full" collect --journal book.bin table.txt new.bin
     holds is_old book.bin
 }
 
@@ -455,9 +458,12 @@ with_crs|looks like PGN, not like submissions
 table.txt|looks like a table, not like submissions
 another_book|looks like a book, not like submissions
 END
-    # More digits are no line of a table.
+    # More digits are no line of a table, and an id may be put before its TAB.
     echo 0123456789abcdef0 > digits
     holds over digits 0 "$empty" collect table.txt book.bin
+    mkfifo slow
+    { printf 0123456789abcdef && sleep 0.3 && sed -n '1s/^[^\t]*//p' games; } > slow &
+    holds over slow 0 '' collect table.txt book.bin
 }
 
 # The last line of submissions is taken without an LF, and told of.
@@ -621,6 +627,11 @@ $file: it holds no game$text" games "$file"
         holds tells_of 1 "$skipped
 $file: it holds no game$text" games games "$file" games
         holds test "$(wc -l < "$work/replies")" -eq 18
+        # Each such file is told.
+        holds tells_of 1 "$skipped
+$file: it holds no game$text
+$skipped
+$file: it holds no game$text" games "$file" "$file"
     done << 'END'
 pgn|; it looks like PGN
 packed|; it is packed by gzip; zcat unpacks it
@@ -641,6 +652,7 @@ games_to_themselves() {
     cp games before
     runner=to_itself
     holds over /dev/null 3 'games and /dev/stdout are one file' games games
+    holds tells_of 3 'games and /dev/stdout are one file' games before games
     holds cmp games before
 }
 
@@ -721,6 +733,10 @@ terminal() {
     holds in_terminal "pbook collect -q table.txt book.bin < '$work/games' > replies"
     holds test ! -s typescript
     holds is_new book.bin
+    # What shows how far it was goes where it stops.
+    holds in_terminal "pbook collect table.txt none/book.bin < games > replies || true"
+    holds grep -q 'making the book' typescript
+    holds not grep -q 'making the book$' typescript
 }
 
 # The same line is told anywhere with --summary, alone with -q, and behind all else without.
@@ -883,6 +899,9 @@ terminal_progress() {
     # A line that is refused is counted.
     holds in_terminal "{ $slowly; echo 'no game'; } | pbook check > lines || true"
     holds grep -qx 'pbook: 7 lines: 6 ok, 1 refused (1 shape)' shown
+    # A reader of the export that has gone leaves none of it behind.
+    holds in_terminal "{ sleep 1; pbook export table.txt < '$work/games'; } | : || true"
+    holds test "$(tail -c 4 typescript)" = "$(printf '\r\033[K')"
     # To a file goes none of it.
     holds in_terminal "{ $slowly; } | pbook collect table.txt book.bin > replies 2> told"
     holds test ! -s told
@@ -902,6 +921,10 @@ terminal_shared() {
     # How far the run is has to be drawn again below each. Else it is drawn from time to time.
     holds in_terminal "head -n 1 games | pbook check"
     holds grep -qx 'pbook: 1 line, 1 game, 0 refused' shown
+    # It is drawn before the run waits for more.
+    drawn="timeout $patience sh -c 'until grep -q \"1 line, 1 game\" typescript; do sleep 0.1; done'"
+    holds in_terminal "{ head -n 1 games; $drawn && : > drawn; } | pbook check"
+    holds test -e drawn
     holds in_terminal "head -n 1 games | pbook check > lines"
     holds not grep -qx 'pbook: 1 line, 1 game, 0 refused' shown
 }

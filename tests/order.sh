@@ -171,14 +171,20 @@ END
     holds cmp whole games.journal
 }
 
-# The journal's folder is synced where that is another one than the run's.
+# The journal's folder is synced where that is another one than the run's, and than a link's to it.
 journal_elsewhere() {
     mkdir far
-    : > far/games.journal
+    ln -s far/games.journal link
     games_of 1 > games
-    holds ran 0 traced calls \
-        "$PROGRAM" collect --journal far/games.journal --sync "$table" books/book.bin < games
-    holds in_order calls '^(fsync|write|fdatasync) (far|replies|\.)' << END
+    for name in far/games.journal link; do
+        : > far/games.journal
+        holds ran 0 traced calls \
+            "$PROGRAM" collect --journal "$name" --sync "$table" books/book.bin < games
+        holds far_in_order
+    done
+}
+far_in_order() {
+    in_order calls '^(fsync|write|fdatasync) (far|replies|\.)' << END
 fsync far/games.journal
 fsync far
 write far/games.journal $(bytes_of 1)

@@ -59,8 +59,8 @@ answers() {
 if [ -n "${ROWS:-}" ]; then
     check "rows of $ROWS" answers "$ROWS"
 else
-    for topic in record epd moves table book stream game points ledger words command; do
-        check "$topic" answers "^[^$tab]*$tab$topic$tab" "$slow"
+    for topic in record epd moves table book stream game points ledger words command surface; do
+        check "$topic" answers "^[^$tab]*$tab$topic($tab|\$)" "$slow"
     done
 fi
 finish

@@ -123,7 +123,7 @@ def HasNoEdgePawn(board: Board) -> bool:
                for q in squares_of(board, piece_of(side, Pawn)))
 
 
-def beyond(side: str, q: int) -> int:
+def double_stepped(side: str, q: int) -> int:
     return monus(q, 8) if side == White else q + 8
 
 
@@ -133,7 +133,7 @@ def OnEnPassantRank(turn: str, q: int) -> bool:
 
 def EnPassantHolds(board: Board, turn: str, ep: Optional[int]) -> bool:
     return ep is None or (OnEnPassantRank(turn, ep) and IsEmpty(board, ep)
-                          and Holds(board, beyond(turn, ep), piece_of(opponent(turn), Pawn)))
+                          and Holds(board, double_stepped(turn, ep), piece_of(opponent(turn), Pawn)))
 
 
 def IsSetup(p: Position) -> bool:
@@ -531,7 +531,7 @@ def has_capturer(board: Board, turn: str, q: int) -> bool:
 
 def en_passant_offsets(s: Position) -> tuple[int, ...]:
     return () if s.ep is None else only_if(
-        has_capturer(s.board, s.turn, beyond(s.turn, s.ep)), 772 + file(s.ep))
+        has_capturer(s.board, s.turn, double_stepped(s.turn, s.ep)), 772 + file(s.ep))
 
 
 def offsets(s: Position) -> tuple[int, ...]:
@@ -544,8 +544,8 @@ def key(randoms: Sequence[int], s: Position) -> int:
 
 
 def HasCapturer(s: Position, square: int) -> bool:
-    return any(rank(capturer) == rank(beyond(s.turn, square))
-               and files_apart(capturer, beyond(s.turn, square)) == 1
+    return any(rank(capturer) == rank(double_stepped(s.turn, square))
+               and files_apart(capturer, double_stepped(s.turn, square)) == 1
                for capturer in squares_of(s.board, piece_of(s.turn, Pawn)))
 
 

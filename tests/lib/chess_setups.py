@@ -54,7 +54,7 @@ def is_stepped(s: Position) -> bool:
     back over empty squares to a setup that is playable."""
     if s.ep is None:
         return True
-    landed = chess.beyond(s.turn, s.ep)
+    landed = chess.double_stepped(s.turn, s.ep)
     begun = 2 * s.ep - landed
     back = chess.slice_set(chess.slice_set(s.board, begun, s.board[landed]), landed, None)
     return s.board[begun] is None and chess.IsPlayable(
@@ -196,7 +196,7 @@ def unruly(chance: random.Random, f: Record) -> bytes:
         how = chance.randrange(4)
         q = chance.choice((*range(8), *range(56, 64))) if how < 2 else chance.choice(SQUARES)
         if how == 3 and s.ep is not None:
-            q = chance.choice((s.ep, chess.beyond(s.turn, s.ep)))
+            q = chance.choice((s.ep, chess.double_stepped(s.turn, s.ep)))
         kind = Pawn if how < 2 else chance.choice((King, Pawn))
         board[q] = piece_of(chance.choice(COLOURS), kind)
         if chance.random() < 0.3:

@@ -69,7 +69,7 @@ def only_with_capturer(right: Any) -> Any:
     def after(s: Position, m: Moved) -> Position:
         t = right(s, m)
         has = t.ep is not None and chess.has_capturer(
-            t.board, t.turn, chess.beyond(t.turn, t.ep))
+            t.board, t.turn, chess.double_stepped(t.turn, t.ep))
         return t._replace(ep=t.ep if has else None)
     return after
 
@@ -209,7 +209,7 @@ WRONG = (
     Wrong("a pawn anywhere on the rank captures", "HasCapturer",
           lambda right: lambda s, q: any(
               chess.Holds(s.board, a, chess.pawn_of(s.turn)) for a in chess.SQUARES
-              if chess.rank(a) == chess.rank(chess.beyond(s.turn, q))), "keys"),
+              if chess.rank(a) == chess.rank(chess.double_stepped(s.turn, q))), "keys"),
     Wrong("a key says nothing of its last bit", "bit_at",
           lambda right: lambda n, bit: right(n, bit) if bit < 63 else 0, "keys"),
     # ---- records and their texts

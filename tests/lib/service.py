@@ -32,7 +32,8 @@ class Service:
 
     def __init__(self, at="127.0.0.1:0", table=TABLE, program=PBOOK, by=()):
         self.process = subprocess.Popen(
-            [*by, SERVE, "--at", at, table, BOOK, JOURNAL, "-q"], stderr=subprocess.PIPE,
+            [*by, SERVE, *(["--at", at] if at else []), table, BOOK, JOURNAL, "-q"],
+            stderr=subprocess.PIPE,
             start_new_session=True, env={**os.environ, "PBOOK": program})
         Service.all.append(self)
         self.said = self.process.stderr.readline()
@@ -121,6 +122,11 @@ def ends():
             service.ends(0)
             assert worker.answers.read() == b"" and BOOK.read_bytes() == book
     journal = JOURNAL.read_bytes()
+    # Where none is named, the address is one that no other machine reaches, also of a port in use.
+    service = Service(at=None)
+    assert b" 127.0.0.1:7464" in service.said, service.said
+    service.process.terminate()
+    service.process.wait(PATIENCE)
     # The port is taken: no second collector is started, and the first one goes on.
     service = Service()
     second = Service("{}:{}".format(*service.address))
