@@ -74,5 +74,5 @@ check 'what the program answers is what the definitions say' passes
 check 'another clock after moves is seen' is_seen fen 's/ 1$/ 2/' plays
 check 'another refusal is seen' is_seen check 's/ start$/ fen/' starts
 check 'another move of a setup is seen' is_seen lookup '2s/$/ a1a2 1/' setups
-check 'a lost position is seen' is_seen export '3d' 'books, of [0-9]* games'
+check 'a lost position is seen' is_seen export '3d' 'books, of [0-9,]* games'
 finish
