@@ -566,7 +566,23 @@ failing() {
     cp -R "$top/scripts" "$top/tests" "$top/examples" "$work/whole"
     holds checks_nothing replies
     holds checks_nothing files messages demo replies locks order
-    holds ends 1 env PROGRAM=/bin/true TMPDIR="$work" ROWS=record sh tests/rows.sh > "$work/said"
+}
+
+# rows STATUS COMMAND: whether tests/rows.sh ends so over a program of this command
+rows() {
+    printf '#!/bin/sh\n%s\n' "$2" > "$work/answering"
+    chmod 755 "$work/answering"
+    ends "$1" env PROGRAM="$work/answering" TMPDIR="$work" ROWS="^${row}[[:blank:]]" \
+        sh tests/rows.sh > "$work/said"
+}
+
+# Rows that get no answer, or another status behind it, don't pass.
+answers() {
+    row=$(grep -m 1 '^[a-z]' crates/worked_examples/data/rows.txt | cut -f 1)
+    answer="grep '^$row: ' '$top/crates/worked_examples/stdout'"
+    holds rows 0 "$answer"
+    holds rows 1 "$answer; exit 3"
+    holds rows 1 :
 }
 
 # The gate ends where a part fails, and counts what has.
@@ -613,6 +629,7 @@ check 'a goal that only the wrong body has refuses none' own_goals
 check 'definitions are judged by laws of their own' judged
 check 'each mistake that nobody may make has its edit' list
 check 'a program that does nothing passes no part of make check' failing
+check 'a row that is not answered does not pass' answers
 check 'the gate ends where a part fails' gate
 check 'a crate that is not proved ends the build' unproved
 check 'a stale program is not shown' stale

@@ -421,8 +421,11 @@ nights() {
     night 0 ''
     holds test "$(wc -l < srv/replies)" -eq 150
     tail -n +100 "$work/games" > srv/tonight.txt
+    before=$(node srv/replies)
     night 0 ''
     holds is_new srv/book.bin
+    # A kill leaves old answers or new ones.
+    holds not has_node "$before" srv/replies
     holds test "$(wc -l < srv/replies)" -eq "$(wc -l < srv/tonight.txt)"
     # Others may look at the answers, as at any new file.
     holds has_mode 644 srv/replies

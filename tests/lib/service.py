@@ -184,7 +184,11 @@ def limits():
     assert len(JOURNAL.read_bytes().split(b"\n")) == 6
     # Workers beyond the files that it may open wait until others have gone.
     service = Service(by=("sh", "-c", 'ulimit -n 16 && exec "$@"', "sh"))
-    for worker in [service.connect() for _ in range(30)]:
+    workers = [service.connect() for _ in range(30)]
+    while len(os.listdir(f"/proc/{service.process.pid}/fd")) < 15:
+        time.sleep(0.1)
+    time.sleep(0.2)
+    for worker in workers:
         assert worker.ask(LINES[0]).startswith(b"ok ")
         worker.cut(False)
     service.process.terminate()
