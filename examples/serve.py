@@ -87,6 +87,9 @@ def main():
     signal.pthread_sigmask(signal.SIG_BLOCK, SIGNALS)
     try:
         host, _, port = at.rpartition(":")
+        if not host:
+            # It would be every address of this machine.
+            raise ValueError("--at wants HOST:PORT")
         with socket.create_server((host, int(port)), backlog=128) as door:
             with Collector(*names, *options, program=os.environ.get("PBOOK", "pbook")) as collector:
                 # At once, as the collector may write there too.

@@ -9,6 +9,7 @@ to=${1:-build}
 [ -x "$PROGRAM" ] ||
     { echo "dist: no program stands at $PROGRAM; make proves and builds build/pbook"; exit 1; }
 version=$({ "$PROGRAM" --version || :; } | cut -d' ' -f2)
+[ -n "$version" ] || { echo "dist: $PROGRAM tells no version"; exit 1; }
 name=pbook-$version-x86_64-linux
 mkdir -p "$to"
 room=$(mktemp -d)

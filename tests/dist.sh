@@ -235,6 +235,8 @@ no_program() {
     holds test ! -e "$work/nothing"
     PROGRAM=$work/none holds says_only_why sh scripts/dist.sh "$work/nothing"
     holds grep -q "^dist: no program stands at $work/none" "$work/why"
+    echo '#!/bin/sh' > "$work/silent" && chmod 755 "$work/silent"
+    PROGRAM=$work/silent holds says_only_why sh scripts/dist.sh "$work/nothing"
     holds test ! -e "$work/nothing"
 }
 

@@ -127,6 +127,11 @@ def ends():
     assert b" 127.0.0.1:7464" in service.said, service.said
     service.process.terminate()
     service.process.wait(PATIENCE)
+    # One without a host would be every address of the machine.
+    for at in ("7464", ":7464"):
+        service = Service(at=at)
+        assert service.said == f"serve.py: {at}: --at wants HOST:PORT\n".encode(), service.said
+        service.ends(1)
     # The port is taken: no second collector is started, and the first one goes on.
     service = Service()
     second = Service("{}:{}".format(*service.address))
