@@ -654,6 +654,10 @@ games_to_themselves() {
     holds over /dev/null 3 'games and /dev/stdout are one file' games games
     holds tells_of 3 'games and /dev/stdout are one file' games before games
     holds cmp games before
+    for words in check 'collect table.txt new.bin' 'lookup table.txt book.bin' epd; do
+        holds over games 3 '/dev/stdin and /dev/stdout are one file' $words
+        holds cmp games before
+    done
 }
 
 # Faults are told with -q too.
@@ -927,6 +931,11 @@ terminal_shared() {
     holds test -e drawn
     holds in_terminal "head -n 1 games | pbook check > lines"
     holds not grep -qx 'pbook: 1 line, 1 game, 0 refused' shown
+    # Nor does a line of an export stand behind it.
+    holds in_terminal "pbook export table.txt < games"
+    grep ' bkm ' shown > seen
+    "$PROGRAM" export -q table.txt < games > due
+    holds cmp due seen
 }
 
 # A line that is typed isn't written over by a count.

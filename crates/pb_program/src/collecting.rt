@@ -18,7 +18,7 @@ use std::cell::RefCell;
 use std::fs;
 
 /// Where the file of standard input is found.
-const INPUT: &str = "/dev/stdin";
+pub(crate) const INPUT: &str = "/dev/stdin";
 
 /// Where that of standard output is. Replies may be followed by a book there.
 pub(crate) const OUTPUT: &str = "/dev/stdout";
@@ -50,7 +50,7 @@ pub(crate) fn collect<'a>(
     let mut ends = Ends {
         table: open(messages, order.table)?,
         lines: FromRead::new(Submissions {
-            input: input(messages),
+            input: input(messages)?,
             replies: Replies::new(&output),
             progress: &progress,
         }),

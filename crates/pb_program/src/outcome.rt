@@ -55,11 +55,11 @@ fn tell_file<E: Display>(messages: Messages<'_>, due: Looks, name: &str, why: &E
 
 /// Answers whether a file that gave no game may hold some, and tells where it can't.
 pub(crate) fn may_hold_games(messages: Messages<'_>, name: &str) -> bool {
-    let may = matches!(looks_of_file(messages.rt, name), None | Some(Looks::Games));
-    if !may {
-        tell_file(messages, Looks::Games, name, &"it holds no game");
-    }
-    may
+    matches!(looks_of_file(messages.rt, name), None | Some(Looks::Games))
+        || {
+            tell_file(messages, Looks::Games, name, &"it holds no game");
+            false
+        }
 }
 
 /// Makes sure that no book takes the place of games, as where `--ledger` was left out, and warns
