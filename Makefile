@@ -15,9 +15,8 @@ UNPROVED := build/unproved/pbook
 INSTALLED := crates/worked_examples/data/installed
 
 # What is put in share/pbook: files for users' own games, to be read and to be run.
-SHARED_FILES := $(addprefix examples/,games.pgn pbook.service submissions.awk)
-SHARED_SCRIPTS := $(addprefix examples/,client.py serve.py nightly pgn_to_lines.sh \
-    table_from_polyglot.sh)
+SHARED_FILES := examples/games.pgn $(addprefix tools/,pbook.service submissions.awk)
+SHARED_SCRIPTS := $(addprefix tools/,client.py serve.py nightly pgn_to_lines table_from_polyglot)
 
 # Ends a goal that needs the toolchain where that isn't there.
 WANTS_TOOLCHAIN = command -v rt > /dev/null || { \
@@ -159,7 +158,7 @@ test-replies: build
 test-completions:
 	@sh tests/completions.sh
 
-# Runs the scripts of examples/ for users, and what they do at faults. KILLS=number kills so many
+# Runs the scripts of tools/, and what they do at faults. KILLS=number kills so many
 # nights and services.
 test-examples: $(PROGRAM)
 	@sh tests/examples.sh

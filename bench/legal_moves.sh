@@ -24,7 +24,7 @@ lines $((count / 60 + 2)) | awk -F'\t' -v left="$count" 'left > 0 {
     left -= plies
     print $4
 }' | split -a 4 -l 1000 - "$work/batch."
-table=$(sh examples/table_from_polyglot.sh | awk '{ printf "%s{lf}", $0 }')
+table=$(sh tools/table_from_polyglot | awk '{ printf "%s{lf}", $0 }')
 
 # plies: a line for each ply of a batch, up to one that pgn-extract refuses: the FEN before it, the
 # move, the FEN after it, the key

@@ -20,10 +20,10 @@ top=$room/$name
 make -s install PROGRAM="$PROGRAM" DESTDIR="$top" PREFIX=
 install -m 644 README.md CHANGELOG.md "$top"
 install -D -m 644 -t "$top/docs" docs/*.md docs/*.svg
-cd examples
-install -D -m 644 -t "$top/examples" games.* table.txt book.bin pbook.service submissions.awk
-install -m 755 -t "$top/examples" table_from_polyglot.sh pgn_to_lines.sh workers.sh ./*.py nightly
-cd ..
+install -D -m 644 -t "$top/examples" examples/games.* examples/table.txt examples/book.bin
+install -m 755 -t "$top/examples" examples/workers.sh
+install -d "$top/tools"
+cp -p tools/* "$top/tools"
 
 # A link to a file or folder of the source, which isn't packed, becomes its text.
 for text in README.md CHANGELOG.md docs/*.md; do

@@ -117,18 +117,18 @@ refuses() {
 
 # submissions: submissions.awk makes the fields of examples/games.txt but for the ids, and counts
 submissions() {
-    printed_games | awk -v worker=w -f examples/submissions.awk > "$work/lines"
+    printed_games | awk -v worker=w -f tools/submissions.awk > "$work/lines"
     cut -f 2- examples/games.txt > "$work/due"
     cut -f 2- "$work/lines" > "$work/found"
     holds cmp "$work/due" "$work/found"
     holds test "$(tail -n 1 "$work/lines" | cut -f 1)" = "w-$(wc -l < examples/games.txt)"
     printf '[FEN "4k3/7P/8/8/8/8/8/4K3 w - - 0 1"]\n\nh7h8Q e8d7 1-0\n\n1/2-1/2\n' |
-        awk -v worker=w -f examples/submissions.awk > "$work/lines"
+        awk -v worker=w -f tools/submissions.awk > "$work/lines"
     printf '%s\t%s\t%s\t%s\n' w-1 1-0 '4k3/7P/8/8/8/8/8/4K3 w - - 0 1' 'h7h8q e8d7' \
         w-2 1/2-1/2 'rnbqkbnr/pppppppp/8/8/8/8/PPPPPPPP/RNBQKBNR w KQkq - 0 1' '' > "$work/due"
     holds cmp "$work/due" "$work/lines"
-    holds refuses awk -v worker=w -f examples/submissions.awk /dev/null
-    holds refuses awk -f examples/submissions.awk /dev/null
+    holds refuses awk -v worker=w -f tools/submissions.awk /dev/null
+    holds refuses awk -f tools/submissions.awk /dev/null
 }
 
 # steps: the commands from PGN to a book, as README has them, are in $work/commands
@@ -208,16 +208,18 @@ figures() {
     while read -r number; do holds grep -qw -e "$number" "$work/found"; done < "$work/due"
 }
 
-# shared: what converts games is packed twice, in examples and where `make install` puts it
+# shared: each of tools/ is packed twice, also where `make install` puts it, and what is to be run
+# may be
 shared() {
-    for file in games.pgn pbook.service submissions.awk client.py serve.py nightly \
-        pgn_to_lines.sh table_from_polyglot.sh; do
-        holds cmp "examples/$file" "share/pbook/$file"
+    for file in tools/*; do
+        holds cmp "$file" "share/pbook/${file#*/}"
+        case $file in
+            *.awk | *.service) holds test ! -x "$file" ;;
+            *) holds test -x "$file" -a -x "share/pbook/${file#*/}" ;;
+        esac
     done
-    for file in examples/*.sh examples/*.py examples/nightly share/pbook/*.sh \
-        share/pbook/*.py share/pbook/nightly; do
-        holds test -x "$file"
-    done
+    holds cmp examples/games.pgn share/pbook/games.pgn
+    holds test -x examples/workers.sh
 }
 
 # says_only_why COMMAND..: whether this command fails, and prints one line that says why, beside
@@ -254,7 +256,7 @@ no_toolchain() {
 table_refused() {
     sed 's/^/0x/' examples/table.txt > "$work/random.c"
     for file in "$work/random.c" README.md missing; do
-        holds refuses sh examples/table_from_polyglot.sh "$file"
+        holds refuses sh tools/table_from_polyglot "$file"
     done
 }
 

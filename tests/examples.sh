@@ -1,6 +1,6 @@
 #!/bin/sh
-# Tries the scripts of examples/ that users run on their own games, as `make install` puts them in
-# place: pgn_to_lines.sh, client.py, serve.py and nightly, and what they do at faults. The first
+# Tries the scripts of tools/, which users run on their own games, as `make install` puts them in
+# place: pgn_to_lines, client.py, serve.py and nightly, and what they do at faults. The first
 # check that doesn't hold ends it. Those that want another program are left out where it is missing.
 # KILLS=number kills so many nights and services, where 12 and 4 are killed else.
 # Usage: PROGRAM=program tests/examples.sh [CHECK..] (at the top of the repository; all checks where
@@ -56,9 +56,9 @@ lines_of_pgn() {
     note "-two.pgn two.pgn$packed"
     awk -F'\t' -v OFS='\t' '{ $1 = "w1-" NR; print }' games > lines
     for two in -two.pgn two.pgn $packed; do
-        holds tells_of 0 "pgn_to_lines.sh: one.pgn: games: 40, left out: 0, cut: 0
-pgn_to_lines.sh: $two: games: 20, left out: 0, cut: 0" \
-            "$shared/pgn_to_lines.sh" w1 one.pgn "$two"
+        holds tells_of 0 "pgn_to_lines: one.pgn: games: 40, left out: 0, cut: 0
+pgn_to_lines: $two: games: 20, left out: 0, cut: 0" \
+            "$shared/pgn_to_lines" w1 one.pgn "$two"
         holds cmp printed lines
     done
     # Lines may end in CR LF, and the games want a name.
@@ -77,9 +77,9 @@ starts_of_pgn() {
         printf '[Result "1-0"]\n[SetUp "1"]\n[FEN "%s"]\n\n1. e4 Kd7 1-0\n\n' "$start" \
             > "start${start##* }.pgn"
     done
-    holds tells_of 0 'pgn_to_lines.sh: start-.pgn: games: 1, left out: 0, cut: 0
-pgn_to_lines.sh: start9.pgn: games: 1, left out: 0, cut: 0' \
-        "$shared/pgn_to_lines.sh" w1 start-.pgn start9.pgn
+    holds tells_of 0 'pgn_to_lines: start-.pgn: games: 1, left out: 0, cut: 0
+pgn_to_lines: start9.pgn: games: 1, left out: 0, cut: 0' \
+        "$shared/pgn_to_lines" w1 start-.pgn start9.pgn
     holds test "$(cut -f 3 printed)" = '4k3/8/8/8/8/8/4P3/4K3 w - - 0 1
 4k3/8/8/8/8/8/4P3/4K3 w - - 3 9'
     holds ends 0 "$PROGRAM" check < printed > replies
@@ -96,8 +96,8 @@ bad_pgn() {
         printf '[Event "4"]\n[Result "1-0"]\n\n1. e4 c5\n\n'
         printf '[Event "5"]\n[Result "*"]\n\n1. c4 e5 *\n'
     } > bad.pgn
-    holds tells_of 0 'pgn_to_lines.sh: bad.pgn: games: 5, left out: 1, cut: 1' \
-        "$shared/pgn_to_lines.sh" w1 bad.pgn
+    holds tells_of 0 'pgn_to_lines: bad.pgn: games: 5, left out: 1, cut: 1' \
+        "$shared/pgn_to_lines" w1 bad.pgn
     {
         printf 'w1-1\t1-0\t%s\te2e4 e7e5 g1f3\n' "$start"
         printf 'w1-2\t0-1\t%s\td2d4 d7d5 c2c4\n' "$start"
@@ -112,8 +112,8 @@ thousand_of_pgn() {
     for event in $(seq 1000); do
         printf '[Event "%s"]\n[Result "1-0"]\n\n1. e4 1-0\n\n' "$event"
     done > thousand.pgn
-    holds tells_of 0 'pgn_to_lines.sh: thousand.pgn: games: 1000, left out: 0, cut: 0' \
-        "$shared/pgn_to_lines.sh" w1 thousand.pgn
+    holds tells_of 0 'pgn_to_lines: thousand.pgn: games: 1000, left out: 0, cut: 0' \
+        "$shared/pgn_to_lines" w1 thousand.pgn
     holds test "$(count '' printed)" -eq 1000
 }
 
@@ -122,20 +122,20 @@ no_pgn() {
     gzip -c "$shared/games.pgn" | head -c 2000 > cut.pgn.gz
     mkdir folder
     for file in "no.pgn can't be read" 'folder is a folder: name the files in it'; do
-        holds tells_of 1 "pgn_to_lines.sh: $file" \
-            "$shared/pgn_to_lines.sh" w1 empty.pgn "${file%% *}"
+        holds tells_of 1 "pgn_to_lines: $file" \
+            "$shared/pgn_to_lines" w1 empty.pgn "${file%% *}"
         holds test ! -s printed
     done
     # Ids have no spaces, and room for their numbers.
     long=$(printf '%054d' 0)
     for name in '' 'my worker' 'LAB\new' "$(printf 'caf\303\251')"; do
         said="a name is of ASCII characters without spaces and backslashes: '$name'"
-        holds tells_of 1 "pgn_to_lines.sh: $said" \
-            "$shared/pgn_to_lines.sh" "$name" "$shared/games.pgn"
+        holds tells_of 1 "pgn_to_lines: $said" \
+            "$shared/pgn_to_lines" "$name" "$shared/games.pgn"
     done
-    holds tells_of 1 "pgn_to_lines.sh: a name has at most 53 bytes: $long" \
-        "$shared/pgn_to_lines.sh" "$long" "$shared/games.pgn"
-    holds ends 0 "$shared/pgn_to_lines.sh" "${long#0}" "$shared/games.pgn" > printed 2> told
+    holds tells_of 1 "pgn_to_lines: a name has at most 53 bytes: $long" \
+        "$shared/pgn_to_lines" "$long" "$shared/games.pgn"
+    holds ends 0 "$shared/pgn_to_lines" "${long#0}" "$shared/games.pgn" > printed 2> told
     # What unpacks a file may not be there.
     mkdir few
     for tool in awk cat dirname mktemp pgn-extract rm; do
@@ -143,35 +143,35 @@ no_pgn() {
     done
     for by in gzip:gz zstd:zst bzip2:bz2 xz:xz; do
         : > "one.pgn.${by#*:}"
-        holds tells_of 1 "pgn_to_lines.sh: one.pgn.${by#*:}: ${by%:*} is not installed" \
-            env PATH="$PWD/few" "$shared/pgn_to_lines.sh" w1 "one.pgn.${by#*:}"
+        holds tells_of 1 "pgn_to_lines: one.pgn.${by#*:}: ${by%:*} is not installed" \
+            env PATH="$PWD/few" "$shared/pgn_to_lines" w1 "one.pgn.${by#*:}"
     done
     rm few/pgn-extract
-    sed 's|:/usr/games||' "$shared/pgn_to_lines.sh" > elsewhere.sh
-    holds tells_of 1 'pgn_to_lines.sh: pgn-extract is not installed' \
+    sed 's|:/usr/games||' "$shared/pgn_to_lines" > elsewhere.sh
+    holds tells_of 1 'pgn_to_lines: pgn-extract is not installed' \
         env PATH="$PWD/few" /bin/sh elsewhere.sh w1 empty.pgn
-    holds tells_of 1 "pgn_to_lines.sh: usage: pgn_to_lines.sh NAME FILE.. > lines" \
-        "$shared/pgn_to_lines.sh" no.pgn
-    holds tells_of 1 'pgn_to_lines.sh: empty.pgn: games: 0, left out: 0, cut: 0
-submissions.awk: no games came' "$shared/pgn_to_lines.sh" w1 empty.pgn
-    holds ends 1 "$shared/pgn_to_lines.sh" w1 cut.pgn.gz > printed 2> told
-    holds test "$(tail -n 1 told)" = 'pgn_to_lines.sh: a file was not read to its end'
+    holds tells_of 1 "pgn_to_lines: usage: pgn_to_lines NAME FILE.. > lines" \
+        "$shared/pgn_to_lines" no.pgn
+    holds tells_of 1 'pgn_to_lines: empty.pgn: games: 0, left out: 0, cut: 0
+submissions.awk: no games came' "$shared/pgn_to_lines" w1 empty.pgn
+    holds ends 1 "$shared/pgn_to_lines" w1 cut.pgn.gz > printed 2> told
+    holds test "$(tail -n 1 told)" = 'pgn_to_lines: a file was not read to its end'
     holds test "$(wc -l < printed)" -gt 1
     # Nor is one where pgn-extract is killed.
     mkdir bin
     printf '%s\n' '#!/bin/sh' 'cat > /dev/null' 'echo e2e4 1-0' 'kill -9 $$' > bin/pgn-extract
     chmod 755 bin/pgn-extract
     cp "$shared/games.pgn" .
-    holds tells_of 1 'pgn_to_lines.sh: games.pgn: pgn-extract did not end
-pgn_to_lines.sh: a file was not read to its end' \
-        env PATH="$PWD/bin:$PATH" "$shared/pgn_to_lines.sh" w1 games.pgn
+    holds tells_of 1 'pgn_to_lines: games.pgn: pgn-extract did not end
+pgn_to_lines: a file was not read to its end' \
+        env PATH="$PWD/bin:$PATH" "$shared/pgn_to_lines" w1 games.pgn
 }
 
 # The bundled games: 20, of which one has no result, and four begin elsewhere. As root and cron do,
 # this searches no /usr/games.
 bundled_pgn() {
-    holds tells_of 0 'pgn_to_lines.sh: games.pgn: games: 20, left out: 0, cut: 0' \
-        in_shared env PATH="${PATH%:/usr/games}" ./pgn_to_lines.sh w1 games.pgn
+    holds tells_of 0 'pgn_to_lines: games.pgn: games: 20, left out: 0, cut: 0' \
+        in_shared env PATH="${PATH%:/usr/games}" ./pgn_to_lines w1 games.pgn
     holds test "$(cut -f 3 printed | sort | uniq -c | awk '{ print $1 }' | tr '\n' ' ')" = '4 16 '
     mv printed lines
     holds tells_of 0 '' "$PROGRAM" collect -q --plies 24 --least 3 "$table" book.bin < lines
@@ -188,7 +188,7 @@ as_source() { sed '1~2y/abcdef/ABCDEF/; s/.*/   U64(0x&),/' "$1"; }
 # The numbers of the program that is installed are those of its source file. One of them that is
 # another one, one too few or one too many make no table.
 own_table() {
-    from=$shared/table_from_polyglot.sh
+    from=$shared/table_from_polyglot
     holds tells_of 0 '' env PATH="${PATH%:/usr/games}" "$from"
     mv printed numbers
     as_source numbers > random.c
@@ -197,13 +197,13 @@ own_table() {
     holds cmp small numbers
     { sed 780q random.c && sed -n 1p random.c; } > other.c
     holds ends 1 "$from" other.c > printed 2> told
-    holds grep -q '^table_from_polyglot.sh: the numbers of other.c give the initial array' told
+    holds grep -q '^table_from_polyglot: the numbers of other.c give the initial array' told
     holds test ! -s printed
     sed 780q random.c > few.c
     { cat random.c && sed -n 1p random.c; } > many.c
     for count in 780 782; do
         [ "$count" -eq 780 ] && file=few.c || file=many.c
-        holds tells_of 1 "table_from_polyglot.sh: $file has $count such numbers, and not 781" \
+        holds tells_of 1 "table_from_polyglot: $file has $count such numbers, and not 781" \
             "$from" "$file"
         holds test ! -s printed
     done
@@ -538,7 +538,7 @@ killed_nights() {
 
 # The line that the script shows is one that cron takes.
 crontab_line() {
-    sed -n 's/^#     \(.*nightly .*\)/\1/p' "$top/examples/nightly" > tab
+    sed -n 's/^#     \(.*nightly .*\)/\1/p' "$top/tools/nightly" > tab
     holds test "$(wc -l < tab)" -eq 1
     holds is_crontab tab
     printf '30 3 * * * one\nsecond line\n' > wrong

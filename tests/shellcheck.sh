@@ -6,7 +6,8 @@ set -eu
 
 # silent: shellcheck has nothing to say of the scripts that git knows, or would take
 silent() {
-    git ls-files --cached --others --exclude-standard '*.sh' examples/nightly > "$work/scripts"
+    git ls-files --cached --others --exclude-standard '*.sh' tools |
+        xargs grep -lE '^#!/bin/(ba)?sh' > "$work/scripts"
     xargs shellcheck -x < "$work/scripts"
     note "$(wc -l < "$work/scripts") scripts"
 }

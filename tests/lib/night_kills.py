@@ -1,5 +1,5 @@
 #!/usr/bin/env python3
-"""Kills processes of nights by examples/nightly, and looks at what is left. tests/examples.sh
+"""Kills processes of nights by tools/nightly, and looks at what is left. tests/examples.sh
 calls it.
 
 Usage: night_kills.py PUT TABLE GAMES, in an empty folder; PUT is where `make install` put pbook.

@@ -1,5 +1,5 @@
 #!/usr/bin/env python3
-"""Tries examples/serve.py, with workers of its own. tests/examples.sh calls it for each check.
+"""Tries tools/serve.py, with workers of its own. tests/examples.sh calls it for each check.
 
 Usage: service.py CHECK SERVE TABLE GAMES, in an empty folder. PBOOK names the program. KILLS is how
 often a collector of the check `workers` is killed, and SEED draws other workers.
