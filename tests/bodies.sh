@@ -563,7 +563,7 @@ failing() {
     for file in crates.txt HANDLES crates/pbook/stdout crates/pb_cli/src/grammar.rt; do
         : > "$work/whole/$file"
     done
-    cp -R "$top/scripts" "$top/tests" "$top/examples" "$work/whole"
+    cp -R "$top/scripts" "$top/tests" "$top/examples" "$top/tools" "$work/whole"
     holds checks_nothing replies
     holds checks_nothing files messages demo replies locks order
 }

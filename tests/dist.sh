@@ -180,7 +180,7 @@ runs() {
 guide() {
     mkdir "$work/unpacked/top/guide"
     cd "$work/unpacked/top/guide"
-    ln -s ../examples .
+    ln -s ../examples ../tools .
     cp ../examples/table.txt .
     for name in lines tonight.txt a.journal; do cp ../examples/games.txt "$name"; done
     head -n 9 lines > b.journal
