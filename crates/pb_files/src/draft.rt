@@ -1,11 +1,11 @@
 //! The draft of a file that is to be made anew.
 
-ghost use Rattle.std.specs.Prelude.{◌≡◌, IfErr, OnOk, true};
+ghost use Rattle.std.specs.Prelude.{◌≡◌, IfErr, OnErr, OnOk, false, true};
 ghost use Rattle.pb_commands.specs.declared.store.StoreError.TheVariants.{Write};
 ghost use Rattle.pb_files.specs.Ends.{IsSynced};
 
-use crate::holding::{hold, is_same, sync_folder};
-use crate::stop::told;
+use crate::holding::{hold, is_same, resolve, sync_folder};
+use crate::stop::{opened, told};
 use crate::system_file::SystemFile;
 use pb_commands::StoreError;
 use pb_messages::{Cause, Named};
@@ -13,7 +13,7 @@ use std::fs::{self, File, OpenOptions};
 use std::io::ErrorKind::NotFound;
 use std::io::{self, Seek};
 use std::os::unix::fs::{MetadataExt, OpenOptionsExt};
-use std::path::{Path, PathBuf};
+use std::path::PathBuf;
 
 /// The permissions of a new file, less what its user's umask takes away.
 const ANYBODY: u32 = 0o666;
@@ -48,8 +48,17 @@ impl Drop for Draft<'_> {
 
 impl<'a> Draft<'a> {
     /// Gives the empty draft of the file that this name leads to, or None where it leads to a
-    /// device or a pipe.
-    pub(crate) fn of(named: Named<'a>, reads: bool) -> io::Result<Option<Draft<'a>>> {
+    /// device or a pipe. What fails is told, by the name of the draft where that can't be made.
+    pub(crate) fn of(named: Named<'a>, reads: bool) -> Result<Option<Draft<'a>>, StoreError> {
+        let Some(mut draft) = opened(named, Draft::unmade(named, reads))? else {
+            return Ok(None);
+        };
+        let made = draft.make();
+        opened(Named::new(named.messages, draft.draft.as_str()), made)?;
+        Ok(Some(draft))
+    }
+
+    fn unmade(named: Named<'a>, reads: bool) -> io::Result<Option<Draft<'a>>> {
         let rt = named.messages.rt;
         let path = resolve(rt, named.name)?;
         let old = match fs::metadata(rt, named.name) {
@@ -58,44 +67,55 @@ impl<'a> Draft<'a> {
             _ => Some(hold(rt, OpenOptions::new().read(reads).write(true), &path)?),
         };
         let draft = draft_path(rt, &path)?;
-        let mut draft = Draft {
+        Ok(Some(Draft {
             named,
             path,
             draft,
             old,
             reads,
             file: None,
-        };
-        draft.open()?;
-        Ok(Some(draft))
+        }))
     }
 
-    /// Opens the draft, empties it, since a run that was killed may have left it, and makes it as
-    /// private as the old file.
-    fn open(&mut self) -> io::Result<()> {
+    /// Makes the draft, in the place of one that a run has left that was killed: owner, permissions
+    /// and links are its own.
+    fn make(&mut self) -> io::Result<()> {
+        let rt = self.named.messages.rt;
+        match hold(rt, OpenOptions::new().read(true), &self.draft) {
+            Err(error) if error.kind() == NotFound => {}
+            left => {
+                // It is locked until its name is gone, so no other run has it.
+                let _left = left?;
+                fs::remove_file(rt, &self.draft)?;
+            }
+        }
         let old = self.old.as_ref().map(File::metadata).transpose()?;
         let mut options = OpenOptions::new();
-        options.read(true).write(true).create(true);
+        options.read(true).write(true).create_new(true);
         options.mode(old.as_ref().map_or(ANYBODY, MetadataExt::mode));
-        let file = self
-            .file
-            .insert(hold(self.named.messages.rt, &options, &self.draft)?);
-        file.set_len(0)?;
-        if let Some(old) = old {
-            if old.dev() != file.metadata()?.dev() {
-                return Err(io::Error::other("something is mounted on it"));
-            }
-            file.set_permissions(old.permissions())?;
+        let file = self.file.insert(hold(rt, &options, &self.draft)?);
+        let device = file.metadata()?.dev();
+        if old.is_some_and(|old| old.dev() != device) {
+            return Err(io::Error::other("something is mounted on it"));
         }
         Ok(())
     }
 
-    /// Gives the file of the draft, which is made anew where somebody has removed it.
+    /// Gives the file of the draft, which is made anew where somebody has removed it, and as private
+    /// as the old file is by now.
     pub(crate) fn file(&mut self) -> io::Result<File> {
         if !self.is_there() {
-            self.open()?;
+            self.make()?;
         }
-        copy(&self.file, "its draft is gone")
+        let file = copy(&self.file, "its draft is gone")?;
+        if let Some(old) = &self.old {
+            let old = old.metadata()?;
+            // Not each file system lets permissions be set.
+            if old.mode() != file.metadata()?.mode() {
+                file.set_permissions(old.permissions())?;
+            }
+        }
+        Ok(file)
     }
 
     /// Whether the draft is this run's still: another may have made one where this is removed.
@@ -112,7 +132,9 @@ impl<'a> Draft<'a> {
 
     /// Gives another name to a file that isn't as long any more as this run has read it, and tells
     /// it: it may have what this run doesn't know.
-    pub(crate) fn keep_changed(&self) -> io::Result<()> {
+    fn keep_changed(&self, _file: &SystemFile<'a>) -> io::Result<()>
+        requires { _file.now.named ≡ false }
+    {
         let (Some(mut old), true) = (self.old.as_ref(), self.reads) else {
             return Ok(());
         };
@@ -130,10 +152,22 @@ impl<'a> Draft<'a> {
         Ok(())
     }
 
-    /// Gives the name to the draft, which is this file. Where that fails the draft stays, and is
-    /// told: it has all that the run took.
-    pub(crate) fn name(&mut self, file: &mut SystemFile<'a>) -> Result<(), StoreError>
+    /// Gives the name to the draft, which is this file.
+    fn rename(&self, file: &mut SystemFile<'a>) -> io::Result<()>
         requires { IsSynced file.old }
+        ensures named { OnOk result (file.new ≡ record file.old { named = true }) }
+        ensures failed { OnErr result (file.new ≡ file.old) }
+    {
+        fs::rename(self.named.messages.rt, &self.draft, &self.path)?;
+        file.is_named = true;
+        Ok(())
+    }
+
+    /// Gives the name to the draft, which is this file, once what another program has added to the
+    /// old one is kept. Where that fails the draft stays, and is told: it has all that the run took.
+    pub(crate) fn name(&mut self, file: &mut SystemFile<'a>) -> Result<(), StoreError>
+        requires synced { IsSynced file.old }
+        requires unnamed { file.old.named ≡ false }
         ensures named { OnOk result (file.new ≡ record file.old { named = true }) }
         ensures failed { IfErr result (λ why. why ≡ Write) }
     {
@@ -142,17 +176,24 @@ impl<'a> Draft<'a> {
             self.named.fail(&io::Error::other("its draft is gone"));
             return Err(StoreError::Write);
         }
-        if let Err(error) = fs::rename(messages.rt, &self.draft, &self.path) {
+        let renamed = match self.keep_changed(file) {
+            Ok(()) => self.rename(file),
+            kept => kept,
+        };
+        if let Err(error) = renamed {
             self.file = None;
             let (cause, draft) = (Cause(&error), self.draft.as_str());
-            messages.tell(&format_args!("{name}: {cause}; the new one is {draft}"));
+            let until = format_args!("until the next run over {name} removes it");
+            messages.tell(&format_args!("{name}: {cause}; the new one is {draft}, {until}"));
             return Err(StoreError::Write);
         }
-        file.is_named = true;
         Ok(())
     }
 
-    pub(crate) fn sync_name(&self) -> io::Result<()> {
+    /// Puts the name of this file on the disk.
+    pub(crate) fn sync_name(&self, _file: &SystemFile<'a>) -> io::Result<()>
+        requires { _file.now.named ≡ true }
+    {
         sync_folder(self.named.messages.rt, &self.path)
     }
 }
@@ -164,14 +205,6 @@ fn copy(file: &Option<File>, missing: &'static str) -> io::Result<File> {
 /// Gives the path of the draft that a file of this name has.
 pub fn draft_of(rt: &HostRuntime, name: &str) -> io::Result<PathBuf> {
     draft_path(rt, &resolve(rt, name)?)
-}
-
-/// Follows links, where they lead to something.
-fn resolve(rt: &HostRuntime, name: &str) -> io::Result<PathBuf> {
-    match fs::canonicalize(rt, name) {
-        Err(error) if error.kind() == NotFound => Ok(Path::new(name).to_path_buf(rt.alloc())?),
-        path => path,
-    }
 }
 
 /// Fails where the path doesn't end in a file's name.
