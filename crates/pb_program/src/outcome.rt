@@ -1,7 +1,6 @@
 //! Why the files, the record or the moves of a command are refused.
 
-use pb_cli::{CollectOrder, ExportOrder, Keeping, Order, Refused};
-use pb_files::Stop;
+use pb_cli::{CollectOrder, ExportOrder, Keeping, Order, Refused, Stop};
 use pb_messages::{Looks, Messages, looks_of};
 use std::fmt::Display;
 use std::fs::{self, File};
