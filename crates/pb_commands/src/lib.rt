@@ -43,8 +43,7 @@ pub use keeping::collect_into;
 pub use lookup::answer_lookup;
 pub use pb_io::Fault;
 pub use pb_ledger::{
-    Accepted, ExportFault, LoadError, MAX_LEAST, MAX_PLIES, Refusal, Rules, Totals, Watcher,
-    pick_games,
+    ExportFault, LoadError, MAX_LEAST, MAX_PLIES, Refusal, Rules, Totals, Watcher, pick_games,
 };
 pub use probe::{answer_probe, run_probe};
 pub use refusal::{Refused, Stopped};

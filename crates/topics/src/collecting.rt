@@ -9,8 +9,8 @@ use crate::ends::{Output, fills_in, is_told, rules_in};
 use crate::game::stream_of;
 use crate::mem_store::MemStore;
 use pb_commands::{
-    Accepted, Continued, Ends, Fault, JournalEnds, LedgerEnds, Refusal, Report, Stop, Watcher,
-    collect_into, continue_into, journal_into, run_collect, run_continue,
+    Continued, Ends, Fault, JournalEnds, LedgerEnds, Refusal, Report, Stop, Watcher, collect_into,
+    continue_into, journal_into, run_collect, run_continue,
 };
 use pb_ledger::save;
 use pb_poly::{Book, FromRead, MemSink, ToWrite, read_book};
@@ -34,9 +34,7 @@ impl Watcher for Passed {
         self.numbers.put_count(" ", &number);
     }
 
-    fn answered(&mut self, _answer: Result<Accepted, Refusal>) {}
-
-    fn judged(&mut self, _answer: Result<(), Refusal>) {}
+    fn answered(&mut self, _refusal: Option<Refusal>) {}
 }
 
 impl Passed {
