@@ -5,7 +5,7 @@ ghost use Rattle.pb_commands.specs.declared.store.StoreError.TheVariants.{Write}
 ghost use Rattle.pb_files.specs.Ends.{IsSynced};
 
 use crate::holding::{hold, is_same, resolve, sync_folder};
-use crate::stop::{opened, told};
+use crate::opening::{opened, told};
 use crate::system_file::SystemFile;
 use pb_commands::StoreError;
 use pb_messages::{Cause, Named};

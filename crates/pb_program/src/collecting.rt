@@ -7,9 +7,9 @@ ghost use Rattle.pb_program.specs.Ordered.{IsJournalPath, is_synced};
 use crate::command::input;
 use crate::ordered;
 use crate::outcome::{path_of, spare_games};
-use pb_cli::{CollectOrder, Ends, Keeping, LedgerEnds, LoadError, Refused, Report, Watcher};
+use pb_cli::{CollectOrder, Ends, Keeping, LedgerEnds, LoadError, Refused, Report, Stop, Watcher};
 use pb_files::{
-    FileSource, Found, KeptFile, OUTPUT, Replies, SYNCED, Stop, Submissions, WRITTEN, draft_of,
+    FileSource, Found, KeptFile, OUTPUT, Replies, SYNCED, Submissions, WRITTEN, draft_of,
     keep_apart, open, open_journal, opened,
 };
 use pb_io::{Fault, FromRead, Sink, Source, ToWrite};
@@ -72,7 +72,7 @@ fn run<'a>(
     match order.kept {
         Keeping::Book => {
             let mut book = KeptFile::new(Named::new(messages, order.book), false);
-            Ok(ordered::collect(alloc, order, ends, &mut book)?)
+            ordered::collect(alloc, order, ends, &mut book)
         }
         // A saved ledger is made anew after the run and before the book.
         Keeping::Ledger(path) => {
@@ -82,7 +82,7 @@ fn run<'a>(
                 store,
             };
             let mut book = KeptFile::new(Named::new(messages, order.book), false);
-            Ok(ordered::go_on(alloc, order, ends, &mut ledger, &mut book)?)
+            ordered::go_on(alloc, order, ends, &mut ledger, &mut book)
         }
         Keeping::Journal { path, sync } => {
             let named = Named::new(messages, path);

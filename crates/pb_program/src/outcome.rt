@@ -1,7 +1,6 @@
 //! Why the files, the record or the moves of a command are refused.
 
-use pb_cli::{CollectOrder, ExportOrder, Keeping, LoadError, Order, Refused};
-use pb_files::Stop;
+use pb_cli::{CollectOrder, ExportOrder, Keeping, LoadError, Order, Refused, Stop};
 use pb_messages::{Limit, Looks, Messages, looks_of, may_begin};
 use std::fmt::Display;
 use std::fs::{self, File};
