@@ -50,31 +50,28 @@ impl<'a> Draft<'a> {
     /// Gives the empty draft of the file that this name leads to, or None where it leads to a
     /// device or a pipe. What fails is told, by the name of the draft where that can't be made.
     pub(crate) fn of(named: Named<'a>, reads: bool) -> Result<Option<Draft<'a>>, StoreError> {
-        let Some(mut draft) = opened(named, Draft::unmade(named, reads))? else {
-            return Ok(None);
-        };
-        let made = draft.make();
-        opened(Named::new(named.messages, draft.draft.as_str()), made)?;
-        Ok(Some(draft))
-    }
-
-    fn unmade(named: Named<'a>, reads: bool) -> io::Result<Option<Draft<'a>>> {
         let rt = named.messages.rt;
-        let path = resolve(rt, named.name)?;
+        let path = opened(named, resolve(rt, named.name))?;
         let old = match fs::metadata(rt, named.name) {
             Ok(told) if !told.is_file() && !told.is_dir() => return Ok(None),
             Err(error) if error.kind() == NotFound => None,
-            _ => Some(hold(rt, OpenOptions::new().read(reads).write(true), &path)?),
+            _ => {
+                let held = hold(rt, OpenOptions::new().read(reads).write(true), &path);
+                Some(opened(named, held)?)
+            }
         };
-        let draft = draft_path(rt, &path)?;
-        Ok(Some(Draft {
+        let draft = opened(named, draft_path(rt, &path))?;
+        let mut draft = Draft {
             named,
             path,
             draft,
             old,
             reads,
             file: None,
-        }))
+        };
+        let made = draft.make();
+        opened(Named::new(named.messages, draft.draft.as_str()), made)?;
+        Ok(Some(draft))
     }
 
     /// Makes the draft, in the place of one that a run has left that was killed: owner, permissions

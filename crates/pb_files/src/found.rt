@@ -1,6 +1,5 @@
 //! What a run has found by the name of its journal, and the look at it before replies go out.
 
-use pb_messages::Told;
 use std::cell::{Cell, OnceCell};
 use std::fs::{self, Metadata};
 use std::io::{self, Write};
@@ -14,8 +13,6 @@ pub struct Found {
     pub(crate) path: PathBuf,
     inode: u64,
     pub(crate) len: Cell<u64>,
-    // What was seen to be changed stays so.
-    is_changed: Cell<bool>,
 }
 
 impl Found {
@@ -24,24 +21,18 @@ impl Found {
             path,
             inode: told.ino(),
             len: Cell::new(told.len()),
-            is_changed: Cell::new(false),
         }
     }
 
-    /// Notes that this run has added so many bytes.
-    pub(crate) fn grow(&self, count: usize) {
-        self.len.set(self.len.get().saturating_add(count as u64));
-    }
-
-    /// Fails where the name leads to another file, or to none, or to one of another length: a lock
-    /// keeps other runs out and no other program.
+    /// Fails where the name leads to another file, or to none, or to one of another length, and
+    /// from then on: a lock keeps other runs out and no other program.
     pub(crate) fn expect_unchanged(&self, rt: &HostRuntime) -> io::Result<()> {
         let is_same = |told: Metadata| told.ino() == self.inode && told.len() == self.len.get();
-        if self.is_changed.get() || !fs::metadata(rt, &self.path).is_ok_and(is_same) {
-            self.is_changed.set(true);
-            return Err(io::Error::other("another program has changed it"));
+        if fs::metadata(rt, &self.path).is_ok_and(is_same) {
+            return Ok(());
         }
-        Ok(())
+        self.len.set(u64::MAX);
+        Err(io::Error::other("another program has changed it"))
     }
 }
 
@@ -49,24 +40,13 @@ impl Found {
 /// its game is there. That the journal has changed is told when it is settled.
 #[derive(Drop)]
 pub struct Guarded<'j, 'a, W> {
-    inner: Told<'a, W>,
-    journal: &'j OnceCell<Found>,
-    rt: &'a HostRuntime,
-}
-
-impl<'j, 'a, W> Guarded<'j, 'a, W> {
-    /// Begins with a run that has no journal yet.
-    pub fn new(
-        rt: &'a HostRuntime,
-        inner: Told<'a, W>,
-        journal: &'j OnceCell<Found>,
-    ) -> Guarded<'j, 'a, W> {
-        Guarded { inner, journal, rt }
-    }
+    pub rt: &'a HostRuntime,
+    pub journal: &'j OnceCell<Found>,
+    pub inner: W,
 }
 
 impl<W: Write> Write for Guarded<'_, '_, W> {
-    ghost contents = { λ g. W.contents g.inner.inner };
+    ghost contents = { λ g. W.contents g.inner };
 
     fn write(&mut self, bytes: &[u8]) -> io::Result<usize> {
         if let Some(found) = self.journal.get() {

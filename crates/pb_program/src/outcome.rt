@@ -1,7 +1,7 @@
 //! Why the files, the record or the moves of a command are refused.
 
 use pb_cli::{CollectOrder, ExportOrder, Keeping, LoadError, Order, Refused, Stop};
-use pb_messages::{Limit, Looks, Messages, looks_of, may_begin};
+use pb_messages::{Looks, Messages, looks_of, may_begin};
 use std::fmt::Display;
 use std::fs::{self, File};
 use std::io::Read;
@@ -27,9 +27,12 @@ pub(crate) fn tell_refused(messages: Messages<'_>, order: &Order<'_>, why: &Refu
             | Order::Lookup { book, .. }
             | Order::Tree { book, .. },
         ) => tell_file(messages, Looks::Book, book, why),
-        (Refused::Ledger(LoadError::Line(number)), Order::Collect(order)) => {
-            let why = format_args!("{why}{}", Limit(*number));
-            tell_file(messages, Looks::Games, path_of(order.kept), &why);
+        (Refused::Ledger(why), Order::Collect(order)) => {
+            let file = path_of(order.kept);
+            tell_file(messages, Looks::Games, file, why);
+            if matches!(why, LoadError::Line(1_000_001..)) {
+                messages.tell(&format_args!("{file}: at most 1,000,000 games are held"));
+            }
         }
         _ => messages.tell(why),
     }
