@@ -4,7 +4,7 @@ ghost use Rattle.std.specs.Prelude.{◌≡◌, IfErr, OnErr, OnOk, false, true};
 ghost use Rattle.pb_commands.specs.declared.store.StoreError.TheVariants.{Write};
 ghost use Rattle.pb_files.specs.Ends.{IsSynced};
 
-use crate::holding::{hold, is_same, resolve, sync_folder};
+use crate::holding::{hold, is_same, lock, resolve, sync_folder};
 use crate::opening::{opened, told};
 use crate::system_file::SystemFile;
 use pb_commands::StoreError;
@@ -12,11 +12,8 @@ use pb_messages::{Cause, Named};
 use std::fs::{self, File, OpenOptions};
 use std::io::ErrorKind::NotFound;
 use std::io::{self, Seek};
-use std::os::unix::fs::{MetadataExt, OpenOptionsExt};
+use std::os::unix::fs::MetadataExt;
 use std::path::PathBuf;
-
-/// The permissions of a new file, less what its user's umask takes away.
-const ANYBODY: u32 = 0o666;
 
 /// A name that this run alone gives to a new file. It holds what has the name, and beside that the
 /// draft: `.NAME.pbook`, which goes unless it gets the name.
@@ -26,7 +23,7 @@ pub(crate) struct Draft<'a> {
     draft: PathBuf,
     old: Option<File>,
     reads: bool,
-    // None until it is opened, and where it could not be given the name, and so stays.
+    // None until it is made, and where it could not be given the name, and so stays.
     file: Option<File>,
 }
 
@@ -61,7 +58,7 @@ impl<'a> Draft<'a> {
             }
         };
         let draft = opened(named, draft_path(rt, &path))?;
-        let mut draft = Draft {
+        let mut claimed = Draft {
             named,
             path,
             draft,
@@ -69,9 +66,9 @@ impl<'a> Draft<'a> {
             reads,
             file: None,
         };
-        let made = draft.make();
-        opened(Named::new(named.messages, draft.draft.as_str()), made)?;
-        Ok(Some(draft))
+        let made = claimed.file();
+        opened(Named::new(named.messages, claimed.draft.as_str()), made)?;
+        Ok(Some(claimed))
     }
 
     /// Makes the draft, in the place of one that a run has left that was killed: owner, permissions
@@ -86,33 +83,10 @@ impl<'a> Draft<'a> {
                 fs::remove_file(rt, &self.draft)?;
             }
         }
-        let old = self.old.as_ref().map(File::metadata).transpose()?;
         let mut options = OpenOptions::new();
-        options.read(true).write(true).create_new(true);
-        options.mode(old.as_ref().map_or(ANYBODY, MetadataExt::mode));
-        let file = self.file.insert(hold(rt, &options, &self.draft)?);
-        let device = file.metadata()?.dev();
-        if old.is_some_and(|old| old.dev() != device) {
-            return Err(io::Error::other("something is mounted on it"));
-        }
-        Ok(())
-    }
-
-    /// Gives the file of the draft, which is made anew where somebody has removed it, and as private
-    /// as the old file is by now.
-    pub(crate) fn file(&mut self) -> io::Result<File> {
-        if !self.is_there() {
-            self.make()?;
-        }
-        let file = copy(&self.file, "its draft is gone")?;
-        if let Some(old) = &self.old {
-            let old = old.metadata()?;
-            // Not each file system lets permissions be set.
-            if old.mode() != file.metadata()?.mode() {
-                file.set_permissions(old.permissions())?;
-            }
-        }
-        Ok(file)
+        let options = options.read(true).write(true).create_new(true);
+        let file = self.file.insert(options.open(rt, &self.draft)?);
+        lock(rt, file, &self.draft)
     }
 
     /// Whether the draft is this run's still: another may have made one where this is removed.
@@ -120,6 +94,26 @@ impl<'a> Draft<'a> {
         let found = fs::symlink_metadata(self.named.messages.rt, &self.draft);
         let file = self.file.as_ref();
         file.is_some_and(|file| is_same(file.metadata(), found))
+    }
+
+    /// Gives the file of the draft, which is made anew where somebody has removed it, as private as
+    /// the old file is by now.
+    pub(crate) fn file(&mut self) -> io::Result<File> {
+        if !self.is_there() {
+            self.make()?;
+        }
+        let file = copy(&self.file, "its draft is gone")?;
+        if let Some(old) = &self.old {
+            let (old, new) = (old.metadata()?, file.metadata()?);
+            if old.dev() != new.dev() {
+                return Err(io::Error::other("the old file is a mount"));
+            }
+            // Not each file system lets permissions be set.
+            if old.mode() != new.mode() {
+                file.set_permissions(old.permissions())?;
+            }
+        }
+        Ok(file)
     }
 
     /// Gives another handle of what had the name at the start.
