@@ -82,6 +82,8 @@ one_book() {
             [ "$name $state" != 'link new' ] || continue
             holds collects 3 "$name"
             holds says 'fault open'
+            # Where no BOOK is, its draft alone is held.
+            [ "$state" = old ] || name=$(echo "$name" | sed 's/book\.bin$/.&.pbook/')
             holds tells "$name: it is in use by another run"
             holds test "$(wc -l < "$work/replies")" -eq $(($(wc -l < "$work/games") + 1))
         done
@@ -105,7 +107,8 @@ one_book() {
     holds not grep -vqF "$book: it is in use by another run" told
 }
 
-# The drafts of a run that was killed are taken over, with all that is in them.
+# What has the draft's name when a run begins goes, with all that is in it: owner, permissions and
+# links of the new file are its own. What the other name of that file keeps stays.
 left_claim() {
     with_old
     chmod 600 "$book"
@@ -119,13 +122,24 @@ left_claim() {
     for draft in .book.bin.pbook .games.ledger.pbook; do
         holds test -f "$draft"
         cat "$work/new" "$work/new" > "$draft"
-        chmod 644 "$draft"
+        chmod 666 "$draft"
+        ! is_root || chown 65534:65534 "$draft"
+        ln "$draft" "other$draft"
     done
     holds collects 0 "$book" "$work/games" --ledger games.ledger
     holds is_new "$book"
     holds has_mode 600 "$book"
+    holds has_mode 644 games.ledger
+    holds test "$(stat -c %u book.bin games.ledger)" = "$(stat -c %u . .)"
     holds test "$(wc -l < games.ledger)" -eq 301
+    cat "$work/new" "$work/new" | cmp - other.book.bin.pbook
+    rm other.*
     holds no_draft
+    # So it is where no BOOK was.
+    : > .new.pbook
+    chmod 666 .new.pbook
+    holds collects 0 new
+    holds has_mode 644 new
 }
 
 # begin_at_open NUMBER PATH OPTION..: starts a run over `few`, which stops once it has opened the
@@ -138,8 +152,8 @@ begin_at_open() {
     begin_held "openat:$number" "-P $path" "$PROGRAM" collect "$@" "$table" "$book"
 }
 
-# A run that has opened a FILE, or a draft, finds another file by its name once it has locked that:
-# the other one stays as it is, and so does BOOK or FILE.
+# A run that has opened a FILE, or a draft, finds another file by its name once it has locked that,
+# or before it answers: the other one stays as it is, and so does BOOK or FILE.
 replaced_when_opened() {
     with_old
     games_of 1,9 > few
@@ -160,7 +174,7 @@ replaced_when_opened() {
                 holds go_on 3
                 holds is_old "$book"
                 holds cmp "$file" other
-                holds cmp first found
+                holds begins_as found first
                 holds test "$(wc -l < told)" -eq 1
                 at=$((at + 1))
             done
@@ -239,6 +253,7 @@ failed_locks() {
         for name in "$book" "$place/new.bin"; do
             holds collects 3 "$name"
             holds says 'fault open'
+            [ "$name" = "$book" ] || name=$place/.new.bin.pbook
             holds tells_name "$name"
             holds no_draft
         done
@@ -400,16 +415,12 @@ change() {
     esac
 }
 
-# is_changed FILE: whether the file, or that there is none, is as another program left it
-is_changed() {
-    if [ -e left ]; then cmp left "$1"; else not test -e "$1"; fi
-}
+# begins_as FRONT FILE: whether the file has these bytes first
+begins_as() { head -c "$(wc -c < "$1")" "$2" | cmp - "$1"; }
 
-# has_stopped NAME: whether the run that has just ended has answered nothing any more, tells of
-# this file in one line, and has made no book
-has_stopped() {
-    cp told "$work/errors"
-    [ ! -s rest ] && [ "$(wc -l < told)" -eq 1 ] && tells_name "$1" && [ ! -e book.bin ]
+# is_changed FILE: whether all that another program left of the file, or that there is none, is there
+is_changed() {
+    if [ -e left ]; then begins_as left "$1"; else not test -e "$1"; fi
 }
 
 # changed_file HOW OPTION FILE [OPTION..]: another program changes the FILE of a run over two games
@@ -428,17 +439,24 @@ changed_file() {
     [ ! -e "$file" ] || cp "$file" left
 }
 
-# A journal that is changed so ends the run: no later game is answered.
+# A journal that is changed so ends the run: nothing that comes later is answered, be it a new game
+# or a repeat, and that is told too where nothing comes.
 changed_journals() {
     games_of 1 > "$work/first"
     for how in removed renamed replaced linked emptied shorter longer; do
         for option in '' --sync; do
-            changed_file "$how" --journal games.journal $option
-            holds say 2 ''
-            holds end 3
-            holds has_stopped games.journal
-            holds is_changed games.journal
-            cd ..
+            for later in 2 1 ''; do
+                changed_file "$how" --journal games.journal $option
+                [ "$later" = '' ] || { holds say "$later" '' && : > answered; }
+                holds end 3
+                holds test ! -s rest
+                holds test "$(cat told)" = 'pbook: games.journal: another program has changed it'
+                # The book of all that was answered is there where nothing came.
+                holds not test -e book.bin -a -e answered
+                holds is_changed games.journal
+                cd ..
+                rm -r "$how"*
+            done
         done
     done
     for option in '' --sync; do
@@ -456,26 +474,24 @@ unharmed() {
     holds end 0
     holds test ! -s told
     holds test "$(tail -n 2 "$file")" = "$(games_of 1,2)"
+    [ "$how" != given ] || holds has_mode 640 "$file"
     cd ..
 }
 
 # What another program adds in the midst of a run is written over by none of its lines. The run is
-# held right before it adds the second of three games.
+# held once it has added the first of three games.
 added_meanwhile() {
     games_of 1,3 > games
     for option in '' --sync; do
         games_of 4 > games.journal
-        set -- "$PROGRAM" collect --journal "$journal" ${option:+"$option"} "$table" "$book"
-        holds ran 0 strace -o calls -P "$journal" -e trace=write,statx "$@" < games
-        looks=$(awk '/^write/ && wrote++ { exit } /^statx/ { looks++ } END { print looks }' calls)
-        games_of 4 > games.journal
         rm -f held process book.bin
-        holds begin_held "statx:$looks" "-P $journal" "$@"
+        holds begin_held write "-P $journal" \
+            "$PROGRAM" collect --journal "$journal" ${option:+"$option"} "$table" "$book"
         games_of 5 >> games.journal
         holds go_on 3
         holds not test -e book.bin
-        for game in 4 1 5; do holds grep -qxF "$(games_of "$game")" games.journal; done
-        holds test "$(count '^ok' replies)" -le "$(($(wc -l < games.journal) - 2))"
+        for game in 4 1 5 2 3; do games_of "$game"; done | cmp - games.journal
+        holds not grep -q '^ok' replies
     done
 }
 
@@ -495,15 +511,26 @@ changed_ledgers() {
         cd ..
     done
     holds test "$(cat "$work/first")" = "$(games_of 9)"
-    # Where that name is taken, the new one isn't made.
-    changed_file longer --ledger games.ledger -q
-    echo precious > games.ledger.changed
-    holds end 3
-    holds is_changed games.ledger
-    holds test "$(cat games.ledger.changed)" = precious
-    holds grep -q '^pbook: .*games\.ledger\.changed: ' told
-    holds not test -e book.bin
-    cd ..
+    # Where that name is taken, or too long, the new one stays the draft.
+    for file in games.ledger "$(printf '%0248d' 0)"; do
+        mkdir "kept$file"
+        cd "kept$file"
+        : > "$file"
+        begin "$PROGRAM" collect -q --ledger "$file" "$table" book.bin
+        holds say_ok 1
+        printf 'torn' >> "$file"
+        cp "$file" left
+        why='file name too long'
+        [ "$file" != games.ledger ] || { : > "$file.changed" && why='file exists'; }
+        holds end 3
+        holds cmp "$file" left
+        whole_ledger 1 | cmp - ".$file.pbook"
+        until="the new one is .$file.pbook, until the next run over $file removes it"
+        printf 'pbook: %s\n' "$file.changed: $why" \
+            "$file: another program has changed it; $until" | cmp - told
+        holds not test -e book.bin -o -s "$file.changed"
+        cd ..
+    done
     # It lies beside the file that a link leads to.
     mkdir far
     : > far/kept
@@ -533,11 +560,11 @@ lost_claim() {
     due=$1
     shift
     with_old
-    chmod 640 "$book"
     : > games.ledger
     begin "$PROGRAM" collect --ledger games.ledger "$table" "$book"
     games_of 1,322 >&3
     holds test "$(timeout "$patience" head -n 1 <&4)" = "ok $(id_of 1) 1"
+    chmod 640 "$book"
     "$@"
     holds end "$due"
     if [ "$due" -eq 0 ]; then
@@ -562,6 +589,8 @@ replace() { echo precious > other && mv other "$1"; }
 
 # A draft that somebody removes is claimed again. What was put in its place is no draft of the run.
 lost_claims() {
+    # Permissions that are changed meanwhile are those of the new file.
+    lost_claim 0 true
     lost_claim 0 for_drafts rm
     lost_claim 0 mv .book.bin.pbook elsewhere
     lost_claim 0 for_drafts replace

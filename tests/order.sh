@@ -17,10 +17,11 @@ journaled="traced calls $PROGRAM collect --journal games.journal"
 prepare() { mkdir books; }
 
 # of_journal [FILTER]: the calls that keep what is answered: those of the journal, of its folder and
-# of standard output, up to the end of the submissions
+# of standard output. At the end of each run the journal is synced.
 of_journal() {
     calls='open|flock|read|write|rewrite|fsync|fdatasync|ftruncate'
-    in_order calls "^($calls) (games\\.journal|\\.|replies)( |\$)" "$@"
+    { cat && echo 'fdatasync games.journal'; } |
+        in_order calls "^($calls) (games\\.journal|\\.|replies)( |\$)" "$@"
 }
 
 # rewritten: the events of standard input. Before the first sync of the journal what is read of it
@@ -103,7 +104,6 @@ write games.journal $(bytes_of 1)
 write replies $(reply_of 1)
 write games.journal $(bytes_of 2)
 write replies $(reply_of 2)
-fdatasync games.journal
 END
 }
 
@@ -137,7 +137,6 @@ open games.journal rw
 flock games.journal LOCK_EX
 read games.journal
 write replies $(reply_of 2)
-fdatasync games.journal
 END
     holds cmp whole games.journal
 }
@@ -190,6 +189,7 @@ fsync far
 write far/games.journal $(bytes_of 1)
 fdatasync far/games.journal
 write replies $(wc -c < "$work/replies" | tr -d ' ')
+fdatasync far/games.journal
 END
 }
 
@@ -218,7 +218,8 @@ END
 }
 
 # Before a submission is read BOOK is looked at, and FILE and BOOK are held with their drafts, which
-# others who can't read the old files can read at no time. FILE is made anew before BOOK is.
+# others who can't read the old files can read at no time. One that a killed run has left is locked
+# and goes first. FILE is made anew before BOOK is.
 saved_ledger() {
     with_old
     chmod 600 book.bin
@@ -227,6 +228,7 @@ saved_ledger() {
     holds collects 0 "$book" "$place/games" --ledger games.ledger
     chmod 640 games.ledger
     games_of 4,9 > games
+    : > .book.bin.pbook
     holds ran 0 traced calls "$PROGRAM" collect --ledger games.ledger "$table" book.bin < games
     kept='^(open|flock|ftruncate|fchmod|fdatasync|rename|unlink) \S*(games\.ledger|book)\S*'
     holds in_order calls "$kept|^fsync|^read games$" << END
@@ -235,14 +237,13 @@ open games.ledger rw
 flock games.ledger LOCK_EX
 open .games.ledger.pbook new 0100640
 flock .games.ledger.pbook LOCK_EX
-ftruncate .games.ledger.pbook
-fchmod .games.ledger.pbook 0100640
 open book.bin w
 flock book.bin LOCK_EX
+open .book.bin.pbook r
+flock .book.bin.pbook LOCK_EX
+unlink .book.bin.pbook
 open .book.bin.pbook new 0100600
 flock .book.bin.pbook LOCK_EX
-ftruncate .book.bin.pbook
-fchmod .book.bin.pbook 0100600
 read games
 read games
 fdatasync .games.ledger.pbook
@@ -278,11 +279,7 @@ fsync far
 END
 }
 
-can_trace || {
-    leave_out 'strace is wanted' 'the order of the calls'
-    exit 0
-}
-choose true '' synced_journal synced_at_once unsynced_journal repeat_of_unsynced torn_journal \
-    repeat_unsynced long_journal journal_elsewhere new_draft draft_elsewhere saved_ledger \
-    behind_links
+choose can_trace 'strace is wanted' synced_journal synced_at_once unsynced_journal \
+    repeat_of_unsynced torn_journal repeat_unsynced long_journal journal_elsewhere new_draft \
+    draft_elsewhere saved_ledger behind_links
 try_all "$@"

@@ -12,9 +12,6 @@ silent() {
     note "$(wc -l < "$work/scripts") scripts"
 }
 
-if command -v shellcheck > /dev/null; then
-    check 'shellcheck says nothing' silent
-    finish
-else
-    leave_out 'shellcheck is wanted' 'shellcheck says nothing'
-fi
+says='shellcheck says nothing'
+if has shellcheck; then check "$says" silent; else leave_out 'shellcheck is wanted' "$says"; fi
+finish
