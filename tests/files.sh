@@ -144,15 +144,15 @@ second_names() {
 # is_line_told: whether a whole line is on standard error
 is_line_told() { [ "$(wc -l < told)" -gt 0 ]; }
 
-# cannot_make BOOK [OPTION..]: a run tells in one line, before it has a submission, that this BOOK
-# can't be made, answers what it is sent, and ends with `fault open`
+# cannot_make NAME BOOK [OPTION..]: a run tells in one line, before it has a submission, that what
+# has this name, BOOK or its draft, can't be made, answers what it is sent, and ends with `fault open`
 cannot_make() {
-    to=$1
-    shift
+    blamed=$1 to=$2
+    shift 2
     begin $runner "$PROGRAM" collect "$@" "$table" "$to"
     holds awaits is_line_told
     cp told "$work/errors"
-    holds tells_name "$to"
+    holds tells_name "$blamed"
     holds say_ok 1
     holds end 3
     holds test "$(cat rest)" = 'fault open'
@@ -160,29 +160,32 @@ cannot_make() {
     holds is_told 3
 }
 
-# Whatever keeps BOOK from being made is told before a line is read.
+# Whatever keeps BOOK from being made is told before a line is read. No line is, where no draft has
+# a name.
 unmakable() {
     mkdir folder
     ln -s loop loop
-    for name in folder missing/book.bin '' nothing/ nothing/. folder/ loop \
-        "$(printf '%0249d' 0)" "$(printf '%0256d' 0)"; do
-        cannot_make "$name"
-    done
+    for name in '' nothing/ nothing/. folder/ loop; do holds stops_unread "$name" "$name"; done
+    for name in folder "$(printf '%0256d' 0)"; do cannot_make "$name" "$name"; done
+    long=$(printf '%0249d' 0)
+    cannot_make ".$long.pbook" "$long"
+    cannot_make missing/.book.bin.pbook missing/book.bin
     holds not test -e missing -o -e nothing
-    cannot_make missing/book.bin -q
+    cannot_make missing/.book.bin.pbook missing/book.bin -q
     : > kept
-    cannot_make missing/book.bin --journal kept
+    cannot_make missing/.book.bin.pbook missing/book.bin --journal kept
     holds test "$(cat kept)" = "$(games_of 1)"
     : > kept
-    cannot_make missing/book.bin --ledger kept
+    cannot_make missing/.book.bin.pbook missing/book.bin --ledger kept
     holds test "$(wc -l < kept)" -eq 2
     # What has the draft's name is none: a run that took the pipe for one would wait for its reader.
     with_old
     cp "$work/old" precious
-    for how in 'ln -s precious' mkfifo mkdir; do
+    for how in 'ln -s precious' 'ln -s nowhere' mkfifo mkdir; do
         $how .book.bin.pbook
-        cannot_make book.bin
+        cannot_make .book.bin.pbook book.bin
         holds is_old precious
+        holds not test -e nowhere
         holds is_old book.bin
         rm -r .book.bin.pbook
     done
@@ -199,7 +202,8 @@ unmakable_by_other() {
     chmod 777 "$place"
     chmod 555 far
     runner=as_other
-    for name in book.bin link far/book.bin far/new.bin; do cannot_make "$name"; done
+    for name in book.bin link; do cannot_make "$name" "$name"; done
+    for name in book.bin new.bin; do cannot_make "far/.$name.pbook" "far/$name"; done
     holds is_old book.bin
     holds is_old far/book.bin
     chmod 755 far
@@ -255,7 +259,7 @@ full_disk() {
     umount disk
     mount -t tmpfs -o nr_inodes=2 tmpfs "$place/disk"
     cp "$work/old" disk/book.bin
-    cannot_make disk/book.bin
+    cannot_make disk/.book.bin.pbook disk/book.bin
     holds is_old disk/book.bin
 }
 
@@ -269,7 +273,7 @@ mount_points() {
     cp "$work/old" disk/book
     mount --bind disk/kept "$ledger"
     mount --bind disk/book "$book"
-    cannot_make "$book"
+    cannot_make "$book" "$book"
     holds is_old "$book"
     holds stops_unread "$ledger" "$place/new.bin" --ledger "$ledger"
     umount "$ledger" "$book"
@@ -307,11 +311,12 @@ unrenamed() {
     holds no_draft
 }
 
-# where STATUS CONDITION PATH CALLS ERROR: a run over an old BOOK ends with this status where these
-# calls fail so over what has this path, and this holds of BOOK; none is written in place
+# where STATUS CONDITION PATH CALLS ERROR [MODE]: a run over an old BOOK of this mode ends with this
+# status where these calls fail so over what has this path, and this holds of BOOK; none is written
+# in place
 where() {
     with_old
-    chmod 640 "$book"
+    chmod "${6:-640}" "$book"
     failing "$3" "$4" "$5"
     before=$(node "$book")
     holds collects "$1" "$book"
@@ -321,9 +326,11 @@ where() {
 }
 
 failed_calls() {
-    for call in ftruncate fchmod write fsync,fdatasync; do
-        where 3 is_old "$place/.book.bin.pbook" "$call" EIO
-    done
+    draft=$place/.book.bin.pbook
+    for call in write fsync,fdatasync; do where 3 is_old "$draft" "$call" EIO; done
+    # What new files don't get by the umask has to be set, and nothing else is.
+    where 3 is_old "$draft" fchmod EIO 666
+    where 0 is_new "$draft" fchmod EPERM
     # The folder's names can't be put on the disk. It has to be one that may not be read, or that
     # knows no such sync, where that can't be tried.
     where 3 is_new "$place" fsync EIO
@@ -353,19 +360,51 @@ interrupted() {
     holds test "$(wc -l < "$work/replies")" -eq "$(wc -l < "$work/games")"
 }
 
-# A BOOK that holds games stays, whichever option was forgotten or exchanged.
+# A BOOK that holds games, or what games come from, stays, whichever option was forgotten or
+# exchanged.
 games_stay() {
     with_ledger
     head -n 1 first > header
-    cp "$work/nine" list
+    { head -c 600 /dev/zero && cat "$work/nine"; } > zeros
+    ln -s "$work/nine" link
+    printf '\357\273\277\n[Event "one"]\r\n' > pgn
+    printf '\037\213 and more' > gzip
+    printf '\050\265\057\375 and more' > zstd
+    printf 'BZh9 and more' > bzip2
+    printf '\3757zXZ and more' > xz
     : > kept
-    ln -s list link
-    for name in games.ledger header list link; do
+    while IFS='|' read -r name is; do
         for option in '' -q '--ledger kept' '--journal kept'; do
             holds stops_unread "$name" "$name" $option
-            holds tells "$name holds games, and stays"
+            holds tells "$name stays: it $is"
         done
+    done << 'END'
+games.ledger|looks like games
+header|looks like games
+link|looks like games
+zeros|looks like games
+pgn|looks like PGN
+gzip|is packed by gzip; zcat unpacks it
+zstd|is packed by zstd; zstdcat unpacks it
+bzip2|is packed by bzip2; bzcat unpacks it
+xz|is packed by xz; xzcat unpacks it
+END
+}
+
+# The path of a folder needn't be text where no link leads into it.
+odd_folder() {
+    odd=$(printf 'caf\351')
+    mkdir "$odd"
+    ln -s "$odd/book" link
+    cp "$work/old" "$odd/book"
+    holds stops_unread link link
+    cd "$odd"
+    for option in '' ledger journal; do
+        : > kept
+        for _ in 1 2; do holds collects 0 book "$work/games" ${option:+"--$option" kept}; done
+        holds is_new book
     done
+    holds no_draft
 }
 
 # killed_at CALL NUMBER COMMAND..: runs the command, which is killed as it makes the call of this name
@@ -396,14 +435,16 @@ old_or_new() {
     is_old far/book || cmp far/book book.new
 }
 
-# kills CALL OPTION..: runs with these options are killed at each call of this name, and the next run
-# takes over what each has left. Whether its book is old or new is added to `left`.
+# kills CALL OPTION..: runs with these options, which find a draft of an earlier one, are killed at
+# each call of this name, and the next run takes over what each has left. Whether its book is old or
+# new is added to `left`.
 kills() {
     call=$1 at=1
     shift
     while
         cp kept.old far/kept
         cp "$work/old" far/book
+        : > far/.book.pbook
         killed_at "$call" "$at" "$PROGRAM" collect "$@" "$table" book
     do
         holds old_or_new
@@ -432,7 +473,7 @@ killed() {
         mv far/kept kept.new
         mv far/book book.new
         : > left
-        for call in openat flock write pwrite64 ftruncate fchmod fdatasync fsync rename; do
+        for call in openat flock write pwrite64 fchmod fdatasync fsync rename unlink; do
             kills "$call" "$@"
         done
         holds test "$(sort -u left | xargs)" = 'new old'
@@ -487,6 +528,15 @@ rules() {
     # Each game begins at the start, so its line is the same where first plies alone count.
     holds ran 0 "$PROGRAM" export --plies 1 "$table" < "$work/games"
     holds cmp "$work/replies" "$work/first.epd"
+    # All moves of `fen` are played, and `tree` goes as deep as it has to.
+    knights=$(yes 'g1f3 g8f6 f3g1 f6g8' | head -n 5)
+    holds ran 0 "$PROGRAM" fen "$start" $knights
+    holds says_only "${start% 0 1} 20 11"
+    holds ran 0 "$PROGRAM" tree --plies 6 "$table" "$work/new"
+    awk 'NR > 3 { if (!/^      /) exit; print substr($0, 7) }' "$work/replies" > below
+    deeper=$("$PROGRAM" fen "$start" $(awk 'NR <= 3 { print $1 }' "$work/replies"))
+    holds ran 0 "$PROGRAM" tree --plies 3 "$table" "$work/new" "$deeper"
+    holds cmp "$work/replies" below
 }
 
 # The journals of two collectors make the book of the games that these have answered. A line that
@@ -576,7 +626,7 @@ special_files() {
     exec 9>&-
     long=$(printf '%0249d' 0)
     : > "$long"
-    holds stops_unread "$long" "$book" --ledger "$long"
+    holds stops_unread ".$long.pbook" "$book" --ledger "$long"
     holds collects 0 "$book" "$work/games" --journal "$long"
 }
 
@@ -592,7 +642,7 @@ unwritable_files() {
     done
     chmod 666 "$ledger"
     chmod 555 "$place"
-    holds stops_unread "$ledger" /dev/null --ledger "$ledger"
+    holds stops_unread "$place/.games.ledger.pbook" /dev/null --ledger "$ledger"
     chmod 755 "$place"
 }
 
@@ -646,11 +696,17 @@ first_lines() {
         holds ran_told 0 "$PROGRAM" collect --journal kept "$table" "$book"
         holds grep -q '^pbook: .*kept' "$work/errors"
     done
-    { head -c 30 /dev/zero && cat "$work/nine"; } > kept
-    holds ends 0 "$PROGRAM" collect -q --journal kept "$table" "$book" < /dev/null
+    for zeros in 30 9000; do
+        for rest in "$work/nine" /dev/null; do
+            { head -c "$zeros" /dev/zero && cat "$rest"; } > kept
+            holds ends 0 "$PROGRAM" collect -q --journal kept "$table" "$book" < /dev/null
+            holds ends 0 "$PROGRAM" collect -q --journal kept "$table" "$book" < /dev/null
+        done
+    done
 }
 
-# A disk whose errors come at the sync alone is told of, and no such run ends well.
+# A disk whose errors come at the sync alone is told of, also where BOOK fails, and no such run ends
+# well.
 unsynced_journal() {
     for error in EIO ENOSPC; do
         : > "$journal"
@@ -658,13 +714,21 @@ unsynced_journal() {
         holds collects 3 "$book" "$work/games" --journal "$journal"
         holds tells_name "$journal"
         holds not says 'fault open'
+        for name in folder missing/book /dev/full; do
+            mkdir -p folder
+            holds ends 3 $runner "$PROGRAM" collect --journal "$journal" "$table" "$name" \
+                < "$work/games" > replies 2> told
+            holds test "$(wc -l < told)" -eq 2
+            tail -n 1 told > "$work/errors"
+            holds tells_name "$journal"
+        done
     done
 }
 
 [ $# -gt 0 ] || {
     choose true '' new_book old_book streams standard_output links second_names unmakable \
         own_umask no_book_made games_stay cut_in_three old_list broken_ledger special_files \
-        first_lines rules two_journals torn_at_full_output
+        first_lines odd_folder rules two_journals torn_at_full_output
     choose 'has flock' 'flock is wanted' live_journal
     choose 'has gzip' 'gzip is wanted' no_journal
     choose can_trace 'strace is wanted' failed_calls unrenamed interrupted unsynced_journal killed

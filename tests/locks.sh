@@ -346,6 +346,9 @@ END
     cp table far/.kept.pbook
     ln -s far/kept link
     holds one_file '.* and .* are .*' games "$work/replies" far/.kept.pbook link
+    # BOOK isn't what a ledger keeps of other programs either.
+    holds one_file 'kept and kept.changed are a file and what it keeps of other programs' games \
+        "$work/replies" --ledger kept table kept.changed
 }
 
 # Files of two disks that have one number are different ones.
