@@ -222,9 +222,10 @@ client_answers() {
     "$PROGRAM" collect -q "$table" other.bin < "$work/games" > replies
     head -n 100 "$work/games" > first
     tail -n +101 "$work/games" > later
-    # A table may have a name like an option's.
+    # Table and journal may have a name like an option's.
     cp "$table" ./-table
-    asked=-table
+    mv "$journal" ./-journal
+    asked=-table journal=-journal
     client 0 '' first later
     holds cmp printed replies
     holds is_new "$book"
@@ -378,11 +379,9 @@ serves() {
         python3 -B "$top/tests/lib/service.py" "$1" "$shared/serve.py" "$table" "$work/games" > told
     [ ! -s told ] || note "$(cat told)"
 }
-serve_answers() { serves answers; }
-serve_ends() { serves ends; }
-serve_limits() { serves limits; }
-serve_slow() { serves slow; }
-serve_workers() { serves workers; }
+for it in answers browsers ends idle limits slow turns workers; do
+    eval "serve_$it() { serves $it; }"
+done
 
 # systemd takes the service that the example has, and sees a wrong one.
 serve_unit() {
@@ -563,7 +562,8 @@ has_pgn_extract() { has pgn-extract && has gzip; }
     choose has_pgn_extract 'pgn-extract and gzip are wanted' lines_of_pgn starts_of_pgn \
         bad_pgn thousand_of_pgn no_pgn bundled_pgn
     choose 'has python3' 'python3 is wanted' client_answers client_faults client_killed \
-        client_lines client_threads serve_answers serve_ends serve_limits serve_slow serve_workers
+        client_lines client_threads serve_answers serve_browsers serve_ends serve_idle \
+        serve_limits serve_slow serve_turns serve_workers
     choose 'has polyglot' 'polyglot is wanted' own_table
     choose 'has flock' 'flock is wanted' nights cut_night stopped_night bad_nights
     choose can_kill_nights 'python3 and flock are wanted' killed_nights
