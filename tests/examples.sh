@@ -379,7 +379,7 @@ serves() {
         python3 -B "$top/tests/lib/service.py" "$1" "$shared/serve.py" "$table" "$work/games" > told
     [ ! -s told ] || note "$(cat told)"
 }
-for it in answers browsers ends idle limits slow turns workers; do
+for it in answers browsers ends frozen idle limits slow turns workers; do
     eval "serve_$it() { serves $it; }"
 done
 
@@ -562,7 +562,7 @@ has_pgn_extract() { has pgn-extract && has gzip; }
     choose has_pgn_extract 'pgn-extract and gzip are wanted' lines_of_pgn starts_of_pgn \
         bad_pgn thousand_of_pgn no_pgn bundled_pgn
     choose 'has python3' 'python3 is wanted' client_answers client_faults client_killed \
-        client_lines client_threads serve_answers serve_browsers serve_ends serve_idle \
+        client_lines client_threads serve_answers serve_browsers serve_ends serve_frozen serve_idle \
         serve_limits serve_slow serve_turns serve_workers
     choose 'has polyglot' 'polyglot is wanted' own_table
     choose 'has flock' 'flock is wanted' nights cut_night stopped_night bad_nights

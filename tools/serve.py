@@ -8,7 +8,8 @@ or no line for --idle seconds (3,600 where none are given). There is no password
 127.0.0.1 by default, where workers come by `ssh -N -L 7464:127.0.0.1:7464 collector`. A browser is
 dropped, as pages of strangers may have it send games.
 
-Ctrl-C and SIGTERM end this, and the book is made. It also ends where `pbook` does, with its status,
+Ctrl-C and SIGTERM end this, and the book is made. Where that takes more than five minutes, or a
+second signal comes, `pbook` is left to itself. This also ends where `pbook` does, with its status,
 or 128 and the signal's number. Then it may be started again on the journal. Options are those of
 `pbook collect`, such as --sync. PBOOK names another program than `pbook`.
 
@@ -23,6 +24,7 @@ import selectors
 import signal
 import socket
 import sys
+import threading
 import time
 
 from client import Collector, Ended
@@ -31,7 +33,7 @@ from client import Collector, Ended
 LINE, ENDLESS = 8192, 1_000_000
 # How a browser begins, by HTTP or TLS. In a submission a TAB comes before the first space.
 BROWSER = re.compile(rb" *\S+ ( */|\S+://|.* HTTP/)|\x16\x03", re.IGNORECASE)
-SIGNALS = {signal.SIGINT, signal.SIGTERM}
+SIGNALS, PATIENCE = {signal.SIGINT, signal.SIGTERM}, 300
 
 
 class Worker:
@@ -77,12 +79,12 @@ def admit(door, ready):
             ready.register(worker.connection, selectors.EVENT_READ, worker)
 
 
-def serve(door, collector, idle):
-    """Answers those who come by this door, in turn, until a signal comes or the collector ends."""
+def serve(door, collector, idle, ending):
+    """Answers those who come by this door, in turn, until it is ending or the collector ends."""
     door.setblocking(False)
     with selectors.DefaultSelector() as ready:
         look = 0
-        while collector.child.poll() is None and not signal.sigtimedwait(SIGNALS, 0):
+        while collector.child.poll() is None and not ending.is_set():
             now = time.monotonic()
             if now >= look:
                 look = now + 1
@@ -105,6 +107,17 @@ def serve(door, collector, idle):
                         key.fileobj.close()
 
 
+def watch(ending):
+    """Tells of the first signal, and ends all where the end doesn't come."""
+    signal.sigwait(SIGNALS)
+    ending.set()
+    signal.sigtimedwait(SIGNALS, PATIENCE)
+    try:
+        sys.stderr.write("serve.py: pbook is left to itself; the journal has what was answered\n")
+    finally:
+        os._exit(1)
+
+
 def main():
     parser = argparse.ArgumentParser()
     parser.add_argument("--at", metavar="HOST:PORT", default="127.0.0.1:7464")
@@ -115,6 +128,8 @@ def main():
     at, idle, *names, options = vars(parser.parse_args()).values()
     # The child has them blocked too: it ends by the end of its input alone.
     signal.pthread_sigmask(signal.SIG_BLOCK, SIGNALS)
+    ending = threading.Event()
+    threading.Thread(target=watch, args=[ending], daemon=True).start()
     try:
         host, _, port = at.rpartition(":")
         name = host.strip("[]")
@@ -126,7 +141,7 @@ def main():
             with Collector(*names, *options, program=os.environ.get("PBOOK", "pbook")) as collector:
                 # At once, as the collector may write there too.
                 sys.stderr.write(f"serve.py: at {host}:{door.getsockname()[1]}\n")
-                serve(door, collector, idle)
+                serve(door, collector, idle, ending)
     except Ended as ended:
         sys.exit(ended.status if ended.status >= 0 else 128 - ended.status)
     except (OSError, OverflowError, ValueError) as error:

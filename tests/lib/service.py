@@ -290,6 +290,27 @@ def narrow(seconds):
     return Service(by=(sys.executable, "-B", "-c", NARROW, seconds))
 
 
+def frozen():
+    """Where the collector stands still, a signal ends the service, and a second one at once."""
+    for seconds, signals, more in (("300", 2, b""), ("1", 1, LINES[1] + b"\n")):
+        service = narrow(seconds)
+        worker, child = service.connect(), service.child()
+        assert worker.ask(LINES[0]).startswith(b"ok ")
+        os.kill(child, signal.SIGSTOP)
+        worker.send(more)
+        for _ in range(signals):
+            time.sleep(0.5)
+            assert service.process.poll() is None
+            service.process.terminate()
+        assert service.process.wait(PATIENCE) == 1
+        said = service.process.stderr.readline()
+        assert said.startswith(b"serve.py: pbook is left to itself"), said
+        with contextlib.suppress(ProcessLookupError):
+            os.kill(child, signal.SIGKILL)
+        service.ends(1)
+        assert JOURNAL.read_bytes() == LINES[0] + b"\n"
+
+
 def slow():
     """Workers that take no answers, or stop in a line, keep no other one waiting."""
     service = narrow("300")
