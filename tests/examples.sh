@@ -435,6 +435,14 @@ nights() {
     mv ./-srv srv
     # The script may be named from its own folder.
     holds ends 0 in_shared env PATH=/usr/bin:/bin ./nightly "$place/srv"
+    # Neither CDPATH nor a folder beside a clone leads astray. An archive has the program.
+    mkdir -p other/srv bin clone/tools
+    printf '#!/bin/sh\nexit 9\n' > bin/pbook
+    chmod 755 bin/pbook
+    cp "$shared/nightly" clone/tools
+    holds ends 0 env CDPATH="$place/other" PATH="$work/put/bin:$PATH" clone/tools/nightly srv
+    ln -s "$work/put/bin" clone/bin
+    holds ends 0 env PATH="$place/bin:/usr/bin:/bin" clone/tools/nightly srv
     # A night may have no games.
     : > srv/tonight.txt
     night 0 ''
@@ -463,6 +471,9 @@ cut_night() {
     printf '#!/bin/sh\nexec /usr/bin/head -n 3 tonight.txt\n' > "$work/put/bin/head"
     chmod 755 "$work/put/bin/head"
     night 1 'nightly: tonight.txt changed while it was read, and nothing was done'
+    # A signal may come before the program starts.
+    printf "#!/bin/sh\nkill \$PPID\n" > "$work/put/bin/head"
+    night 1 'nightly: ended by a signal, and nothing was done'
     rm "$work/put/bin/head"
 }
 
@@ -495,6 +506,11 @@ bad_nights() {
     begin_nights
     night 1 "nightly: $place/srv/tonight.txt can't be read"
     cp "$work/games" srv/tonight.txt
+    for name in .tonight.whole .replies.new replies replies.failed; do
+        mkdir "srv/$name"
+        holds tells_of 1 "nightly: $place/srv/$name is a folder" "$shared/nightly" srv
+        rmdir "srv/$name"
+    done
     night 0 ''
     cp srv/replies before
     failed="$place/srv/replies.failed has its answers, which may not hold"
