@@ -392,6 +392,11 @@ serve_unit() {
     sed 's|/serve.py|/none.py|' pbook.service > wrong.service
     holds not is_unit wrong.service
 }
+# The service is guarded by what systemd offers.
+serve_guarded() {
+    holds systemd-analyze security --offline=true --threshold=20 "$top/tools/pbook.service" > told
+}
+offers_offline() { systemd-analyze --help 2> /dev/null | grep -q -e --offline; }
 # is_unit FILE: whether systemd says nothing of this file
 is_unit() { systemd-analyze verify "$PWD/$1" > said 2>&1 && [ ! -s said ]; }
 
@@ -584,6 +589,7 @@ has_pgn_extract() { has pgn-extract && has gzip; }
     choose 'has flock' 'flock is wanted' nights cut_night stopped_night bad_nights
     choose can_kill_nights 'python3 and flock are wanted' killed_nights
     choose 'has systemd-analyze' 'systemd-analyze is wanted' serve_unit
+    choose offers_offline 'systemd-analyze of version 250 is wanted' serve_guarded
     choose judges_crontabs 'a crontab that looks at files is wanted' crontab_line
 }
 try_all "$@"

@@ -203,8 +203,7 @@ def limits():
     workers = [service.connect() for _ in range(30)]
     while len(os.listdir(f"/proc/{service.process.pid}/fd")) < 15:
         time.sleep(0.1)
-    # It takes little of a processor's time meanwhile, by the clock that the system has for that.
-    clock = (~service.process.pid << 3) | 2
+    clock = (~service.process.pid << 3) | 2  # the system's for its time of a processor
     used = time.clock_gettime(clock)
     time.sleep(2)
     assert time.clock_gettime(clock) - used < 0.2
@@ -221,12 +220,11 @@ def browsers():
                     b"OPTIONS * HTTP/1.1" + tail, b"CONNECT a:1 HTTP/1.1" + tail, b"GET h://a\n",
                     b"PUT /" + b"a" * 9000 + tail, b"\x16\x03\1\2\0\1\0\1\xfc\3\3\n"):
         for at in (0, 2, len(request) - 1):
-            worker = service.connect()
             with contextlib.suppress(ConnectionError):
+                worker = service.connect()
                 worker.send(request[:at])
                 time.sleep(0.05 if at else 0)
                 worker.send(request[at:] + game)
-            with contextlib.suppress(ConnectionError):
                 for answer in worker.answers:
                     assert answer == b"refused - shape\n" and request[0] == 13, (request, answer)
     assert JOURNAL.read_bytes() == b""
@@ -272,7 +270,7 @@ def idle():
 
 # Runs serve.py where the system keeps few bytes of what workers have yet to take, and with so many
 # seconds for its end.
-NARROW = """
+NARROW = sys.executable, "-B", "-c", """
 import os, socket, sys
 seconds, *sys.argv = sys.argv[1:]
 sys.path.insert(0, os.path.dirname(sys.argv[0]))
@@ -286,14 +284,10 @@ serve.main()
 """
 
 
-def narrow(seconds):
-    return Service(by=(sys.executable, "-B", "-c", NARROW, seconds))
-
-
 def frozen():
     """Where the collector stands still, a signal ends the service, and a second one at once."""
     for seconds, signals, more in (("300", 2, b""), ("1", 1, LINES[1] + b"\n")):
-        service = narrow(seconds)
+        service = Service(by=(*NARROW, seconds))
         worker, child = service.connect(), service.child()
         assert worker.ask(LINES[0]).startswith(b"ok ")
         os.kill(child, signal.SIGSTOP)
@@ -313,7 +307,7 @@ def frozen():
 
 def slow():
     """Workers that take no answers, or stop in a line, keep no other one waiting."""
-    service = narrow("300")
+    service = Service(by=(*NARROW, "300"))
     idle, deaf, worker = service.connect(), service.connect(4096), service.connect()
     idle.send(LINES[0][:9])
     deaf.send(b"\n" * 6000)
