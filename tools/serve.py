@@ -8,10 +8,10 @@ or no line for --idle seconds (3,600 where none are given). There is no password
 127.0.0.1 by default, where workers come by `ssh -N -L 7464:127.0.0.1:7464 collector`. A browser is
 dropped, as pages of strangers may have it send games.
 
-Ctrl-C and SIGTERM end this, and the book is made. Where that takes more than five minutes, or a
-second signal comes, `pbook` is left to itself. This also ends where `pbook` does, with its status,
-or 128 and the signal's number. Then it may be started again on the journal. Options are those of
-`pbook collect`, such as --sync. PBOOK names another program than `pbook`.
+Ctrl-C and SIGTERM end this, and the book is made. Where that takes more than five minutes, `pbook`
+is left to itself, and the status is 1. This also ends where `pbook` does, with its status, or 128
+and the signal's number. Then it may be started again on the journal. Options are those of `pbook
+collect`, such as --sync. PBOOK names another program than `pbook`.
 
 Usage: serve.py [--at HOST:PORT] [--idle SECONDS] [--] TABLE BOOK JOURNAL [OPTION..]
 """
@@ -33,6 +33,7 @@ from client import Collector, Ended
 LINE, ENDLESS = 8192, 1_000_000
 # How a browser begins, by HTTP or TLS. In a submission a TAB comes before the first space.
 BROWSER = re.compile(rb" *\S+ ( */|\S+://|.* HTTP/)|\x16\x03", re.IGNORECASE)
+# What ends it, and the seconds that the end may take.
 SIGNALS, PATIENCE = {signal.SIGINT, signal.SIGTERM}, 300
 
 
@@ -108,10 +109,10 @@ def serve(door, collector, idle, ending):
 
 
 def watch(ending):
-    """Tells of the first signal, and ends all where the end doesn't come."""
+    """Tells of a signal, and ends all where the collector doesn't let that happen."""
     signal.sigwait(SIGNALS)
     ending.set()
-    signal.sigtimedwait(SIGNALS, PATIENCE)
+    time.sleep(PATIENCE)
     try:
         sys.stderr.write("serve.py: pbook is left to itself; the journal has what was answered\n")
     finally:

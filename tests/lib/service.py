@@ -285,17 +285,15 @@ serve.main()
 
 
 def frozen():
-    """Where the collector stands still, a signal ends the service, and a second one at once."""
-    for seconds, signals, more in (("300", 2, b""), ("1", 1, LINES[1] + b"\n")):
-        service = Service(by=(*NARROW, seconds))
+    """A collector that stands still, in a line or not, keeps no signal from ending the service."""
+    for more in (b"", LINES[1] + b"\n"):
+        service = Service(by=(*NARROW, "2"))
         worker, child = service.connect(), service.child()
         assert worker.ask(LINES[0]).startswith(b"ok ")
         os.kill(child, signal.SIGSTOP)
         worker.send(more)
-        for _ in range(signals):
-            time.sleep(0.5)
-            assert service.process.poll() is None
-            service.process.terminate()
+        time.sleep(0.2)
+        service.process.terminate()
         assert service.process.wait(PATIENCE) == 1
         said = service.process.stderr.readline()
         assert said.startswith(b"serve.py: pbook is left to itself"), said
