@@ -51,7 +51,7 @@ class Worker:
         """Submits a line that has come whole. Of one beyond pbook's limit the front is refused as
         such. What comes behind its LF stays with the system."""
         came = self.connection.recv(LINE, socket.MSG_PEEK)
-        came = self.connection.recv(came.find(b"\n") + 1 or LINE)
+        came = self.connection.recv(came.find(b"\n") + 1 or len(came))
         self.front, self.size = (self.front + came)[: LINE + 1], self.size + len(came)
         if came.endswith(b"\n"):
             line = self.front.partition(b"\n")[0]

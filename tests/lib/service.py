@@ -256,22 +256,19 @@ def turns():
 def idle():
     """A worker from which no line comes is dropped, and one that asks now and then is not."""
     service = Service(words=("--idle", "2"))
-    silent, slow, worker = service.connect(), service.connect(), service.connect()
-    assert silent.ask(LINES[0]).startswith(b"ok ")
-    waiting = {silent.socket, slow.socket}
-    while waiting:
+    slow, worker = service.connect(), service.connect()
+    assert slow.ask(LINES[0]).startswith(b"ok ")
+    while not select.select([slow.socket], [], [], 0.1)[0]:
         assert worker.ask(LINES[1]).startswith(b"ok ")
-        with contextlib.suppress(ConnectionError):
-            slow.send(b"e")
-        waiting.difference_update(select.select(waiting, [], [], 0.1)[0])
-    assert silent.answers.read() == b"" and worker.ask(LINES[0]).startswith(b"ok ")
+        slow.send(b"e")
+    assert slow.answers.read() == b"" and worker.ask(LINES[0]).startswith(b"ok ")
     service.stops()
 
 
-# Runs serve.py where the system keeps few bytes of what workers have yet to take, and with so many
-# seconds for its end.
+# Runs serve.py where the system keeps few bytes of what workers have yet to take, with so many
+# seconds for its end. More may come after a look at what has come.
 NARROW = sys.executable, "-B", "-c", """
-import os, socket, sys
+import os, socket, sys, time
 seconds, *sys.argv = sys.argv[1:]
 sys.path.insert(0, os.path.dirname(sys.argv[0]))
 import serve
@@ -279,6 +276,11 @@ class Narrow(serve.Worker):
     def __init__(self, connection):
         connection.setsockopt(socket.SOL_SOCKET, socket.SO_SNDBUF, 4096)
         super().__init__(connection)
+def recv(self, *words):
+    came = super(socket.socket, self).recv(*words)
+    time.sleep(0.1 if words[1:] and b"\\n" not in came else 0)
+    return came
+socket.socket.recv = recv
 serve.Worker, serve.PATIENCE = Narrow, int(seconds)
 serve.main()
 """
@@ -318,6 +320,10 @@ def slow():
     for _ in range(6000):
         assert deaf.answers.readline() == b"refused - shape\n"
     assert idle.ask(LINES[0][9:]).startswith(b"ok ")
+    worker.send(LINES[5][:9])
+    time.sleep(0.05)
+    worker.send(LINES[5][9:] + b"\n" + LINES[6] + b"\n")
+    assert [worker.answers.readline()[:3] for _ in "ab"] == [b"ok "] * 2
     service.stops()
 
 
