@@ -392,7 +392,6 @@ serve_unit() {
     sed 's|/serve.py|/none.py|' pbook.service > wrong.service
     holds not is_unit wrong.service
 }
-# The service is guarded by what systemd offers.
 serve_guarded() {
     holds systemd-analyze security --offline=true --threshold=20 "$top/tools/pbook.service" > told
 }
@@ -442,8 +441,7 @@ nights() {
     holds ends 0 in_shared env PATH=/usr/bin:/bin ./nightly "$place/srv"
     # Neither CDPATH nor a folder beside a clone leads astray. An archive has the program.
     mkdir -p other/srv bin clone/tools
-    printf '#!/bin/sh\nexit 9\n' > bin/pbook
-    chmod 755 bin/pbook
+    ln -s /bin/false bin/pbook
     cp "$shared/nightly" clone/tools
     holds ends 0 env CDPATH="$place/other" PATH="$work/put/bin:$PATH" clone/tools/nightly srv
     ln -s "$work/put/bin" clone/bin

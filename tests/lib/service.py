@@ -248,8 +248,7 @@ def turns():
     os.kill(service.process.pid, signal.SIGCONT)
     assert worker.answers.readline().startswith(b"ok ")
     assert all(worker.ask(line).startswith(b"ok ") for line in LINES[1:5])
-    came = sum(len(it.socket.recv(64000)) // 16 for it in floods)
-    assert 32 <= came < 64000, came
+    assert 32 <= sum(len(it.socket.recv(64000)) // 16 for it in floods) < 64000
     service.stops()
 
 
@@ -297,8 +296,7 @@ def frozen():
         time.sleep(0.2)
         service.process.terminate()
         assert service.process.wait(PATIENCE) == 1
-        said = service.process.stderr.readline()
-        assert said.startswith(b"serve.py: pbook is left to itself"), said
+        assert service.process.stderr.readline().startswith(b"serve.py: pbook is left to itself")
         with contextlib.suppress(ProcessLookupError):
             os.kill(child, signal.SIGKILL)
         service.ends(1)
