@@ -333,19 +333,16 @@ wrong_use() {
     done
     holds tells_of 2 "an argument isn't UTF-8" show "$(printf 'book\377.bin')"
     holds test ! -s "$work/replies"
+    # A word has no line of its own, nor what a terminal would do.
+    holds tells_of 2 "unexpected argument 'b\\npbook: fake\\u{1b}[31m' found" \
+        show book.bin "$(printf 'b\npbook: fake\033[31m')"
 }
 
-# Which arguments are wanted is told too.
+# Which arguments are wanted is told too, in one line.
 arguments_wanted() {
     input=/dev/null
     while IFS='|' read -r words wanted; do
-        "$PROGRAM" $words < "$input" > "$work/replies" 2> "$work/errors" || status=$?
-        holds test "$status" -eq 2
-        {
-            echo 'pbook: the following required arguments were not provided:'
-            printf '  %s\n' $wanted
-        } > due
-        holds cmp "$work/errors" due
+        holds tells_of 2 "the following required arguments were not provided: $wanted" $words
     done << 'END'
 collect|<TABLE> <BOOK>
 collect table.txt|<BOOK>
@@ -511,7 +508,7 @@ told_yet() { grep -qxF "pbook: $1" told; }
 told_at_once() {
     rm games
     begin "$PROGRAM" collect table.txt missing/book.bin
-    holds awaits told_yet 'missing/book.bin: no such file or directory'
+    holds awaits told_yet 'missing/.book.bin.pbook: no such file or directory'
     echo '[Event "one game"]' >&3
     holds awaits told_yet 'standard input looks like PGN, not like submissions'
     holds end 3
@@ -529,28 +526,27 @@ no_file() {
     done
 }
 
-# A book takes the place of something else that is no book with a warning, and of games not at all.
+# A book takes the place of something else that is no book, nor may hold games, with a warning.
 other_book() {
     others
     cp table.txt table.bin
+    head -c 1601 "$work/new" > cut
+    { tail -c 16 "$work/new" && cat "$work/new"; } > falling
     while read -r file looks; do
         cp "$file" other.bin
         holds tells_of 0 "other.bin: a book takes its place; it $looks" collect table.txt other.bin
         cp "$file" other.bin
         holds tells_of 0 '' collect -q table.txt other.bin
     done << END
-pgn looks like PGN
-packed is packed by gzip; zcat unpacks it
 table.bin looks like a table
 text is text
+cut is neither text nor a book
+falling is neither text nor a book
 END
     for file in /dev/null book.bin; do
         cp "$file" other.bin
         holds tells_of 0 '' collect table.txt other.bin
     done
-    cp games list
-    each_tells 3 'list holds games, and stays' '*' 'collect table.txt list' \
-        'collect -q table.txt list'
 }
 
 # A name with control characters is told in one line, which has none.
@@ -618,6 +614,10 @@ no_games() {
     printf 'torn\t\t\t\t\n' > sealed
     : > empty
     each_tells 0 '' '' 'games header' 'games sealed' 'games empty'
+    for torn in t 'torn\t1-0' '\000\000'; do
+        printf "$torn" > torn
+        each_tells 0 'torn: its last line has no end; it is left out' '' 'games torn'
+    done
     while IFS='|' read -r file text; do
         skipped=$(seq -f "$file: line %g can't be taken; it is skipped" "$(wc -l < "$file")")
         holds tells_of 1 "$skipped
@@ -639,12 +639,13 @@ text|
 END
 }
 
-# to_itself COMMAND..: runs the command, whose output comes behind the games that are read, up to a
-# limit
+# to_itself COMMAND..: runs the command, whose output comes behind what is in the file $own that is
+# read, up to a limit
+own=games
 to_itself() (
     trap '' XFSZ
     ulimit -f 100
-    exec "$@" >> games
+    exec "$@" >> "$own"
 )
 
 # What is printed into a file that is read would be read again, for ever.
@@ -657,6 +658,15 @@ games_to_themselves() {
     for words in check 'collect table.txt new.bin' 'lookup table.txt book.bin' epd; do
         holds over games 3 '/dev/stdin and /dev/stdout are one file' $words
         holds cmp games before
+    done
+    for own in table.txt book.bin; do
+        cp "$own" before
+        for words in 'export table.txt' 'show book.bin' 'probe table.txt book.bin x' \
+            'lookup table.txt book.bin' 'tree table.txt book.bin'; do
+            case $words in *"$own"*) ;; *) continue ;; esac
+            holds tells_of 3 "$own and /dev/stdout are one file" $words
+            holds cmp "$own" before
+        done
     done
 }
 
@@ -841,6 +851,9 @@ lost_games() {
     holds tells_of 0 '' collect -q table.txt book.bin
     sed -i '1,2d' million
     holds tells_of 0 'refused as full: 1 game' export table.txt
+    { echo 'pbook-ledger 1' && cat million; } > kept
+    holds over games 1 "kept: line 1000002 isn't a game that can be taken
+kept: at most 1,000,000 games are held" collect --ledger kept table.txt book.bin
 }
 
 # What FILE holds is told from new games, where no new one comes too.
