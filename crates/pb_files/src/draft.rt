@@ -67,8 +67,14 @@ impl<'a> Draft<'a> {
             file: None,
         };
         let made = claimed.file();
-        opened(Named::new(named.messages, claimed.draft.as_str()), made)?;
+        claimed.opened(made)?;
         Ok(Some(claimed))
+    }
+
+    /// Gives what was opened as the draft, or tells that it can't be.
+    fn opened<T>(&self, answer: io::Result<T>) -> Result<T, StoreError> {
+        let (messages, draft) = (self.named.messages, self.draft.as_str());
+        opened(Named::new(messages, draft), answer)
     }
 
     /// Makes the draft, in the place of one that a run has left that was killed: owner, permissions
