@@ -250,8 +250,10 @@ full_disk() {
     cp "$work/old" disk/book.bin
     cp first disk/games.ledger
     holds collects 3 "$place/disk/book.bin" "$work/long"
+    holds tells "$place/disk/book.bin: no space left on device"
     holds collects 3 "$place/disk/book.bin" "$work/games" --ledger "$place/disk/games.ledger"
     holds not says 'fault open'
+    holds tells "$place/disk/games.ledger: no space left on device"
     holds is_old disk/book.bin
     holds cmp disk/games.ledger first
     holds no_draft
@@ -273,9 +275,9 @@ mount_points() {
     cp "$work/old" disk/book
     mount --bind disk/kept "$ledger"
     mount --bind disk/book "$book"
-    cannot_make "$book" "$book"
+    cannot_make "$place/.book.bin.pbook" "$book"
     holds is_old "$book"
-    holds stops_unread "$ledger" "$place/new.bin" --ledger "$ledger"
+    holds stops_unread "$place/.games.ledger.pbook" "$place/new.bin" --ledger "$ledger"
     umount "$ledger" "$book"
     cp "$work/old" far.bin
     mount --bind far.bin "$book"
@@ -327,10 +329,9 @@ where() {
 
 failed_calls() {
     draft=$place/.book.bin.pbook
-    for call in write fsync,fdatasync; do where 3 is_old "$draft" "$call" EIO; done
-    # What new files don't get by the umask has to be set, and nothing else is.
-    where 3 is_old "$draft" fchmod EIO 666
-    where 0 is_new "$draft" fchmod EPERM
+    for call in fchmod write fsync,fdatasync; do where 3 is_old "$draft" "$call" EIO; done
+    # Permissions that are right aren't set.
+    where 0 is_new "$draft" fchmod EPERM 644
     # The folder's names can't be put on the disk. It has to be one that may not be read, or that
     # knows no such sync, where that can't be tried.
     where 3 is_new "$place" fsync EIO

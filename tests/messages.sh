@@ -81,23 +81,6 @@ no_permission() {
     holds says 'fault open'
 }
 
-one_file() {
-    ln -s table.txt table.link
-    cp games kept
-    ln kept kept.link
-    while read -r one other words; do
-        each_tells 3 "$one and $other are one file" 'fault open' "collect $words"
-    done << END
-table.txt table.link table.txt table.link
-table.link table.txt table.link table.txt
-table.txt table.link --ledger table.link table.txt book.bin
-kept kept.link --ledger kept table.txt kept.link
-table.txt table.link --journal kept table.txt table.link
-table.txt table.link -q table.txt table.link
-END
-    holds cmp table.txt "$work/table"
-}
-
 failed_reads() {
     mkdir folder
     each_tells 3 'folder: is a directory' 'fault read' 'collect folder book.bin' 'export folder' \
@@ -162,26 +145,6 @@ closed_pipe() {
 
 full_book() {
     holds tells_of 3 '/dev/full: no space left on device' collect table.txt /dev/full
-}
-
-full_disk() {
-    mkdir disk
-    mount -t tmpfs -o size=16k tmpfs "$place/disk"
-    head -c 9000 /dev/zero > disk/zero
-    : > disk/games.ledger
-    : > disk/games.journal
-    input=$work/games
-    while read -r file words; do
-        holds tells_of 3 "disk/$file: no space left on device" collect $words
-    done << END
-book.bin table.txt disk/book.bin
-games.ledger --ledger disk/games.ledger table.txt book.bin
-games.journal --journal disk/games.journal table.txt book.bin
-END
-    holds not test -e disk/book.bin
-    holds test ! -s disk/games.ledger
-    holds is_old book.bin
-    umount disk
 }
 
 # with_line NUMBER TEXT: the table with another text in this line
@@ -273,19 +236,6 @@ other_table|; it looks like a table
 text|
 END
     holds is_old book.bin
-}
-
-# A last line of FILE without an end is taken, and told of.
-cut_ledger() {
-    : > whole
-    holds tells_of 0 '' collect --ledger whole table.txt book.bin
-    for option in '' -q; do
-        head -c -1 whole > games.ledger
-        text='the last line of games.ledger has no end; it may be a cut game'
-        [ "$option" = '' ] || text=
-        holds tells_of 0 "$text" collect $option --ledger games.ledger table.txt book.bin
-        holds cmp whole games.ledger
-    done
 }
 
 # A refused record or move is told in words. What was refused of lines isn't told: the output has
@@ -513,17 +463,6 @@ told_at_once() {
     holds awaits told_yet 'standard input looks like PGN, not like submissions'
     holds end 3
     holds test "$(wc -l < told)" -eq 2
-}
-
-# What FILE can't be is told before a submission is read.
-no_file() {
-    each_tells 3 '/dev/null: it has to be an ordinary file' 'fault open' \
-        'collect --ledger /dev/null table.txt book.bin' \
-        'collect --journal /dev/null table.txt book.bin'
-    for option in '' --sync -q; do
-        each_tells 1 "book.bin: line 1 isn't a game that can be taken; it looks like a book" \
-            'refused journal line 1' "collect $option --journal book.bin table.txt new.bin"
-    done
 }
 
 # A book takes the place of something else that is no book, nor may hold games, with a warning.
@@ -967,17 +906,16 @@ terminal_use() {
 }
 
 [ $# -gt 0 ] || {
-    choose true '' missing_files one_file failed_reads closed_pipe refused_tables refused_books \
+    choose true '' missing_files failed_reads closed_pipe refused_tables refused_books \
         refused_ledger refused_words wrong_use arguments_wanted words_too_many help_width \
         asked_help begun_input no_game bad_journal_line told_at_once other_book odd_names \
-        left_out_lines no_games games_to_themselves cut_ledger cut_input no_file reasons counted
+        left_out_lines no_games games_to_themselves cut_input reasons counted
     choose 'test -c /dev/full' '/dev/full is wanted' full_output full_book quiet_faults \
         without_errors summaries
     choose is_proved 'a program without proof is slow' lost_games
     choose 'has gzip' 'gzip is wanted' other_input
     choose can_trace 'strace is wanted' no_more_files
     choose can_be_other 'setpriv is wanted' no_permission
-    choose can_mount 'nothing can be mounted' full_disk
     choose 'has script' 'script is wanted' terminal terminal_again terminal_some_new \
         terminal_torn terminal_progress terminal_shared terminal_typed terminal_use
 }
