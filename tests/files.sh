@@ -6,7 +6,7 @@
 # journals. The first check that doesn't hold ends it.
 # Usage: PROGRAM=program tests/files.sh [CHECK..] (at the top of the repository; all checks where
 # none is given).
-# shellcheck disable=SC2086 # what isn't quoted is more words than one
+# shellcheck disable=SC2046,SC2086 # what isn't quoted is more words than one
 set -eu
 PROGRAM=${PROGRAM:-build/pbook}
 . tests/lib/harness.sh
@@ -639,6 +639,7 @@ unwritable_files() {
         chmod "$mode" "$ledger"
         for option in --ledger --journal; do
             holds stops_unread "$ledger" "$place/new.bin" "$option" "$ledger"
+            holds tells "$ledger: permission denied"
         done
     done
     chmod 666 "$ledger"

@@ -327,11 +327,41 @@ on_old_file() {
         collect --journal file --plies 8 --least 2 ../table book
 }
 
+# in_space KILOBYTES WORD..: runs the program in so much address space; how it ended is $status
+in_space() {
+    space=$1 status=0
+    shift
+    rm -rf "$work/run"
+    cp -Rd "$work/old" "$work/run"
+    # shellcheck disable=SC3045 # dash and bash have this limit
+    (ulimit -v "$space" && run_in "$work/run" "$work/few" "$@") > "$work/put" \
+        2> "$work/errors" || status=$?
+}
+
+# Where the address space is short, be it the stack that gets none, no run is ended by a signal.
+short_of_space() {
+    : > "$work/old/file"
+    least=4000
+    until in_space "$least" --version && [ "$status" -eq 2 ]; do
+        least=$((least + 100))
+        holds test "$least" -lt 40000
+    done
+    for space in $(seq "$least" 100 $((least + 4000))); do
+        in_space "$space" collect ../table book
+        holds test "$status" -le 3
+        in_space "$space" collect --journal file ../table book
+        holds test "$status" -le 3
+        in_space "$space" export ../table
+        holds test "$status" -le 3
+    done
+}
+
 try 'version' helped nothing --version
 try 'probe, refused' shown nothing probe ../table ../book "$start 1"
 try 'a file that is not there' shown nothing probe ../table ../no_book "$start"
 try 'export' exported few export ../table
 try 'export of some plies' exported few export --plies 6 --least 2 ../table
 each_run try on_old_file
+check 'no run is ended by a signal where the address space is short' short_of_space
 echo "$(count '^alone 1' "$work/logs") growths refused, $(count . "$work/logs") runs"
 finish

@@ -67,20 +67,6 @@ missing_files() {
     holds is_old book.bin
 }
 
-no_permission() {
-    chmod 000 table.txt
-    runner=as_other
-    each_tells 3 'table.txt: permission denied' 'fault open' 'export table.txt'
-    chmod 644 table.txt
-    : > kept
-    chmod 000 kept
-    each_tells 3 'kept: permission denied' 'fault open' 'collect --ledger kept table.txt book.bin' \
-        'collect --journal kept table.txt book.bin'
-    chmod 444 book.bin
-    holds tells_of 3 'book.bin: permission denied' collect table.txt book.bin
-    holds says 'fault open'
-}
-
 failed_reads() {
     mkdir folder
     each_tells 3 'folder: is a directory' 'fault read' 'collect folder book.bin' 'export folder' \
@@ -141,10 +127,6 @@ closed_pipe() {
         'collect -q table.txt book.bin' 'collect --ledger kept table.txt book.bin' \
         'collect --journal kept table.txt book.bin'
     holds is_old book.bin
-}
-
-full_book() {
-    holds tells_of 3 '/dev/full: no space left on device' collect table.txt /dev/full
 }
 
 # with_line NUMBER TEXT: the table with another text in this line
@@ -469,7 +451,7 @@ told_at_once() {
 other_book() {
     others
     cp table.txt table.bin
-    head -c 1601 "$work/new" > cut
+    head -c 1601 "$work/new" > cut.bin
     { tail -c 16 "$work/new" && cat "$work/new"; } > falling
     while read -r file looks; do
         cp "$file" other.bin
@@ -479,7 +461,7 @@ other_book() {
     done << END
 table.bin looks like a table
 text is text
-cut is neither text nor a book
+cut.bin is neither text nor a book
 falling is neither text nor a book
 END
     for file in /dev/null book.bin; do
@@ -554,7 +536,7 @@ no_games() {
     : > empty
     each_tells 0 '' '' 'games header' 'games sealed' 'games empty'
     for torn in t 'torn\t1-0' '\000\000'; do
-        printf "$torn" > torn
+        printf %b "$torn" > torn
         each_tells 0 'torn: its last line has no end; it is left out' '' 'games torn'
     done
     while IFS='|' read -r file text; do
@@ -910,12 +892,11 @@ terminal_use() {
         refused_ledger refused_words wrong_use arguments_wanted words_too_many help_width \
         asked_help begun_input no_game bad_journal_line told_at_once other_book odd_names \
         left_out_lines no_games games_to_themselves cut_input reasons counted
-    choose 'test -c /dev/full' '/dev/full is wanted' full_output full_book quiet_faults \
+    choose 'test -c /dev/full' '/dev/full is wanted' full_output quiet_faults \
         without_errors summaries
     choose is_proved 'a program without proof is slow' lost_games
     choose 'has gzip' 'gzip is wanted' other_input
     choose can_trace 'strace is wanted' no_more_files
-    choose can_be_other 'setpriv is wanted' no_permission
     choose 'has script' 'script is wanted' terminal terminal_again terminal_some_new \
         terminal_torn terminal_progress terminal_shared terminal_typed terminal_use
 }

@@ -1,7 +1,8 @@
 #!/bin/sh
 # Builds programs with mistakes that the proofs let pass, since no contract tells of the disk, and
 # tries that the other scripts see them: a wrong program may not pass the check that each of its
-# mistakes names. The program without a mistake passes them all.
+# mistakes names. The program without a mistake passes them all; a mistake whose check isn't tried
+# over that one, for want of a tool, is left out.
 #
 # A mistake is a file tests/wrong_programs/PROGRAM-MISTAKE.edit: lines that tell what it does, a
 # line `seen by: SCRIPT CHECK`, a line `file: NAME` for each file below crates/ that it
@@ -18,13 +19,14 @@ unset PROGRAM
 . tests/lib/harness.sh
 . scripts/lib/unproved.sh
 
-# has_seer FILE: whether the check, or the run of tests/io.sh, that is to see this mistake is there
+# has_seer FILE: whether the check, or the run of tests/io.sh, that is to see this mistake is one of
+# those that the script tries
 has_seer() {
     seer=$(seen_by "$1")
     case $seer in
         'io.sh '*) grep -qF " '${seer#* }' " tests/io.sh tests/lib/small_runs.sh ;;
         order.sh\ * | locks.sh\ * | messages.sh\ * | files.sh\ *)
-            grep -qx "${seer#* }() {" "tests/${seer%% *}"
+            sed -n '/^ *choose /,/[^\\]$/p' "tests/${seer%% *}" | grep -qw -- "${seer#* }"
             ;;
         *) return 1 ;;
     esac
@@ -90,6 +92,7 @@ passes() {
         cat "$work/verdict"
         exit 1
     }
+    sed -n "s/^ok: \([^:]*\).*/$1 \1/p" "$work/verdict" >> "$work/passed"
     note "$(tail -n 1 "$work/verdict")"
 }
 
@@ -123,7 +126,8 @@ fi
 [ $# -gt 0 ] || set -- right $(programs)
 strace -o /dev/null true 2> /dev/null || {
     leave_out 'strace is wanted' "$@"
-    exit 0
+    finish
+    exit
 }
 for program; do
     check "the program is built: $program" build "$program"
@@ -140,6 +144,10 @@ for program; do
     for file in tests/wrong_programs/"$program"-*.edit; do
         mistake=$(basename "$file" .edit)
         seer=$(seen_by "$file")
+        if [ -e "$work/passed" ] && ! grep -qxF "$seer" "$work/passed"; then
+            leave_out "$seer isn't tried" "$mistake"
+            continue
+        fi
         check "a mistake is seen: $mistake" is_seen "$program" "${seer%% *}" "${seer#* }"
     done
 done
