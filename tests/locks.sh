@@ -601,7 +601,8 @@ lost_claims() {
     echo precious > precious
     lost_claim 3 ln -sf precious .book.bin.pbook
     holds test "$(cat precious)" = precious
-    rm -f .book.bin.pbook
+    holds test -L .book.bin.pbook
+    rm .book.bin.pbook
     lost_claim 3 sh -c 'rm .book.bin.pbook && mkdir .book.bin.pbook'
     rmdir .book.bin.pbook
 }
@@ -623,6 +624,7 @@ claimed_by_another() {
     holds end 3
     holds grep -qx "pbook: $book: it is in use by another run" told
     cd ..
+    holds test -e .book.bin.pbook
     holds not test -s "$book"
     cat "$work/games" >&5
     exec 5>&-
