@@ -17,22 +17,15 @@ grep "^${start% 0 1} " examples/export.epd > "$work/first.epd"
 head -n 9 "$work/games" > "$work/nine"
 sed -n 10,14p "$work/games" > "$work/few"
 
-# Games of two kings that walk round a pawn of each, whose book has more than 64 kilobytes.
-awk '
-    function row(file, piece) { return (file ? file : "") piece (file < 7 ? 7 - file : "") }
-    BEGIN {
-        white = split("e1 d1 c1 b1 a1 a2 b2 c2 d2 e2 f2 g2 h2 h1 g1 f1", w, " ")
-        black = split("e8 d8 c8 b8 a8 a7 b7 c7 d7 e7 f7 g7 g8 f8", b, " ")
-        for (ply = 0; ply < 112; ply++) {
-            moves = moves w[ply % white + 1] w[(ply + 1) % white + 1] " "
-            moves = moves b[ply % black + 1] b[(ply + 1) % black + 1] " "
-        }
-        sub(/ $/, "", moves)
-        for (n = 0; n < 24; n++) {
-            setup = sprintf("4k3/8/%s/8/8/%s/8/4K3", row(n % 8, "p"), row(int(n / 8), "P"))
-            printf "long-%d\t1/2-1/2\t%s w - - 0 1\t%s\n", n, setup, moves
-        }
-    }' > "$work/long"
+# Games of pawns in two ranks, whose book has more than 64 kilobytes.
+awk 'BEGIN {
+    for (n = 0; n < 5000; n++) {
+        pawns = ""
+        for (bit = 1; bit <= 4096; bit *= 2) pawns = pawns (int(n / bit) % 2 ? "P" : "p")
+        setup = "4k3/8/8/" substr(pawns, 1, 8) "/" substr(pawns, 9) "3/8/8/4K3 w - - 0 1"
+        printf "long-%d\t1/2-1/2\t%s\te1d1\n", n, setup
+    }
+}' > "$work/long"
 
 # makes BOOK [FILE]: a run makes the new book of BOOK, which is this file, and leaves no draft
 makes() {
@@ -599,9 +592,10 @@ broken_ledger() {
         $broken first > "$ledger"
         cp "$ledger" found
         holds ends 1 "$PROGRAM" collect -q --ledger "$ledger" "$table" "$book" \
-            < "$work/few" > "$work/replies"
+            < "$work/few" > "$work/replies" 2> "$work/errors"
         [ "$broken" = 'head -c -3' ] && line=$(wc -l < first) || line=5
         holds says_only "refused ledger line $line"
+        holds tells "$ledger: line $line isn't a game that can be taken"
         holds cmp "$ledger" found
         holds is_old "$book"
         holds no_draft

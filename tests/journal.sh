@@ -14,26 +14,16 @@ kills=${KILLS:-200}
 cd "$work"
 mkfifo games
 
-# A walk of kings is a legal game of its own for each number. Two workers have one half of them
-# each; each sends 60 in a run, of which 30 are those of the run before.
+# Each number has a game of its own, of two ranks of pawns and kings that walk to and fro. Two workers
+# have one half of them each; each sends 60 in a run, of which 30 are those of the run before.
 awk -v games=$((60 * (kills + 1))) 'BEGIN {
-    white = split("e1 d1 c1 b1 a1 a2 b2 c2 d2 e2 f2 g2 h2 h1 g1 f1", w, " ")
-    black = split("e8 d8 c8 b8 a8 a7 b7 c7 d7 e7 f7 g7 g8 f8", b, " ")
     for (i = 0; i < games; i++) {
-        moves = ""
-        for (ply = 0; ply < 10 + i % 60; ply++) {
-            moves = moves w[(i + ply) % white + 1] w[(i + ply + 1) % white + 1] " "
-            moves = moves b[ply % black + 1] b[(ply + 1) % black + 1] " "
-        }
-        sub(/ $/, "", moves)
-        square = w[i % white + 1]
-        file = index("abcdefgh", substr(square, 1, 1))
-        rank = ""
-        if (file > 1) rank = rank (file - 1)
-        rank = rank "K"
-        if (file < 8) rank = rank (8 - file)
-        start = substr(square, 2) == "1" ? "4k3/8/8/8/8/8/8/" rank : "4k3/8/8/8/8/8/" rank "/8"
-        printf "w%d-%d\t1-0\t%s w - - 0 1\t%s\n", i % 2, i, start, moves
+        moves = "e1d1"
+        for (turn = i % 60; turn > 0; turn--) moves = moves " e8d8 d1e1 d8e8 e1d1"
+        pawns = ""
+        for (bit = 1; bit <= 32768; bit *= 2) pawns = pawns (int(i / bit) % 2 ? "P" : "p")
+        setup = "4k3/8/8/" substr(pawns, 1, 8) "/" substr(pawns, 9) "/8/8/4K3 w - - 0 1"
+        printf "w%d-%d\t1-0\t%s\t%s\n", i % 2, i, setup, moves
     }
 }' > all
 grep '^w0' all > half0

@@ -427,11 +427,11 @@ is_changed() {
 }
 
 # changed_file HOW OPTION FILE [OPTION..]: another program changes the FILE of a run over two games
-# in the midst of it; what it left is `left`
+# in the midst of it; what it left is `left`. All of it is in a folder of its own.
 changed_file() {
-    how=$1 file=$3
-    mkdir "$*"
-    cd "$*"
+    how=$1 file=$3 folder=$((${folder-0} + 1))
+    mkdir "$folder"
+    cd "$folder"
     shift
     : > "$file"
     [ "$file" != games.ledger ] || whole_ledger 9 > "$file"
@@ -458,7 +458,6 @@ changed_journals() {
                 holds not test -e book.bin -a -e answered
                 holds is_changed games.journal
                 cd ..
-                rm -r "$how"*
             done
         done
     done
@@ -506,8 +505,8 @@ changed_ledgers() {
         changed_file "$how" --ledger games.ledger
         holds end 0
         holds cmp games.ledger.changed left
-        { whole_ledger 9 && games_of 1; } > whole
-        holds cmp games.ledger whole
+        { whole_ledger 9 && games_of 1; } > ../whole
+        holds cmp games.ledger ../whole
         holds test "$(wc -l < told)" -eq 1
         holds grep -q '^pbook: .*games\.ledger.*games\.ledger\.changed' told
         holds test -z "$(find . -name '.*.pbook')"
@@ -516,18 +515,12 @@ changed_ledgers() {
     holds test "$(cat "$work/first")" = "$(games_of 9)"
     # Where that name is taken, or too long, the new one stays the draft.
     for file in games.ledger "$(printf '%0248d' 0)"; do
-        mkdir "kept$file"
-        cd "kept$file"
-        : > "$file"
-        begin "$PROGRAM" collect -q --ledger "$file" "$table" book.bin
-        holds say_ok 1
-        printf 'torn' >> "$file"
-        cp "$file" left
+        changed_file longer --ledger "$file" -q
         why='file name too long'
         [ "$file" != games.ledger ] || { : > "$file.changed" && why='file exists'; }
         holds end 3
         holds cmp "$file" left
-        whole_ledger 1 | cmp - ".$file.pbook"
+        holds test "$(tail -n 1 ".$file.pbook")" = "$(games_of 1)"
         until="the new one is .$file.pbook, until the next run over $file removes it"
         printf 'pbook: %s\n' "$file.changed: $why" \
             "$file: another program has changed it; $until" | cmp - told
@@ -549,7 +542,7 @@ changed_ledgers() {
         changed_file "$how" --ledger games.ledger
         holds end 0
         holds test ! -s told
-        holds cmp games.ledger "../replaced --ledger games.ledger/whole"
+        holds cmp games.ledger ../whole
         cd ..
     done
     for how in touched named given; do

@@ -198,14 +198,8 @@ END
 }
 
 refused_ledger() {
-    : > games.ledger
     cp "$work/new" new.bin
     cp table.txt other_table
-    holds tells_of 0 '' collect --ledger games.ledger table.txt book.bin
-    cp "$work/old" book.bin
-    sed '5s/.*/no game/' games.ledger > broken
-    each_tells 1 "broken: line 5 isn't a game that can be taken" 'refused ledger line 5' \
-        'collect --ledger broken table.txt book.bin'
     others
     while IFS='|' read -r file text; do
         each_tells 1 "$file: line 1 isn't a game that can be taken$text" 'refused ledger line 1' \

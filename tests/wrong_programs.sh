@@ -126,8 +126,7 @@ fi
 [ $# -gt 0 ] || set -- right $(programs)
 strace -o /dev/null true 2> /dev/null || {
     leave_out 'strace is wanted' "$@"
-    finish
-    exit
+    finish && exit
 }
 for program; do
     check "the program is built: $program" build "$program"
