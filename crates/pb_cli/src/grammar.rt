@@ -167,12 +167,21 @@ Below each move, two spaces further in, are those that the book has after it.
 For example, two plies from the start of a game:
   pbook tree --plies 2 table.txt book.bin
 prints lines such as
-  e2e4 287
-    e7e5 120
-    c7c5 96
-  d2d4 43",
+  e2e4 287 84%
+    e7e5 120 50%
+    c7c5 96 40%
+  d2d4 43 12%",
     )
     .arg(number(alloc, "plies", "N", "4", MAX_PLIES, "Go N plies deep"))?
+    .arg(
+        option(
+            alloc,
+            "weight",
+            "W",
+            "Leave out moves of a weight below W",
+        )
+        .value_parser(ValueParser::unsigned(1, 65535)),
+    )?
     .arg(required(alloc, "TABLE", TABLE_HELP))?
     .arg(required(alloc, "BOOK", BOOK_HELP))?
     .arg(

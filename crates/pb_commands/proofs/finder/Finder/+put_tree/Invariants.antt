@@ -1,6 +1,6 @@
 use Rattle.std.proofs.Common.{◌+◌, ◌-◌}
 use Rattle.pb_moves.specs.Successor.{after}
-use Rattle.pb_commands.specs.Tree.{Tree}
+use Rattle.pb_commands.specs.Tree.{Tree, branch_line}
 use Rattle.pb_commands.proofs.Trees.{PutsBranches}
 use Rattle.pb_commands.proofs.finder.Finder.+put_tree.Given as goal
 
@@ -12,4 +12,4 @@ abbrev pub invariant-loop-m : goal.invariant-loop-m
 invariant-loop-m g l =
     let state = g.K.Sink.state in
     let f = l.fn in
-    PutsBranches (λ m. Tree f.self.table f.self.book (f.plies - 1) (f.depth + 1) (after f.setup m)) f.depth l.m-items l.m-index (state l.initial.sink) (state l.sink)
+    PutsBranches (branch_line f.depth l.sum) (λ m. Tree f.self.table f.self.book f.least (f.plies - 1) (f.depth + 1) (after f.setup m)) l.m-items l.m-index (state l.initial.sink) (state l.sink)
