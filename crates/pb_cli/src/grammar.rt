@@ -173,15 +173,9 @@ prints lines such as
   d2d4 43 12%",
     )
     .arg(number(alloc, "plies", "N", "4", MAX_PLIES, "Go N plies deep"))?
-    .arg(
-        option(
-            alloc,
-            "weight",
-            "W",
-            "Leave out moves of a weight below W",
-        )
-        .value_parser(ValueParser::unsigned(1, 65535)),
-    )?
+    .arg(option(alloc, "weight", "W", "Leave out moves of a weight below W").value_parser(
+        ValueParser::unsigned(1, 65535),
+    ))?
     .arg(required(alloc, "TABLE", TABLE_HELP))?
     .arg(required(alloc, "BOOK", BOOK_HELP))?
     .arg(
