@@ -150,9 +150,16 @@ pub indented : (old new : SinkState) (answer : Result (Unit {0}) Failed) (depth 
     → Put old new answer (with_end (indent ++ branch_text sum x)) → Put old new answer (branch_line depth sum x)
 indented old new answer depth sum indent x is put = subst (λ bytes. Put old new answer (with_end (bytes ++ branch_text sum x))) is put
 
+-- the book has moves for the position of which these are shown, and that is the sum of all weights
+pub record HasMoves (words : List ℕ) (entries : List Entry) (least : ℕ) (s : Position) (sum : ℕ) (pairs : List (Moved × ℕ)) : Type 0 where
+  pub all : List (Moved × ℕ)
+  pub found : Found entries words s all
+  pub sum_is : sum ≡ sum_of_weights all
+  pub kept : pairs ≡ heavy least all
+
 -- the moves of a position below which there are some plies
-module _ (words : List ℕ) (entries : List Entry) (least plies depth : ℕ) (s : Position) (setup : IsSetup s) (some : 0 < plies) (all : List (Moved × ℕ)) (found : Found entries words s all)
-    (sum : ℕ) (sum_is : sum ≡ sum_of_weights all) (pairs : List (Moved × ℕ)) (kept : pairs ≡ heavy least all) where
+module _ (words : List ℕ) (entries : List Entry) (least plies depth : ℕ) (s : Position) (setup : IsSetup s) (some : 0 < plies) (sum : ℕ) (pairs : List (Moved × ℕ))
+    (has : HasMoves words entries least s sum pairs) where
   abbrev line : Moved × ℕ → List ℕ
   line x = branch_line depth sum x
 
@@ -167,19 +174,19 @@ module _ (words : List ℕ) (entries : List Entry) (least plies depth : ℕ) (s 
 
   tree_of : (text : List ℕ) → Branches line below pairs text → tree text
   tree_of text h = subst (λ n. Tree words entries least n depth s text) (sym one_deeper)
-      (all, found, subst (λ n. Branches (branch_line depth n) below (heavy least all) text) sum_is (subst (λ (ps : List (Moved × ℕ)). Branches line below ps text) kept h))
+      (has.all, has.found, subst (λ n. Branches (branch_line depth n) below (heavy least has.all) text) has.sum_is (subst (λ (ps : List (Moved × ℕ)). Branches line below ps text) has.kept h))
 
   branches_of : (text : List ℕ) → tree text → Branches line below pairs text
   branches_of text h =
       let x = subst (λ n. Tree words entries least n depth s text) one_deeper h in
-      let here = subst (λ (ps : List (Moved × ℕ)). Branches (branch_line depth (sum_of_weights ps)) below (heavy least ps) text) (found_is_one entries words s x.0 all setup x.1 found) x.2 in
-      subst (λ (ps : List (Moved × ℕ)). Branches line below ps text) (sym kept) (subst (λ n. Branches (branch_line depth n) below (heavy least all) text) (sym sum_is) here)
+      let here = subst (λ (ps : List (Moved × ℕ)). Branches (branch_line depth (sum_of_weights ps)) below (heavy least ps) text) (found_is_one entries words s x.0 has.all setup x.1 has.found) x.2 in
+      subst (λ (ps : List (Moved × ℕ)). Branches line below ps text) (sym has.kept) (subst (λ n. Branches (branch_line depth n) below (heavy least has.all) text) (sym has.sum_is) here)
 
   module _ (i : ℕ) (old mid : SinkState) (before : PutsBranches line below pairs i old mid) where
     -- one of them
     module _ (x : Moved × ℕ) (at : x ≡ get_or pairs i x) (within : i < length pairs) where
       legal_here : Legal s (get_or pairs i x).0
-      legal_here = subst (AreLegal s) (sym kept) (heavy_legal words s entries least all found) i x within
+      legal_here = subst (AreLegal s) (sym has.kept) (heavy_legal words s entries least has.all has.found) i x within
 
       legal_at : Legal s x.0
       legal_at = subst (λ (p : Moved × ℕ). Legal s p.0) (sym at) legal_here

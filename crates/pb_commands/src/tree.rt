@@ -4,7 +4,8 @@ ghost use Rattle.std.specs.Prelude.{◌≡◌, ◌+◌, ◌<◌, ◌^◌, ◌++�
 ghost use Rattle.pb_board.specs.LineEnd.{with_end};
 ghost use Rattle.pb_board.specs.Position.{IsSetup};
 ghost use Rattle.pb_io.specs.Sink.{Put};
-ghost use Rattle.pb_commands.specs.Tree.{PutsTree, Tree, branch_text, share, sum_of_weights};
+ghost use Rattle.pb_commands.specs.Tree.{PutsTree, Tree, branch_text, heavy, share};
+ghost use Rattle.pb_commands.specs.Tree.{sum_of_weights};
 ghost use Rattle.pb_commands.specs.TreeRun.{GrowsTree};
 
 use crate::finder::Finder;
@@ -62,7 +63,7 @@ impl Finder {
         let indent = b"  ".repeat(self.alloc, depth)?;
         let mut found = probe(self.alloc, &self.book, &self.table, setup)?;
         let sum = sum_of_weights(found.as_slice());
-        found.retain(|(_, weight)| u32::from(*weight) >= least);
+        keep_heavy(&mut found, least);
         for (m, weight) in found.as_slice() {
             put_branch(sink, indent.as_slice(), m, *weight, sum)?;
             // What is found is legal.
@@ -81,6 +82,12 @@ fn sum_of_weights(found: &[(Move, u16)]) -> u128
         sum += u128::from(*weight);
     }
     sum
+}
+
+fn keep_heavy(found: &mut Vec<(Move, u16)>, least: u32)
+    ensures { found.new.items ≡ heavy least found.old.items }
+{
+    found.retain(|(_, weight)| u32::from(*weight) >= least);
 }
 
 /// Puts the line of a move behind an indent, with its share of the sum.
