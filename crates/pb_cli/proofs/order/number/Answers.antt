@@ -6,8 +6,7 @@ use Rattle.pb_cli.proofs.Matches.{number_given}
 use Rattle.pb_cli.proofs.order.number.Goals as goal
 
 pub returns : goal.returns
-returns c =
-    let of_text = ap (λ o. unwrap_or o 0) in (
-      λ said small is. c.unwrap_or.ensures ∙ of_text (number_given c.args.given.now c.args.id.now _ said c.get_one.ensures.value small is),
-      λ unset. c.unwrap_or.ensures ∙ of_text (c.get_one.ensures.none (one_text-rows (found_of c.args.given.now) c.args.id.now ∙ unset)),
-    )
+returns c = (
+  λ said small is. c.unwrap_or.ensures ∙ ap (λ o. unwrap_or o 0) (number_given c.args.given.now c.args.id.now _ said c.get_one.ensures.value small is),
+  λ unset. c.unwrap_or.ensures ∙ ap (λ o. unwrap_or o 0) (c.get_one.ensures.none (one_text-rows (found_of c.args.given.now) c.args.id.now ∙ unset)),
+)
