@@ -69,7 +69,7 @@ bash_options() {
     holds offers '--ledger --journal --sync --plies --least --summary -q --quiet --help' \
         pbook collect -
     holds offers '--plies --least --summary -q --quiet --help' pbook export -
-    holds offers '--plies --help' pbook tree -
+    holds offers '--plies --weight --help' pbook tree -
     holds offers '--sync --summary' pbook collect table.txt --s
     holds offers --summary pbook export --s
     for command in check lookup games show probe fen epd; do
@@ -87,6 +87,7 @@ bash_options() {
         holds offers '' pbook collect "$option" = ''
         holds offers table.txt pbook collect "$option" 24 ta
     done
+    holds offers table.txt pbook tree --weight 10 ta
     # Other options have no value.
     holds offers book.bin pbook collect --sync -q table.txt bo
     holds offers '' pbook collect --summary table.txt book.bin bo

@@ -57,7 +57,7 @@ case_of lookup_book 1 places lookup table noise
 case_of lookup_table 1 places lookup noise book
 case_of lookup_missing 3 places lookup table missing
 case_of tree 0 empty tree table book
-case_of tree_plies 0 empty tree --plies 8 table book "$start"
+case_of tree_plies 0 empty tree --plies 8 --weight 2 table book "$start"
 case_of tree_book 1 empty tree table noise
 case_of tree_table 1 empty tree noise book
 case_of tree_missing 3 empty tree table missing

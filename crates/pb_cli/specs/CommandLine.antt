@@ -67,10 +67,12 @@ abbrev pub lookup_command : App
 lookup_command = with_rule (with_rule (new_app (codes "lookup"))
     (required_argument (codes "TABLE"))) (required_argument (codes "BOOK"))
 
--- by default it goes four plies deep from the initial array
+-- by default it goes four plies deep from the initial array, over moves of any weight
 abbrev pub tree_command : App
-tree_command = with_rule (with_rule (with_rule (with_rule (new_app (codes "tree"))
-    (number (codes "plies") (codes "4") 1024)) (required_argument (codes "TABLE")))
+tree_command = with_rule (with_rule (with_rule (with_rule (with_rule (new_app (codes "tree"))
+    (number (codes "plies") (codes "4") 1024))
+    (record (option (codes "weight")) { parser = Some (Unsigned 1 65535) }))
+    (required_argument (codes "TABLE")))
     (required_argument (codes "BOOK")))
     (argument_or (codes "rnbqkbnr/pppppppp/8/8/8/8/PPPPPPPP/RNBQKBNR w KQkq - 0 1") (codes "FEN"))
 

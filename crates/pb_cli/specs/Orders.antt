@@ -27,7 +27,7 @@ name_of Epd = codes "epd"
 name_of (Show _) = codes "show"
 name_of (Probe _ _ _) = codes "probe"
 name_of (Lookup _ _) = codes "lookup"
-name_of (Tree _ _ _ _) = codes "tree"
+name_of (Tree _ _ _ _ _) = codes "tree"
 name_of Check = codes "check"
 name_of (Collect _) = codes "collect"
 name_of (Export _) = codes "export"
@@ -72,9 +72,11 @@ HasRules rules rows = (said : CountingRules) → AreRules said
     → SaysNumber (codes "plies") said.plies rows → SaysNumber (codes "least") said.least rows
     → rules ≡ said
 
--- the number is that which the option of this name says
+-- the number is that which the option of this name says, and 0 where it wasn't given
 abbrev pub HasNumber : Text → ℕ → List Row → Type 0
-HasNumber id number rows = (said : ℕ) → said < 2 ^ 32 → SaysNumber id said rows → number ≡ said
+HasNumber id number rows =
+    ((said : ℕ) → said < 2 ^ 32 → SaysNumber id said rows → number ≡ said)
+    × (one_of id rows ≡ None → number ≡ 0)
 
 -- the order has the arguments of these matches; the others have none
 abbrev pub HasArguments : Order → List Row → Type 0
@@ -85,7 +87,8 @@ HasArguments (Probe table book fen) rows = HasArgument (codes "TABLE") table row
     × HasArgument (codes "BOOK") book rows × HasArgument (codes "FEN") fen rows
 HasArguments (Lookup table book) rows =
     HasArgument (codes "TABLE") table rows × HasArgument (codes "BOOK") book rows
-HasArguments (Tree plies table book fen) rows = HasNumber (codes "plies") plies rows
+HasArguments (Tree plies weight table book fen) rows = HasNumber (codes "plies") plies rows
+    × HasNumber (codes "weight") weight rows
     × HasArgument (codes "TABLE") table rows × HasArgument (codes "BOOK") book rows
     × HasArgument (codes "FEN") fen rows
 HasArguments (Collect given) rows = HasRules given.rules rows × HasKeeping given.kept rows

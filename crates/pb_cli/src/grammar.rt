@@ -162,17 +162,21 @@ fn tree<'a>(alloc: Global) -> Result<Command<'a>, AllocError>
         "Prints a book's moves from a position on, as a tree",
         "pbook tree [OPTIONS] <TABLE> <BOOK> [FEN]",
         "\
-Below each move, two spaces further in, are those that the book has after it.
+Each move has its weight, and its share of all weights there in per cent. Below
+it, two spaces further in, are those that the book has after it.
 
 For example, two plies from the start of a game:
   pbook tree --plies 2 table.txt book.bin
 prints lines such as
-  e2e4 287
-    e7e5 120
-    c7c5 96
-  d2d4 43",
+  e2e4 287 85%
+    e7e5 90 40%
+    c7c5 64 28%
+  d2d4 43 12%",
     )
     .arg(number(alloc, "plies", "N", "4", MAX_PLIES, "Go N plies deep"))?
+    .arg(option(alloc, "weight", "W", "Leave out moves of a weight below W").value_parser(
+        ValueParser::unsigned(1, 65535),
+    ))?
     .arg(required(alloc, "TABLE", TABLE_HELP))?
     .arg(required(alloc, "BOOK", BOOK_HELP))?
     .arg(

@@ -67,6 +67,8 @@ pub enum Order<'a> {
     Tree {
         /// How many plies deep.
         plies: u32,
+        /// The least weight that is shown, or 0 where none was given.
+        weight: u32,
         /// The path of the table.
         table: &'a str,
         /// The path of the book.
@@ -177,6 +179,7 @@ fn order_of<'a>(alloc: Global, matches: &ArgMatches<'a>) -> Result<Order<'a>, Pa
         }),
         Some(("tree", given)) => Ok(Order::Tree {
             plies: number(given, "plies"),
+            weight: number(given, "weight"),
             table: text(given, "TABLE"),
             book: text(given, "BOOK"),
             record: text(given, "FEN"),

@@ -15,12 +15,12 @@ use Rattle.pb_commands.specs.declared.refusal.Stopped.TheVariants as stopped
 
 -- The table is read, then the book, and then the record is judged, as by `probe`. The tree of the
 -- record's setup is shown.
-abbrev pub GrowsTree : ℕ → SourceState → SourceState → SourceState → SourceState → List ℕ → ℕ
+abbrev pub GrowsTree : ℕ → SourceState → SourceState → SourceState → SourceState → List ℕ → ℕ → ℕ
     → SinkState → SinkState → Result Bool Stopped → Type 0
-GrowsTree fills t t' b b' fen plies sink sink' result =
+GrowsTree fills t t' b b' fen plies least sink sink' result =
     WithSources fills t t' b b' (λ words entries. ByInput (AsRecord fen)
     (λ f. (ended : Result (Unit {0}) Fault)
-    × ShowsTree (Tree words entries plies 0 f.setup) sink sink' ended
+    × ShowsTree (Tree words entries least plies 0 f.setup) sink sink' ended
     × (result ≡ result_map_both (λ _. true) (λ fault. stopped.Fault fault) ended))
     (λ e. StopsOrEnds (λ verdict. verdict ≡ record_verdict e) sink sink' result))
     (λ refusal. StopsOrEnds (λ verdict. verdict ≡ refusal) sink sink' result)

@@ -1,7 +1,8 @@
 //! Laws of how commands end, as contracts of functions that do nothing.
 
 ghost use Rattle.std.specs.Bool.{Decides};
-ghost use Rattle.std.specs.Prelude.{◌≡◌, ℕ, Bool, Err, IfOk, List, Ok, Result, Some};
+ghost use Rattle.std.specs.Prelude.{◌≡◌, ◌+◌, ◌*◌, ◌<◌, ◌≤◌, ℕ, Bool, Err, IfOk, List, Ok, Result};
+ghost use Rattle.std.specs.Prelude.{Some};
 ghost use Rattle.pb_io.specs.LineTask.{IfKnown};
 ghost use Rattle.pb_io.specs.Lines.{lines};
 ghost use Rattle.pb_io.specs.Sink.{SinkState};
@@ -21,6 +22,7 @@ ghost use Rattle.pb_commands.specs.LookupRun.{LooksUp};
 ghost use Rattle.pb_commands.specs.LookupShown.{LookupShown};
 ghost use Rattle.pb_commands.specs.ProbeShown.{ProbeShown, ProbesSources};
 ghost use Rattle.pb_commands.specs.Refused.{taken};
+ghost use Rattle.pb_commands.specs.Tree.{share};
 ghost use Rattle.pb_commands.specs.declared.refusal.Stopped.{Stopped};
 ghost use Rattle.pb_commands.specs.declared.run.Report.{Report};
 
@@ -74,4 +76,11 @@ pub fn lookup_ends()
         → b.to_come ≡ Some book → s.to_come ≡ Some bytes → LooksUp fills t t' b b' s s' k k' result
         → IfOk (taken result)
         (PutsText (LookupShown (AsTable table) (AsBook book) (lines bytes)) k k') }
+{}
+
+/// A share is in per cent and rounded down. Where all weights are 0 it is 0.
+pub fn shares()
+    ensures down { (sum weight : ℕ) → 0 < sum → (share sum weight * sum ≤ 100 * weight)
+        × (100 * weight < (share sum weight + 1) * sum) }
+    ensures none { (weight : ℕ) → share 0 weight ≡ 0 }
 {}

@@ -107,12 +107,14 @@ fn run(page: &mut Page, call: &[&str]) -> Done {
             let mut book = source_in(ends, "input", "reader:3", file.as_bytes());
             run_probe(alloc, &mut table, &mut book, fen, &mut sink, fills)
         }
-        ("tree", [table, plies, fen, entries @ ..]) => {
+        ("tree", [table, plies, least, fen, entries @ ..]) => {
             let file = file_of(alloc, entries)?;
-            let (fen, plies) = (fen.as_bytes(), small_of(plies));
+            let (fen, plies, least) = (fen.as_bytes(), small_of(plies), small_of(least));
             let mut table = source_in(ends, "table", "reader:1000", table.as_bytes());
             let mut book = source_in(ends, "input", "reader:3", file.as_bytes());
-            unless_stopped(answer_tree(alloc, &mut table, &mut book, fen, plies, &mut sink, fills))
+            unless_stopped(answer_tree(
+                alloc, &mut table, &mut book, fen, plies, least, &mut sink, fills,
+            ))
         }
         _ => return collecting::answer(page, call),
     };

@@ -25,13 +25,13 @@ _pbook() {
     case $last in
         *[\<\>] | '>|') _pbook_files "$word"; return ;;
         --ledger | --journal) _pbook_files "$word"; return ;;
-        --plies | --least) return ;;
+        --plies | --least | --weight) return ;;
     esac
     if [[ $word == -* ]]; then
         case ${COMP_WORDS[1]} in
             collect) COMPREPLY=($(compgen -W '--ledger --journal --sync --plies --least --summary -q --quiet --help' -- "$word")) ;;
             export) COMPREPLY=($(compgen -W '--plies --least --summary -q --quiet --help' -- "$word")) ;;
-            tree) COMPREPLY=($(compgen -W '--plies --help' -- "$word")) ;;
+            tree) COMPREPLY=($(compgen -W '--plies --weight --help' -- "$word")) ;;
             *) COMPREPLY=($(compgen -W '--help' -- "$word")) ;;
         esac
         return
@@ -40,7 +40,7 @@ _pbook() {
     local files=0 before=0 at
     for ((at = 2; at < COMP_CWORD; at++)); do
         case ${COMP_WORDS[at]} in
-            --ledger | --journal | --plies | --least)
+            --ledger | --journal | --plies | --least | --weight)
                 at=$((at + 1))
                 if [ "${COMP_WORDS[at]}" = = ]; then at=$((at + 1)); fi ;;
             *[\<\>] | '>|') at=$((at + 1)) ;;

@@ -22,6 +22,7 @@ complete -c pbook -n '__fish_seen_subcommand_from help' -a "$commands"
 complete -c pbook -n '__fish_seen_subcommand_from collect export games show probe lookup tree' -F
 complete -c pbook -n '__fish_seen_subcommand_from collect export' -l plies -x -d 'Count the first plies of each game'
 complete -c pbook -n '__fish_seen_subcommand_from tree' -l plies -x -d 'Go so many plies deep'
+complete -c pbook -n '__fish_seen_subcommand_from tree' -l weight -x -d 'Leave out lighter moves'
 complete -c pbook -n '__fish_seen_subcommand_from collect export' -l least -x -d 'Leave out moves that occur fewer times'
 complete -c pbook -n '__fish_seen_subcommand_from collect export' -l summary -d 'Sum up what became of the lines'
 complete -c pbook -n '__fish_seen_subcommand_from collect export' -s q -l quiet -d 'Print only errors on standard error'

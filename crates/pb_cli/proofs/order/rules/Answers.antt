@@ -7,4 +7,4 @@ returns c = λ said right plies least.
     let most_plies = right.plies.1 in
     let most_least = right.least.1 in
     rw c.unwrap_or.ensures (rules_given c.new.result c.number.result c.number-2.result said _ c.new.ensures
-    (c.number.ensures said.plies (omega arith) plies) (c.number-2.ensures said.least (omega arith) least) right)
+    (c.number.ensures.0 said.plies (omega arith) plies) (c.number-2.ensures.0 said.least (omega arith) least) right)
