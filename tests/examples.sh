@@ -122,12 +122,16 @@ pgn_to_lines: $file.pgn: games: 3, left out: $out" "$shared/pgn_to_lines" w "$fi
 !it has a comment that isn't closed|\n1. e4 e5 {oh\n1-0
 !it has a variation that isn't closed|\n1. e4 e5 (1... c5 2. Nf3 1-0
 !Failed to exit from variation.|\n1. e4 e5) 2. Nf3 1-0
+!it has a tag between its moves|\n1. e4 [ e5 1-0
+!its text ends before its result|\n1. e4 e51-0
+!it has 3 moves, of which Scid takes 2|\n1. e4 $1N e5 *
+!it has 3 moves, of which Scid takes 2|\n1. e4 e5 =+Nf3 1-0
 !it has a null move|\n1. -- e5 1-0
 !it has a null move|\n1. e4 e5 2. -- Nf6 1-0
 !Failed to parse the move: Nf6|\n1. e4 e5 2. Nf6 1-0
 !Failed to parse the move: Sf3|\n1. e4 e5 2. Sf3 1-0
 !it has 4 moves, of which Scid takes 3|\n1. e4 e5 2. Nf3 Bb3 1-0
-!it has 2 moves, of which Scid takes 3|\n1. e4 e5 2. Dd4 1-0
+!it has the word Dd4, which is no move|\n1. e4 e5 2. Dd4 1-0
 !Warning: illegal castling O-O|\n1. e4 e5 2. Nf3 Nf6 3. Be2 Be7 4. Kf1 Kf8 5. Ke1 Ke8 6. O-O 1-0
 !Error parsing the tag pair: FEN "none"|[FEN "none"]\n\n1. e4 1-0
 !it is of the variant atomic|[Variant "atomic"]\n\n1. e4 e5 1-0
