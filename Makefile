@@ -15,8 +15,8 @@ UNPROVED := build/unproved/pbook
 INSTALLED := crates/worked_examples/data/installed
 
 # What is put in share/pbook: files for users' own games, to be read and to be run.
-SHARED_FILES := examples/games.pgn $(addprefix tools/,pbook.service submissions.awk)
-SHARED_SCRIPTS := $(addprefix tools/,client.py serve.py nightly pgn_to_lines table_from_polyglot)
+SHARED_FILES := examples/games.pgn tools/pbook.service
+SHARED_SCRIPTS := $(addprefix tools/,client.py serve.py nightly pgn_to_book pgn_to_lines table_from_polyglot)
 
 # Ends a goal that needs the toolchain where that isn't there.
 WANTS_TOOLCHAIN = command -v rt > /dev/null || { \

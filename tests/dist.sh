@@ -103,7 +103,7 @@ workers() {
     holds grep -q '^the book is examples/book.bin$' "$work/told"
 }
 
-# printed_games: the games of examples/games.txt as pgn-extract prints them
+# printed_games: the games of examples/games.txt as PGN
 printed_games() {
     awk -F'\t' '{ printf "[Event \"?\"]\r\n[Result \"%s\"]\r\n\r\n", $2 }
         { sub(/ $/, ""); printf "%s%s%s\r\n\r\n", $4, $4 == "" ? "" : " ", $2 }' examples/games.txt
@@ -115,41 +115,26 @@ refuses() {
     [ ! -s "$work/printed" ] && [ "$(wc -l < "$work/errors")" -eq 1 ]
 }
 
-# submissions: submissions.awk makes the fields of examples/games.txt but for the ids, and counts
-submissions() {
-    printed_games | awk -v worker=w -f tools/submissions.awk > "$work/lines"
-    cut -f 2- examples/games.txt > "$work/due"
-    cut -f 2- "$work/lines" > "$work/found"
-    holds cmp "$work/due" "$work/found"
-    holds test "$(tail -n 1 "$work/lines" | cut -f 1)" = "w-$(wc -l < examples/games.txt)"
-    printf '[FEN "4k3/7P/8/8/8/8/8/4K3 w - - 0 1"]\n\nh7h8Q e8d7 1-0\n\n1/2-1/2\n' |
-        awk -v worker=w -f tools/submissions.awk > "$work/lines"
-    printf '%s\t%s\t%s\t%s\n' w-1 1-0 '4k3/7P/8/8/8/8/8/4K3 w - - 0 1' 'h7h8q e8d7' \
-        w-2 1/2-1/2 'rnbqkbnr/pppppppp/8/8/8/8/PPPPPPPP/RNBQKBNR w KQkq - 0 1' '' > "$work/due"
-    holds cmp "$work/due" "$work/lines"
-    holds refuses awk -v worker=w -f tools/submissions.awk /dev/null
-    holds refuses awk -f tools/submissions.awk /dev/null
-}
-
-# steps: the commands from PGN to a book, as README has them, are in $work/commands
+# steps: the command from PGN to a book, as README has it, is in $work/commands, and what it tells
+# in $work/due
 steps() {
-    sed -n 's/^       \([a-z].*[a-z].* > [a-z.]*\)$/\1/p' README.md > "$work/commands"
-    holds test "$(wc -l < "$work/commands")" -eq 3
+    awk '/^    \$ sh tools\/pgn_to_book / { found = 1 } found && !/^    / { exit }
+        found { print substr($0, 5) }' README.md > "$work/block"
+    sed -n 's/^\$ //p' "$work/block" > "$work/commands"
+    sed 1d "$work/block" > "$work/due"
+    holds test "$(wc -l < "$work/commands")" -eq 1
 }
 
-# from_bundled_pgn: these commands, run as they stand there, make a book of the bundled games: 20,
-# of which one has no result
+# from_bundled_pgn: this command makes a book of the bundled games, and tells what stands there
 from_bundled_pgn() {
     steps
-    holds grep -q ' examples/games.pgn ' "$work/commands"
     env PATH="$PWD/bin:$PATH" sh -eu "$work/commands" 2> "$work/errors"
-    holds test "$(grep -c '^ok ' replies)" -eq 19
-    holds test "$(grep -v '^ok ' replies)" = 'refused w1-11 result'
+    holds same_lines "$work/due" "$work/errors"
     holds test -s book.bin
-    rm lines table.txt replies book.bin
+    rm table.txt book.bin
 }
 
-# from_pgn: over other games the same commands make PolyGlot's own entries
+# from_pgn: over other games the same command makes PolyGlot's own entries
 from_pgn() {
     steps
     printed_games | tr -d '\r' > "$work/moves.pgn"
@@ -214,7 +199,7 @@ shared() {
     for file in tools/*; do
         holds cmp "$file" "share/pbook/${file#*/}"
         case $file in
-            *.awk | *.service) holds test ! -x "$file" ;;
+            *.service) holds test ! -x "$file" ;;
             *) holds test -x "$file" -a -x "share/pbook/${file#*/}" ;;
         esac
     done
@@ -272,7 +257,6 @@ fi
 check "README's first commands print what stands there" in_top first_run
 check "README's figures are those of PERFORMANCE" figures
 check 'two workers make the bundled book' in_top workers
-check 'submissions.awk makes submissions' in_top submissions
 check 'another table is refused' in_top table_refused
 check 'what converts games lies in share/pbook too' in_top shared
 check 'where no program stands, none is made' no_program
@@ -281,11 +265,11 @@ if no_rt_there; then
 else
     leave_out 'rt is in /usr/bin' 'goals say that they need the toolchain'
 fi
-if has pgn-extract && has polyglot; then
-    check 'from PGN to a book by the commands of README' in_top from_bundled_pgn
-    check "over other games they make PolyGlot's entries" in_top from_pgn
+if has pgn-extract && has polyglot && has tkscid; then
+    check 'from PGN to a book by the command of README' in_top from_bundled_pgn
+    check "over other games it makes PolyGlot's entries" in_top from_pgn
     check 'the commands of GUIDE' guide
 else
-    leave_out 'pgn-extract and polyglot are wanted' 'from PGN to a book'
+    leave_out 'scid, pgn-extract and polyglot are wanted' 'from PGN to a book'
 fi
 finish

@@ -1,6 +1,6 @@
 #!/bin/sh
 # Tries the scripts of tools/, which users run on their own games, as `make install` puts them in
-# place: pgn_to_lines, client.py, serve.py and nightly, and what they do at faults. The first
+# place: pgn_to_book, pgn_to_lines, client.py, serve.py and nightly, and what they do at faults. The first
 # check that doesn't hold ends it. Those that want another program are left out where it is missing.
 # KILLS=number kills so many nights and services, where 12 and 4 are killed else.
 # Usage: PROGRAM=program tests/examples.sh [CHECK..] (at the top of the repository; all checks where
@@ -38,11 +38,11 @@ tells_of() {
 
 lines_of_pgn() {
     head -n 59 "$work/games" | tr -d '\r' > games
-    # Without -w, pgn-extract breaks a line of more than some 1,000 plies.
-    long=$(yes g1f3 g8f6 f3g1 f6g8 | head -n 300 | paste -sd ' ')
+    long=$(yes g1f3 g8f6 f3g1 f6g8 | head -n 1500 | paste -sd ' ')
     printf 'long\t1-0\t%s\t%s\n' "$start" "$long" >> games
+    # Scid takes moves of both spellings.
     sed 40q games | as_pgn | pgn-extract -s -Wsan > one.pgn
-    sed 1,40d games | as_pgn | pgn-extract -s -Wsan > -two.pgn
+    sed 1,40d games | as_pgn > -two.pgn
     # The last line has no end, and no empty line follows it.
     head -c -2 one.pgn > short && mv short one.pgn
     # Lines may end in CR LF, as on Windows.
@@ -55,20 +55,12 @@ lines_of_pgn() {
     done
     note "-two.pgn two.pgn$packed"
     awk -F'\t' -v OFS='\t' '{ $1 = "w1-" NR; print }' games > lines
-    for two in -two.pgn two.pgn $packed; do
-        holds tells_of 0 "pgn_to_lines: one.pgn: games: 40, left out: 0, cut: 0
-pgn_to_lines: $two: games: 20, left out: 0, cut: 0" \
-            "$shared/pgn_to_lines" w1 one.pgn "$two"
+    for two in -two.pgn two.pgn $packed -; do
+        holds tells_of 0 "pgn_to_lines: one.pgn: games: 40, left out: 0
+pgn_to_lines: $two: games: 20, left out: 0" \
+            "$shared/pgn_to_lines" w1 one.pgn "$two" < two.pgn
         holds cmp printed lines
     done
-    # Lines may end in CR LF, and the games want a name.
-    sed 's/$/\r/' one.pgn | pgn-extract -s -Wuci -w 100000 | sed 's/$/\r/' > uci
-    awk -v worker=w1 -f "$shared/submissions.awk" uci > printed
-    head -n 40 lines > due
-    holds cmp printed due
-    holds tells_of 1 'submissions.awk: give the games a name: -v worker=NAME' \
-        awk -f "$shared/submissions.awk" uci
-    holds test ! -s printed
 }
 
 # The start of a game may have no clocks.
@@ -77,8 +69,8 @@ starts_of_pgn() {
         printf '[Result "1-0"]\n[SetUp "1"]\n[FEN "%s"]\n\n1. e4 Kd7 1-0\n\n' "$start" \
             > "start${start##* }.pgn"
     done
-    holds tells_of 0 'pgn_to_lines: start-.pgn: games: 1, left out: 0, cut: 0
-pgn_to_lines: start9.pgn: games: 1, left out: 0, cut: 0' \
+    holds tells_of 0 'pgn_to_lines: start-.pgn: games: 1, left out: 0
+pgn_to_lines: start9.pgn: games: 1, left out: 0' \
         "$shared/pgn_to_lines" w1 start-.pgn start9.pgn
     holds test "$(cut -f 3 printed)" = '4k3/8/8/8/8/8/4P3/4K3 w - - 0 1
 4k3/8/8/8/8/8/4P3/4K3 w - - 3 9'
@@ -86,35 +78,77 @@ pgn_to_lines: start9.pgn: games: 1, left out: 0, cut: 0' \
     holds test "$(count '^ok' replies)" -eq 2
 }
 
-# Of five games the second one isn't legal, and the fourth one has no result.
-bad_pgn() {
-    {
-        printf '[Event "1"]\n[Result "1-0"]\n\n1. e4 e5 2. Nf3 1-0\n\n'
-        printf '[Event "2"]\n[Result "1-0"]\n\n1. e4 e5 2. Nf6 1-0\n\n'
-        printf '[Event "3"]\n[Result "0-1"]\n\n'
-        printf '1. d4 {+0.3/12 0.5s} d5 (1... Nf6 2. c4) 2. c4 0-1\n\n'
-        printf '[Event "4"]\n[Result "1-0"]\n\n1. e4 c5\n\n'
-        printf '[Event "5"]\n[Result "*"]\n\n1. c4 e5 *\n'
-    } > bad.pgn
-    holds tells_of 0 'pgn_to_lines: bad.pgn: games: 5, left out: 1, cut: 1' \
-        "$shared/pgn_to_lines" w1 bad.pgn
-    {
-        printf 'w1-1\t1-0\t%s\te2e4 e7e5 g1f3\n' "$start"
-        printf 'w1-2\t0-1\t%s\td2d4 d7d5 c2c4\n' "$start"
-        printf 'w1-4\t*\t%s\tc2c4 e7e5\n' "$start"
-    } > due
-    grep -v '^w1-3' printed > lines
-    holds cmp due lines
+# Between two good games stands one of these: what is due, the result and moves of it or behind `!`
+# why it is left out, and then its text. No game gets shorter, and those after it keep their number.
+odd_pgn() {
+    cases=0
+    while IFS='|' read -r wanted text; do
+        cases=$((cases + 1))
+        printf '[Event "1"]\n\n1. c4 1-0\n\n[Event "2"]\n%b\n\n[Event "3"]\n\n1. a3 *\n' "$text" > odd.pgn
+        { printf '\357\273\277' && sed 's/$/\r/' odd.pgn; } > windows.pgn
+        for file in odd windows; do
+            case $wanted in
+                '!'*) out=1 said="pgn_to_lines: $file.pgn: game 2, w-2, is left out: ${wanted#!}" ;;
+                *) out=0 said= ;;
+            esac
+            holds tells_of 0 "$said
+pgn_to_lines: $file.pgn: games: 3, left out: $out" "$shared/pgn_to_lines" w "$file.pgn"
+            cut -f 1,2,4 printed | tr '\t' ' ' > found
+            printf '%s\n' 'w-1 1-0 c2c4' "w-2 $wanted" 'w-3 * a2a3' | grep -v '!' > due
+            holds same_lines due found
+        done
+    done <<'END'
+1-0 e2e4 e7e5 g1f3|\n1. e4 {a {b} e5 {d4\n2. d4} 2. Nf3 (2. c3 {)} (2. a3) d5 1-0) {x} 1-0
+1-0 e2e4 e7e5 g1f3 b8c6|\n1. e4! $1 e5 $19 2. Nf3!? += Nc6?? 1-0
+1-0 e2e4 e7e5|\n1. e4 ; 1. d4 {\n1... e5\n% 2. d4\n1-0
+1-0 e2e4 e7e5|[Site "caf\0351"]\n\n1. e4 {M\0374ller} e5 1-0
+1-0 e2e4 e7e5|\n1. e4 {+0.3/12 0.5s} e5 {-0.2/11 0.4s}\n{Black resigns} 1-0 {so it is}
+1-0 e2e4 e7e5|[Variant "Standard"]\n\n1. e4 { [%clk 0:01:00] } 1... e5 { [%eval 0.2]\n[%clk 0:00:59] } 1-0
+1-0 e2e4 e7e5 g1f3 b8c6 f1c4 f8c5 e1g1 g8f6|\n1. e4 e5 2. Nf3 Nc6 3. Bc4 Bc5 4. 0-0 Nf6 1-0
+1-0 e2e4 e7e5 g1f3 b8c6 f1c4 f8c5 e1g1|\n1. e4 e5 2. Nf3 Nc6 3. Bc4 Bc5 4. o-o 1-0
+1-0 e2e4 a7a6 e4e5 d7d5 e5d6|\n1. e4 a6 2. e5 d5 3. exd6 e.p. 1-0
+1-0 e2e4 e7e5 f1b5 f8b4|\n1.e4 e5 2.Bb5 Bb4 1-0
+1-0 b1d3 e8d7|[FEN "4k3/8/8/8/8/8/8/1B2KB2 w - - 0 1"]\n\n1. Bbd3 Kd7 1-0
+1-0 e2e4 e8d7|[Site "x"] [FEN "4k3/8/8/8/8/8/4P3/4K3 w - -"] 1. e4 Kd7 1-0
+1-0 e2e4 e8d7|[Site "two\nlines"]\n{ a comment }\n [FEN "4k3/8/8/8/8/8/4P3/4K3 w - -"] \n \n1. e4 Kd7 1-0
+1-0 e2e4|[A]\n[Date "never"]\n[Result "2-0"]\n\n1. e4 1-0
+1/2-1/2 e2e4|[Result "1-0"]\n\n1. e4 1/2
+* e2e4 e7e5|\n1. e4 e5 *
+1-0 |\n1-0
+!its text ends before its result|
+!its text ends before its result|\n1. e4 e5 2. N
+!its text ends before its result|\n1. e4 e5 ; 1-0
+!its text goes on behind a result|\n1. e4 1-0 e5 2. Nf3 1-0
+!it has a comment that isn't closed|\n1. e4 e5 {oh\n1-0
+!it has a variation that isn't closed|\n1. e4 e5 (1... c5 2. Nf3 1-0
+!Failed to exit from variation.|\n1. e4 e5) 2. Nf3 1-0
+!it has a tag between its moves|\n1. e4 [ e5 1-0
+!its text ends before its result|\n1. e4 e51-0
+!it has 3 moves, of which Scid takes 2|\n1. e4 $1N e5 *
+!it has 3 moves, of which Scid takes 2|\n1. e4 e5 =+Nf3 1-0
+!it has a null move|\n1. -- e5 1-0
+!it has a null move|\n1. e4 e5 2. -- Nf6 1-0
+!Failed to parse the move: Nf6|\n1. e4 e5 2. Nf6 1-0
+!Failed to parse the move: Sf3|\n1. e4 e5 2. Sf3 1-0
+!it has 4 moves, of which Scid takes 3|\n1. e4 e5 2. Nf3 Bb3 1-0
+!it has the word Dd4, which is no move|\n1. e4 e5 2. Dd4 1-0
+!Warning: illegal castling O-O|\n1. e4 e5 2. Nf3 Nf6 3. Be2 Be7 4. Kf1 Kf8 5. Ke1 Ke8 6. O-O 1-0
+!Error parsing the tag pair: FEN "none"|[FEN "none"]\n\n1. e4 1-0
+!it is of the variant atomic|[Variant "atomic"]\n\n1. e4 e5 1-0
+!it is of the variant fischerandom|[Variant "fischerandom"]\n[FEN "rnbqkbnr/pppppppp/8/8/8/8/PPPPPPPP/RNBQKBNR w KQkq - 0 1"]\n\n1. e4 1-0
+!it is Chess960, by its FEN tag|[FEN "rnbqkbnr/pppppppp/8/8/8/8/PPPPPPPP/RNBQKBNR w HAha - 0 1"]\n\n1. e4 1-0
+!it is Chess960, by its FEN tag|[FEN "rnkqbbnr/pppppppp/8/8/8/8/PPPPPPPP/RNKQBBNR w KQkq - 0 1"]\n\n1. e4 1-0
+END
+    note "$cases cases"
 }
 
-# After a thousand games pgn-extract says more on the line of their number.
-thousand_of_pgn() {
-    for event in $(seq 1000); do
-        printf '[Event "%s"]\n[Result "1-0"]\n\n1. e4 1-0\n\n' "$event"
-    done > thousand.pgn
-    holds tells_of 0 'pgn_to_lines: thousand.pgn: games: 1000, left out: 0, cut: 0' \
-        "$shared/pgn_to_lines" w1 thousand.pgn
-    holds test "$(count '' printed)" -eq 1000
+# Games are read by stretches of 262,144 characters.
+many_of_pgn() {
+    seq 8000 | awk '{ printf "[Event \"%s\"]\n[Result \"1-0\"]\n\n1. e4 1-0\n\n", $1 }' > many.pgn
+    holds tells_of 0 'pgn_to_lines: many.pgn: games: 8000, left out: 0' \
+        "$shared/pgn_to_lines" w1 many.pgn
+    seq 8000 | sed "s|.*|w1-&\t1-0\t$start\te2e4|" > lines
+    holds cmp printed lines
 }
 
 no_pgn() {
@@ -138,39 +172,31 @@ no_pgn() {
     holds ends 0 "$shared/pgn_to_lines" "${long#0}" "$shared/games.pgn" > printed 2> told
     # What unpacks a file may not be there.
     mkdir few
-    for tool in awk cat dirname mktemp pgn-extract rm; do
-        ln -s "$(command -v "$tool")" few
-    done
+    ln -s "$(command -v tkscid)" few
     for by in gzip:gz zstd:zst bzip2:bz2 xz:xz; do
         : > "one.pgn.${by#*:}"
         holds tells_of 1 "pgn_to_lines: one.pgn.${by#*:}: ${by%:*} is not installed" \
             env PATH="$PWD/few" "$shared/pgn_to_lines" w1 "one.pgn.${by#*:}"
     done
-    rm few/pgn-extract
+    rm few/tkscid
     sed 's|:/usr/games||' "$shared/pgn_to_lines" > elsewhere.sh
-    holds tells_of 1 'pgn_to_lines: pgn-extract is not installed' \
+    holds tells_of 1 'pgn_to_lines: tkscid is not installed; the package scid has it' \
         env PATH="$PWD/few" /bin/sh elsewhere.sh w1 empty.pgn
     holds tells_of 1 "pgn_to_lines: usage: pgn_to_lines NAME FILE.. > lines" \
         "$shared/pgn_to_lines" no.pgn
-    holds tells_of 1 'pgn_to_lines: empty.pgn: games: 0, left out: 0, cut: 0
-submissions.awk: no games came' "$shared/pgn_to_lines" w1 empty.pgn
-    holds ends 1 "$shared/pgn_to_lines" w1 cut.pgn.gz > printed 2> told
-    holds test "$(tail -n 1 told)" = 'pgn_to_lines: a file was not read to its end'
-    holds test "$(wc -l < printed)" -gt 1
-    # Nor is one where pgn-extract is killed.
-    mkdir bin
-    printf '%s\n' '#!/bin/sh' 'cat > /dev/null' 'echo e2e4 1-0' 'kill -9 $$' > bin/pgn-extract
-    chmod 755 bin/pgn-extract
-    cp "$shared/games.pgn" .
-    holds tells_of 1 'pgn_to_lines: games.pgn: pgn-extract did not end
-pgn_to_lines: a file was not read to its end' \
-        env PATH="$PWD/bin:$PATH" "$shared/pgn_to_lines" w1 games.pgn
+    holds tells_of 1 'pgn_to_lines: empty.pgn: games: 0, left out: 0
+pgn_to_lines: no games came' "$shared/pgn_to_lines" w1 empty.pgn
+    holds tells_of 1 "pgn_to_lines: cut.pgn.gz: game 7, w1-7, is left out: its text ends before its result
+pgn_to_lines: cut.pgn.gz was not read to its end: gzip: stdin: unexpected end of file
+pgn_to_lines: cut.pgn.gz: games: 7, left out: 1" "$shared/pgn_to_lines" w1 cut.pgn.gz
+    holds test "$(wc -l < printed)" -eq 6
+    holds ends 1 "$shared/pgn_to_lines" w1 "$shared/games.pgn" > /dev/full 2> told
 }
 
 # The bundled games: 20, of which one has no result, and four begin elsewhere. As root and cron do,
 # this searches no /usr/games.
 bundled_pgn() {
-    holds tells_of 0 'pgn_to_lines: games.pgn: games: 20, left out: 0, cut: 0' \
+    holds tells_of 0 'pgn_to_lines: games.pgn: games: 20, left out: 0' \
         in_shared env PATH="${PATH%:/usr/games}" ./pgn_to_lines w1 games.pgn
     holds test "$(cut -f 3 printed | sort | uniq -c | awk '{ print $1 }' | tr '\n' ' ')" = '4 16 '
     mv printed lines
@@ -180,6 +206,60 @@ bundled_pgn() {
     holds test -s book.bin
 }
 in_shared() (cd "$shared" && exec "$@")
+
+# One command makes the same book, and a table of PolyGlot's numbers where none is. At a fault or a
+# signal the old book stays, and nothing else.
+book_of_pgn() {
+    made=$shared/pgn_to_book
+    mkdir ./-new
+    cp "$shared/games.pgn" ./-games.pgn
+    gzip -c -- -games.pgn | head -c 2000 > cut.pgn.gz
+    holds tells_of 0 'pgn_to_lines: -games.pgn: games: 20, left out: 0
+pbook: 20 lines: 19 ok (19 new, 0 again), 1 refused (1 result); ./-new/book.bin: 20 entries' \
+        "$made" -new/book.bin -games.pgn -- --plies 24 --least 3
+    holds test ! -s printed
+    "$shared/table_from_polyglot" > table.txt
+    "$shared/pgn_to_lines" w1 -games.pgn 2> told |
+        "$PROGRAM" collect -q --plies 24 --least 3 table.txt book.bin > replies
+    holds diff -r . ./-new --exclude=[!bt]* --exclude=told
+    # The table that stands is taken, and no old book goes for a file that can't be read.
+    : > table.txt
+    holds ends 1 "$made" -book.bin -games.pgn > printed 2> told
+    holds grep -q '^pbook: ./table.txt: a table has 781 lines' told
+    for file in cut.pgn.gz table.txt no.pgn; do
+        holds ends 1 "$made" -new/book.bin "$file" > printed 2> told
+        holds cmp -- -new/book.bin book.bin
+    done
+    # A signal comes while games are read.
+    mkfifo slow
+    "$made" -new/book.bin - < slow 2> told &
+    exec 7> slow
+    cat ./-games.pgn >&7
+    holds awaits sh -c "ls '$TMPDIR'/*/lines > said 2>&1"
+    kill $!
+    exec 7>&-
+    status=0
+    wait $! || status=$?
+    holds test "$status" -eq 1
+    holds cmp -- -new/book.bin book.bin
+    holds test "$(ls -A ./-new)" = "$(printf 'book.bin\ntable.txt')"
+    holds test -z "$(ls "$TMPDIR")"
+    # Where there is no polyglot, a sentence says so, and no table is left.
+    mkdir few
+    for tool in cat chmod dirname mktemp mv rm sh; do ln -s "$(command -v "$tool")" few; done
+    for tool in pgn_to_book table_from_polyglot; do
+        sed 's|:/usr/[a-z/]*||g' "$shared/$tool" > "few/$tool"
+        chmod 755 "few/$tool"
+    done
+    cp "$PROGRAM" few/pbook
+    rm ./-new/table.txt
+    holds tells_of 1 "table_from_polyglot: polyglot is not installed; the package polyglot has it, or\
+ name its random.c" env PATH="$PWD/few" few/pgn_to_book -new/book.bin -games.pgn
+    holds test "$(ls -A ./-new)" = book.bin
+    holds tells_of 1 'pgn_to_book: usage: pgn_to_book BOOK FILE.. [-- OPTION..]' "$made" book.bin
+    holds ends 0 "$made" -h > printed
+    holds grep -q '^Usage: pgn_to_book' printed
+}
 
 # as_source FILE: the numbers of a table as PolyGlot's source file has them, every other one in
 # small letters
@@ -576,10 +656,12 @@ judges_crontabs() {
     [ -n "$judging" ]
 }
 can_kill_nights() { has python3 && has flock; }
-has_pgn_extract() { has pgn-extract && has gzip; }
+has_pgn_tools() { has tkscid && has pgn-extract && has gzip; }
+can_book_pgn() { has tkscid && has polyglot && has gzip; }
 [ $# -gt 0 ] || {
-    choose has_pgn_extract 'pgn-extract and gzip are wanted' lines_of_pgn starts_of_pgn \
-        bad_pgn thousand_of_pgn no_pgn bundled_pgn
+    choose has_pgn_tools 'scid, pgn-extract and gzip are wanted' lines_of_pgn starts_of_pgn \
+        odd_pgn many_of_pgn no_pgn bundled_pgn
+    choose can_book_pgn 'scid, polyglot and gzip are wanted' book_of_pgn
     choose 'has python3' 'python3 is wanted' client_answers client_faults client_killed \
         client_lines client_threads serve_answers serve_browsers serve_ends serve_frozen serve_idle \
         serve_limits serve_slow serve_turns serve_workers
