@@ -19,7 +19,7 @@ mkfifo games
 awk -v games=$((60 * (kills + 1))) 'BEGIN {
     for (i = 0; i < games; i++) {
         moves = "e1d1"
-        for (turn = i % 60; turn > 0; turn--) moves = moves " e8d8 d1e1 d8e8 e1d1"
+        for (turn = i % 30; turn > 0; turn--) moves = moves " e8d8 d1e1 d8e8 e1d1"
         pawns = ""
         for (bit = 1; bit <= 32768; bit *= 2) pawns = pawns (int(i / bit) % 2 ? "P" : "p")
         setup = "4k3/8/8/" substr(pawns, 1, 8) "/" substr(pawns, 9) "/8/8/4K3 w - - 0 1"
