@@ -14,7 +14,9 @@ flock -n 9 || { echo 'make: another run proves here'; exit 1; }
 start='rnbqkbnr/pppppppp/8/8/8/8/PPPPPPPP/RNBQKBNR w KQkq - 0 1'
 begin=$(date +%s)
 room=$(mktemp -d)
-trap 'rm -rf "$room"' EXIT
+# What is proved is left also where the run is cut off.
+leave() { python3 -B scripts/lib/libraries.py take "$room" || :; rm -rf "$room"; }
+trap leave EXIT
 trap 'exit 1' HUP INT TERM
 
 # The lines of these crates and of all below them. They name crates of the toolchain too, which have
@@ -50,7 +52,6 @@ echo "Proving $*: $all crates, side by side. What is kept is taken as it is."
         print $2, $3 == "is" ? "is kept" : "proved", ++done " of " all
         fflush()
     }'
-python3 -B scripts/lib/libraries.py take "$room"
 [ "$(tail -n 1 build/log)" != 'It failed.' ] || { cat build/log; exit 1; }
 
 sed -n 's/^logic=proved functions=\([0-9]*\).*/\1/p' build/log |

@@ -13,7 +13,7 @@ and the words of the toolchain's library, where `rt` is to be had. --of begins w
 definition, without the call and the laws. --count prints the last lines alone, which tell how much
 it is (scripts/lib/specs.py says what counts). --index prints each public call with the first
 sentence of its comment, its clauses, and the definitions that they cite. --check compares
-docs/THEOREM.md with the counts.
+docs/THEOREM.md with the counts, also those of the code that it calls trusted.
 """
 import argparse
 import json
@@ -24,7 +24,7 @@ import signal
 import subprocess
 import sys
 
-from lib.specs import BEFORE, TOKEN, Specs, calls, count_of, imports
+from lib.specs import BEFORE, TOKEN, Specs, bodies, calls, count_of, imports
 
 DOCUMENT = pathlib.Path("docs/THEOREM.md")
 HEADLINE = "pb_commands.Headline.HasHeadline"
@@ -202,6 +202,33 @@ def print_index(specs, names):
                     print(f"    by {names}\n" if names else "")
 
 
+def trusted_lines(cell):
+    """How many lines the bodies of the code have that a cell of the document names: of the functions
+    of a file, or of these alone; or of all files of folders, but of these."""
+    names, count = set(re.findall(r"`([\w:]+)`", cell)), 0
+    for target in re.findall(r"\]\(\.\./([^)]*)\)", cell):
+        path = pathlib.Path(target)
+        for file in sorted(path.glob("*.rt")) if path.is_dir() else [path]:
+            if not path.is_dir() or file.stem not in names:
+                found = bodies(file.read_text(encoding="utf-8"))
+                is_all = path.is_dir() or not names
+                count += sum(n for name, n in found if is_all or name in names)
+    return count
+
+
+def check_trusted(text):
+    """Says whether the document tells how many lines of code are trusted, row by row and in all."""
+    part = text.partition("### The code that is trusted")[2].partition("\n## ")[0]
+    rows = re.findall(r"^\| (.*) \| .* \| (\d+) \|$", part, re.M)
+    for cell, told in rows:
+        if trusted_lines(cell) != int(told):
+            sys.exit(f"{DOCUMENT}: {cell} has {trusted_lines(cell)} lines, and not {told}")
+    of_files = sum(int(told) for cell, told in rows if "/crates/pb_files/" in cell)
+    due = f"Of its {sum(int(told) for _, told in rows)} lines"
+    if not rows or due not in part or f"{of_files} are about files" not in " ".join(part.split()):
+        sys.exit(f"{DOCUMENT}: it has to say '{due}', of which '{of_files} are about files'")
+
+
 def check(found, more, whole):
     """Says whether the document tells how much these definitions are, alone, with those that laws
     rest on besides, and of the whole contract of the program's call; and whether the order names no
@@ -216,6 +243,8 @@ def check(found, more, whole):
     left = {*ORDER} - {it.file for it in found}
     if left:
         sys.exit(f"scripts/theorem.py: the order names {' '.join(sorted(left))} for nothing")
+    if "### The code that is trusted" in told:
+        check_trusted(DOCUMENT.read_text(encoding="utf-8"))
     print(f"{DOCUMENT} tells how much the theorem rests on: {count_of(found)}")
 
 

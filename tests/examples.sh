@@ -302,9 +302,10 @@ client_answers() {
     "$PROGRAM" collect -q "$table" other.bin < "$work/games" > replies
     head -n 100 "$work/games" > first
     tail -n +101 "$work/games" > later
-    # A table may have a name like an option's.
+    # Table and journal may have a name like an option's.
     cp "$table" ./-table
-    asked=-table
+    mv "$journal" ./-journal
+    asked=-table journal=-journal
     client 0 '' first later
     holds cmp printed replies
     holds is_new "$book"
@@ -458,11 +459,9 @@ serves() {
         python3 -B "$top/tests/lib/service.py" "$1" "$shared/serve.py" "$table" "$work/games" > told
     [ ! -s told ] || note "$(cat told)"
 }
-serve_answers() { serves answers; }
-serve_ends() { serves ends; }
-serve_limits() { serves limits; }
-serve_slow() { serves slow; }
-serve_workers() { serves workers; }
+for it in answers browsers ends frozen idle limits slow turns workers; do
+    eval "serve_$it() { serves $it; }"
+done
 
 # systemd takes the service that the example has, and sees a wrong one.
 serve_unit() {
@@ -473,6 +472,10 @@ serve_unit() {
     sed 's|/serve.py|/none.py|' pbook.service > wrong.service
     holds not is_unit wrong.service
 }
+serve_guarded() {
+    holds systemd-analyze security --offline=true --threshold=20 "$top/tools/pbook.service" > told
+}
+offers_offline() { systemd-analyze --help 2> /dev/null | grep -q -e --offline; }
 # is_unit FILE: whether systemd says nothing of this file
 is_unit() { systemd-analyze verify "$PWD/$1" > said 2>&1 && [ ! -s said ]; }
 
@@ -516,6 +519,13 @@ nights() {
     mv ./-srv srv
     # The script may be named from its own folder.
     holds ends 0 in_shared env PATH=/usr/bin:/bin ./nightly "$place/srv"
+    # Neither CDPATH nor a folder beside a clone leads astray. An archive has the program.
+    mkdir -p other/srv bin clone/tools
+    ln -s /bin/false bin/pbook
+    cp "$shared/nightly" clone/tools
+    holds ends 0 env CDPATH="$place/other" PATH="$work/put/bin:$PATH" clone/tools/nightly srv
+    ln -s "$work/put/bin" clone/bin
+    holds ends 0 env PATH="$place/bin:/usr/bin:/bin" clone/tools/nightly srv
     # A night may have no games.
     : > srv/tonight.txt
     night 0 ''
@@ -544,6 +554,9 @@ cut_night() {
     printf '#!/bin/sh\nexec /usr/bin/head -n 3 tonight.txt\n' > "$work/put/bin/head"
     chmod 755 "$work/put/bin/head"
     night 1 'nightly: tonight.txt changed while it was read, and nothing was done'
+    # A signal may come before the program starts.
+    printf "#!/bin/sh\nkill \$PPID\n" > "$work/put/bin/head"
+    night 1 'nightly: ended by a signal, and nothing was done'
     rm "$work/put/bin/head"
 }
 
@@ -576,6 +589,11 @@ bad_nights() {
     begin_nights
     night 1 "nightly: $place/srv/tonight.txt can't be read"
     cp "$work/games" srv/tonight.txt
+    for name in .tonight.whole .replies.new replies replies.failed; do
+        mkdir "srv/$name"
+        holds tells_of 1 "nightly: $place/srv/$name is a folder" "$shared/nightly" srv
+        rmdir "srv/$name"
+    done
     night 0 ''
     cp srv/replies before
     failed="$place/srv/replies.failed has its answers, which may not hold"
@@ -645,11 +663,13 @@ can_book_pgn() { has tkscid && has polyglot && has gzip; }
         odd_pgn many_of_pgn no_pgn bundled_pgn
     choose can_book_pgn 'scid, polyglot and gzip are wanted' book_of_pgn
     choose 'has python3' 'python3 is wanted' client_answers client_faults client_killed \
-        client_lines client_threads serve_answers serve_ends serve_limits serve_slow serve_workers
+        client_lines client_threads serve_answers serve_browsers serve_ends serve_frozen serve_idle \
+        serve_limits serve_slow serve_turns serve_workers
     choose 'has polyglot' 'polyglot is wanted' own_table
     choose 'has flock' 'flock is wanted' nights cut_night stopped_night bad_nights
     choose can_kill_nights 'python3 and flock are wanted' killed_nights
     choose 'has systemd-analyze' 'systemd-analyze is wanted' serve_unit
+    choose offers_offline 'systemd-analyze of version 250 is wanted' serve_guarded
     choose judges_crontabs 'a crontab that looks at files is wanted' crontab_line
 }
 try_all "$@"

@@ -261,7 +261,7 @@ function is_tail(kind, text, k, saved, whole, none) {
 # The same of want of memory of the call's own, or of a sink.
 function is_fault(kind, text, k, saved, none, fault,    said, run, lost) {
     said = "fault " fault
-    run = "Err(Run(Fault(" fault ")))\nnothing is kept"
+    run = "Err(Fault(" fault "))\nnothing is kept"
     if (kind == "collect") {
         # Its own is that of its line, before the first submission.
         if (fault == "Memory" && !(none && k == saved)) return 0
@@ -285,12 +285,12 @@ function is_fault(kind, text, k, saved, none, fault,    said, run, lost) {
 
 # Whether a call whose run is over found no memory to keep what came of it.
 function is_unkept(kind, text, k, saved,    keep) {
-    keep = "Err(Keep(Memory))\nnothing is kept"
+    keep = "Err(Fault(Memory))\nnothing is kept"
     if (kind == "kept") return same(text, keep)
     if (kind == "journaled-into") return has_journal(text, keep, k - saved)
     if (kind != "continued-into") return 0
-    if (same(text, "Err(Ledger(Memory))\nnothing is kept\nno ledger is kept")) return 1
-    return same(text, "Err(Keep(Memory))\nnothing is kept\n" form(k))
+    if (same(text, "Err(Fault(Memory))\nnothing is kept\nno ledger is kept")) return 1
+    return same(text, "Err(Fault(Memory))\nnothing is kept\n" form(k))
 }
 
 # Whether a text is this one, and then a journal that has gained the lines of so many games, and of

@@ -45,7 +45,7 @@ class Collector:
 
     def __init__(self, table, book, journal, *options, program="pbook"):
         """Starts it. Options are those of `pbook collect`, such as "--sync"."""
-        words = [program, "collect", "--journal", journal, *options, "--", table, book]
+        words = [program, "collect", f"--journal={journal}", *options, "--", table, book]
         self.child = subprocess.Popen(words, stdin=subprocess.PIPE, stdout=subprocess.PIPE)
         self.lock = threading.Lock()
 

@@ -59,6 +59,29 @@ def calls(source):
                        [" ".join(it.split()) for it in clauses], found[0].rstrip())
 
 
+def bodies(source):
+    """The functions of a file that have a body, by the layout of `rt fmt`: their names, behind that
+    of their type, and how many lines of the body are no comment."""
+    lines, owner = source.split("\n"), ""
+    for at, first in enumerate(lines):
+        if re.match(r"\w", first):
+            to = re.match(r"impl(?:<.*?>)? (?:.* for )?(\w+)", first)
+            owner = to[1] + "::" if to else ""
+        begun = re.match(r"( *)(?:pub(?:\(\w+\))? )?(?:const )?fn (\w+)", first)
+        body = None
+        for end in range(at, len(lines)) if begun else ():
+            line = lines[end].removeprefix(begun[1])
+            if lines[end].startswith(begun[1] + " ") or not line:
+                continue
+            if body is None and line.endswith("{"):
+                body = end + 1
+            elif body is not None or end > at and line[0] not in ")>":
+                break
+        if body:
+            inner = (it.strip() for it in lines[body:end])
+            yield owner + begun[2], sum(1 for it in inner if it and not it.startswith("//"))
+
+
 def count_of(found):
     """How much these definitions are."""
     lines, files = [line for it in found for line in it.tokens], {it.file for it in found}

@@ -11,6 +11,7 @@ import os
 import pathlib
 import random
 import re
+import select
 import signal
 import socket
 import subprocess
@@ -21,7 +22,7 @@ import time
 CHECK, SERVE, TABLE, GAMES = sys.argv[1:]
 PBOOK, PATIENCE = os.environ["PBOOK"], float(os.environ.get("PATIENCE") or 300)
 LINES = pathlib.Path(GAMES).read_bytes().split(b"\n")[:-1]
-JOURNAL, BOOK = pathlib.Path("journal"), pathlib.Path("book")
+JOURNAL, BOOK = pathlib.Path("-journal"), pathlib.Path("-book")
 SEED, KILLS = (int(os.environ.get(name) or due) for name, due in (("SEED", 1), ("KILLS", 4)))
 
 
@@ -30,16 +31,18 @@ class Service:
 
     all = []
 
-    def __init__(self, at="127.0.0.1:0", table=TABLE, program=PBOOK, by=()):
+    def __init__(self, at="127.0.0.1:0", table=TABLE, program=PBOOK, by=(), words=()):
+        # Such names as begin as options do come behind `--`.
+        names = ["--", table, BOOK, JOURNAL] if at else [table, f"./{BOOK}", f"./{JOURNAL}"]
         self.process = subprocess.Popen(
-            [*by, SERVE, *(["--at", at] if at else []), table, BOOK, JOURNAL, "-q"],
+            [*by, SERVE, *words, *(["--at", at] if at else []), *names, "-q"],
             stderr=subprocess.PIPE,
             start_new_session=True, env={**os.environ, "PBOOK": program})
         Service.all.append(self)
         self.said = self.process.stderr.readline()
         # What pbook says of a wrong table may come before or behind it.
         at = re.search(rb"serve\.py: at (\S+):(\d+)", self.said)
-        self.address = (at[1].decode(), int(at[2])) if at else None
+        self.address = (at[1].decode().strip("[]"), int(at[2])) if at else None
 
     def connect(self, room=None):
         return Connection(self.address, room)
@@ -55,12 +58,16 @@ class Service:
         status = self.process.wait(PATIENCE)
         assert status == due, (status, self.said)
 
+    def stops(self):
+        self.process.terminate()
+        self.ends(0)
+
 
 class Connection:
     """A worker's connection, for which the system keeps about so many bytes of answers."""
 
     def __init__(self, address, room=None):
-        self.socket = socket.socket()
+        self.socket = socket.socket(socket.AF_INET6 if ":" in address[0] else socket.AF_INET)
         if room:
             self.socket.setsockopt(socket.SOL_SOCKET, socket.SO_RCVBUF, room)
         self.socket.settimeout(PATIENCE)
@@ -103,8 +110,7 @@ def answers():
     again.send(LINES[0] + b"\n")
     again.socket.shutdown(socket.SHUT_WR)
     assert again.answers.read() == replies.partition(b"\n")[0] + b"\n"
-    service.process.terminate()
-    service.ends(0)
+    service.stops()
     assert BOOK.read_bytes() == book
 
 
@@ -128,10 +134,16 @@ def ends():
     service.process.terminate()
     service.process.wait(PATIENCE)
     # One without a host would be every address of the machine.
-    for at in ("7464", ":7464"):
+    for at in ("7464", ":7464", "[]:7464"):
         service = Service(at=at)
         assert service.said == f"serve.py: {at}: --at wants HOST:PORT\n".encode(), service.said
         service.ends(1)
+    if any(" lo\n" in it.read_text() for it in pathlib.Path("/proc/net").glob("if_inet6")):
+        service = Service("[::1]:0")
+        assert b" [::1]:" in service.said and service.connect().ask(b"") == b"refused - shape\n"
+        service.stops()
+    else:
+        print("no IPv6 is to be had here")
     # The port is taken: no second collector is started, and the first one goes on.
     service = Service()
     second = Service("{}:{}".format(*service.address))
@@ -184,40 +196,116 @@ def limits():
         assert endless.answers.read() == b""
         raise AssertionError("it is not dropped")
     assert worker.ask(LINES[0]).startswith(b"ok ")
-    service.process.terminate()
-    service.ends(0)
+    service.stops()
     assert len(JOURNAL.read_bytes().split(b"\n")) == 6
     # Workers beyond the files that it may open wait until others have gone.
     service = Service(by=("sh", "-c", 'ulimit -n 16 && exec "$@"', "sh"))
     workers = [service.connect() for _ in range(30)]
     while len(os.listdir(f"/proc/{service.process.pid}/fd")) < 15:
         time.sleep(0.1)
-    time.sleep(0.2)
+    clock = (~service.process.pid << 3) | 2  # the system's for its time of a processor
+    used = time.clock_gettime(clock)
+    time.sleep(2)
+    assert time.clock_gettime(clock) - used < 0.2
     for worker in workers:
         assert worker.ask(LINES[0]).startswith(b"ok ")
         worker.cut(False)
-    service.process.terminate()
-    service.ends(0)
+    service.stops()
 
 
-# Runs serve.py where the system keeps few bytes of what workers have yet to take.
-NARROW = """
-import os, socket, sys
-sys.argv = sys.argv[1:]
+def browsers():
+    """A request that a stranger's page has a browser send gets no game in. Another line may."""
+    service, game, tail = Service(), LINES[0] + b"\n", b"\r\nAccept: */*\r\n\r\n"
+    for request in (b"POST / HTTP/1.1" + tail, b"\r\n\n\nGET /?a=b HTTP/1.0" + tail, b"get  /\n",
+                    b"OPTIONS * HTTP/1.1" + tail, b"CONNECT a:1 HTTP/1.1" + tail, b"GET h://a\n",
+                    b"PUT /" + b"a" * 9000 + tail, b"\x16\x03\1\2\0\1\0\1\xfc\3\3\n"):
+        for at in (0, 2, len(request) - 1):
+            with contextlib.suppress(ConnectionError):
+                worker = service.connect()
+                worker.send(request[:at])
+                time.sleep(0.05 if at else 0)
+                worker.send(request[at:] + game)
+                for answer in worker.answers:
+                    assert answer == b"refused - shape\n" and request[0] == 13, (request, answer)
+    assert JOURNAL.read_bytes() == b""
+    worker = service.connect()
+    for odd in (b"no game", b"GET", b"GET\t/ HTTP/1.1", game[:-1].replace(b"\t", b" "),
+                b"w1 HTTP/1.1", b"a" * 9000 + b" / HTTP/1.1"):
+        assert worker.ask(odd).startswith(b"refused "), odd
+    assert worker.ask(b"GET" + LINES[0][LINES[0].index(b"\t"):]) == b"ok GET 1\n"
+    service.stops()
+
+
+def turns():
+    """Beside workers that send all at once, one that asks line by line is answered in turn."""
+    service = Service()
+    os.kill(service.process.pid, signal.SIGSTOP)
+    floods = [service.connect() for _ in range(32)]
+    for it in floods:
+        it.send(b"\n" * 4000)
+    worker = service.connect()
+    worker.send(LINES[0] + b"\n")
+    os.kill(service.process.pid, signal.SIGCONT)
+    assert worker.answers.readline().startswith(b"ok ")
+    assert all(worker.ask(line).startswith(b"ok ") for line in LINES[1:5])
+    assert 32 <= sum(len(it.socket.recv(64000)) // 16 for it in floods) < 64000
+    service.stops()
+
+
+def idle():
+    """A worker from which no line comes is dropped, and one that asks now and then is not."""
+    service = Service(words=("--idle", "2"))
+    slow, worker = service.connect(), service.connect()
+    assert slow.ask(LINES[0]).startswith(b"ok ")
+    while not select.select([slow.socket], [], [], 0.1)[0]:
+        assert worker.ask(LINES[1]).startswith(b"ok ")
+        slow.send(b"e")
+    assert slow.answers.read() == b"" and worker.ask(LINES[0]).startswith(b"ok ")
+    service.stops()
+
+
+# Runs serve.py where the system keeps few bytes of what workers have yet to take, with so many
+# seconds for its end. More may come after a look at what has come.
+NARROW = sys.executable, "-B", "-c", """
+import os, socket, sys, time
+seconds, *sys.argv = sys.argv[1:]
 sys.path.insert(0, os.path.dirname(sys.argv[0]))
 import serve
 class Narrow(serve.Worker):
     def __init__(self, connection):
         connection.setsockopt(socket.SOL_SOCKET, socket.SO_SNDBUF, 4096)
         super().__init__(connection)
-serve.Worker = Narrow
+def recv(self, *words):
+    came = super(socket.socket, self).recv(*words)
+    time.sleep(0.1 if words[1:] and b"\\n" not in came else 0)
+    return came
+socket.socket.recv = recv
+serve.Worker, serve.PATIENCE = Narrow, int(seconds)
 serve.main()
 """
 
 
+def frozen():
+    """A collector that stands still, in a line or not, keeps no signal from ending the service."""
+    for more in (b"", LINES[1] + b"\n"):
+        service = Service(by=(*NARROW, "2"))
+        worker, child = service.connect(), service.child()
+        assert worker.ask(LINES[0]).startswith(b"ok ")
+        os.kill(child, signal.SIGSTOP)
+        worker.send(more)
+        time.sleep(0.2)
+        service.process.terminate()
+        assert service.process.wait(PATIENCE) == 1
+        assert service.process.stderr.readline().startswith(b"serve.py: pbook is left to itself")
+        with contextlib.suppress(ProcessLookupError):
+            os.kill(child, signal.SIGKILL)
+        service.ends(1)
+        assert JOURNAL.read_bytes() == LINES[0] + b"\n"
+
+
 def slow():
     """Workers that take no answers, or stop in a line, keep no other one waiting."""
-    service = Service(by=(sys.executable, "-B", "-c", NARROW))
+    service = Service(by=(*NARROW, "300"))
     idle, deaf, worker = service.connect(), service.connect(4096), service.connect()
     idle.send(LINES[0][:9])
     deaf.send(b"\n" * 6000)
@@ -230,8 +318,11 @@ def slow():
     for _ in range(6000):
         assert deaf.answers.readline() == b"refused - shape\n"
     assert idle.ask(LINES[0][9:]).startswith(b"ok ")
-    service.process.terminate()
-    service.ends(0)
+    worker.send(LINES[5][:9])
+    time.sleep(0.05)
+    worker.send(LINES[5][9:] + b"\n" + LINES[6] + b"\n")
+    assert [worker.answers.readline()[:3] for _ in "ab"] == [b"ok "] * 2
+    service.stops()
 
 
 class Worker(threading.Thread):
@@ -303,8 +394,7 @@ def workers():
         service = Service("{}:{}".format(*ADDRESS))
     for it in running:
         it.join(PATIENCE)
-    service.process.terminate()
-    service.ends(0)
+    service.stops()
     assert not any(it.is_alive() or it.wrong for it in running), [it.wrong for it in running]
     # The journal, but for lines that kills have torn, is made of what was sent, each game once.
     sent = [it for lines in sets for it in lines]

@@ -17,3 +17,4 @@ pub use Rattle.pb_commands.specs.Run.{Headed}
 pub use Rattle.pb_commands.specs.Runs.{CollectRun, ContinueRun, JournalRun}
 pub use Rattle.pb_commands.specs.TreeRun.{GrowsTree}
 pub use Rattle.pb_commands.specs.Games.{PicksAll, PicksUntil}
+pub use Rattle.pb_commands.specs.declared.stop.Stop.{Stop}

@@ -9,9 +9,9 @@ mod order;
 pub use order::{CollectOrder, ExportOrder, Keeping, Order, ParseFault, parse};
 // What counts is said by the arguments alone: a program that knows no `Rules` has no others.
 pub use pb_commands::{
-    Accepted, Continued, Ends, FAULT_STATUS, Fault, JournalEnds, LedgerEnds, LoadError, MAX_LEAST,
-    MAX_PLIES, NoBook, Refusal, Refused, Report, Stopped, Store, StoreError, Text, Totals, Watcher,
-    answer_fen, answer_lookup, answer_probe, answer_show, answer_tree, collect_into, continue_into,
+    Continued, Ends, FAULT_STATUS, Fault, JournalEnds, LedgerEnds, LoadError, MAX_LEAST, MAX_PLIES,
+    Refusal, Refused, Report, Stop, Stopped, Store, StoreError, Text, Totals, Watcher, answer_fen,
+    answer_lookup, answer_probe, answer_show, answer_tree, collect_into, continue_into,
     export_submissions, journal_into, pick_games, run_check, run_collect, run_continue, run_epd,
     run_export, run_fen, run_probe, run_show, status,
 };

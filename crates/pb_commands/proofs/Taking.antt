@@ -44,11 +44,6 @@ pub found_so : {X E W : Type 0} (tells : E → W) (found : Result X E) (judged :
 found_so tells (Ok y) judged x is one = cc (is, one)
 found_so tells (Err e) judged x is one = absurd (cc (told_why judged (tells e) is, one))
 
-pub none_so : {X E W : Type 0} (tells : E → W) (found : Result X E) (judged : Result X W) (why : W) → Told tells found judged → judged ≡ none_for why
-    → (e : E) × (found ≡ Err e) × (why ≡ tells e)
-none_so tells (Ok y) judged why is one = absurd (cc (is, one))
-none_so tells (Err e) judged why is one = let same : why ≡ tells e = cc (told_why judged (tells e) is, one) in (e, refl, same)
-
 -- what was judged is refused for this reason
 stops_for : {X : Type 0} (judged : Result X Refused) (why : Refused) (old new : SinkState) (stop : Stopped) → judged ≡ none_for why → Accepts judged old new (Err stop)
     → StopsFor why (record { old = old; new = new }) stop

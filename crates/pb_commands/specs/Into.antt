@@ -1,5 +1,6 @@
 -- What runs keep at the stores of a ledger and of a book.
-use Rattle.std.specs.Prelude.{◌≡◌, ◌⊎◌, ◌-◌, ◌^◌, ℕ, List, Result, Ok, Err, IfOk, length, min}
+use Rattle.std.specs.Prelude.{◌≡◌, ◌⊎◌, ◌-◌, ◌^◌, ℕ, List, MatchResult, Result, Ok, Err}
+use Rattle.std.specs.Prelude.{IfOk, length, min}
 use Rattle.pb_poly.specs.Book.{book_bytes}
 use Rattle.pb_poly.specs.declared.entry.Entry.{Entry}
 use Rattle.pb_ledger.specs.Change.{across}
@@ -7,12 +8,11 @@ use Rattle.pb_ledger.specs.Saving.{Saved}
 use Rattle.pb_ledger.specs.declared.totals.Totals.{Totals}
 use Rattle.pb_io.specs.declared.fault.Fault.{Fault}
 use Rattle.pb_commands.specs.declared.refusal.Stopped.{Stopped}
-use Rattle.pb_commands.specs.declared.refusal.Stopped.TheVariants as stopped
 use Rattle.pb_commands.specs.Ends.{Change, IsSame}
 use Rattle.pb_commands.specs.Run.{MakesBook}
+use Rattle.pb_commands.specs.Stop.{stop_of, stop_of_store}
 use Rattle.pb_commands.specs.Store.{KeepsBytes, StoreState}
-use Rattle.pb_commands.specs.declared.keeping.NoBook.{NoBook}
-use Rattle.pb_commands.specs.declared.keeping.NoBook.TheVariants as no
+use Rattle.pb_commands.specs.declared.stop.Stop.{Stop}
 use Rattle.pb_commands.specs.declared.run.Report.{Report}
 use Rattle.pb_commands.specs.declared.run.Intake.{Intake}
 use Rattle.pb_commands.specs.declared.store.StoreError.{StoreError}
@@ -26,23 +26,22 @@ KeepsEntries store taken answer = (entries : List Entry) × MakesBook taken (Ok 
 
 -- the book of what was taken was kept, or the store told why not; or a fault ended the taking, so
 -- that there is no book, and the store was left alone
-abbrev pub KeepsBook : Change StoreState → Intake → Result Report NoBook → Type 0
+abbrev pub KeepsBook : Change StoreState → Intake → Result Report Stop → Type 0
 KeepsBook store taken (Ok report) =
     (taken.end ≡ Ok report.totals) × KeepsEntries store taken (Ok report.entries)
-KeepsBook store taken (Err (no.Keep why)) = KeepsEntries store taken (Err why)
-KeepsBook store taken (Err (no.Run (stopped.Fault fault))) =
-    (taken.end ≡ Err fault) × IsSame store
-KeepsBook store taken (Err why) = ⊥
+KeepsBook store taken (Err stop) = MatchResult taken.end
+    (λ totals. (why : StoreError) × KeepsEntries store taken (Err why) × (stop ≡ stop_of_store why))
+    (λ fault. IsSame store × (stop ≡ Stop.Fault fault))
 
 -- the book is kept once the ledger was kept with this answer: there is none without its ledger
 abbrev pub KeepsAfter : Result ℕ StoreError → Result Totals Fault → Change StoreState → Intake
-    → Result Report NoBook → Type 0
+    → Result Report Stop → Type 0
 KeepsAfter (Err why) (Ok totals) store taken result =
-    IsSame store × (result ≡ Err (no.Ledger why))
+    IsSame store × (result ≡ Err (stop_of_store why))
 KeepsAfter kept end store taken result = KeepsBook store taken result
 
 -- the ledger was kept, also where a fault ended the submissions, and then the book
-abbrev pub KeepsBoth : Change StoreState → Change StoreState → Intake → Result Report NoBook
+abbrev pub KeepsBoth : Change StoreState → Change StoreState → Intake → Result Report Stop
     → Type 0
 KeepsBoth ledger book taken result = (bytes : List ℕ) × Saved taken.ledger.accepted bytes
     × (kept : Result ℕ StoreError) × across KeepsBytes ledger kept bytes
@@ -50,7 +49,7 @@ KeepsBoth ledger book taken result = (bytes : List ℕ) × Saved taken.ledger.ac
 
 -- how a run ends that keeps what is made of what it took; or it stopped before that, and the stores
 -- were left alone
-abbrev pub Into : (Result Intake Stopped → Type 0) → (Intake → Result Report NoBook → Type 0)
-    → Type 0 → Result Report NoBook → Type 0
+abbrev pub Into : (Result Intake Stopped → Type 0) → (Intake → Result Report Stop → Type 0)
+    → Type 0 → Result Report Stop → Type 0
 Into run keeps untouched result = ((taken : Intake) × run (Ok taken) × keeps taken result)
-    ⊎ ((why : Stopped) × run (Err why) × untouched × (result ≡ Err (no.Run why)))
+    ⊎ ((why : Stopped) × run (Err why) × untouched × (result ≡ Err (stop_of why)))

@@ -30,6 +30,7 @@ pub mod Runs
 pub mod Sentence
 pub mod Shows
 pub mod Status
+pub mod Stop
 pub mod Store
 pub mod TableJudged
 pub mod Tree

@@ -34,7 +34,7 @@ impl<Watch: Watcher> LineAnswer for Checker<'_, Watch> {
         match check_line(line) {
             Ok(game) => {
                 put_pieces(sink, &[b"ok ", game.id_bytes()], b"\n")?;
-                self.watcher.judged(Ok(()));
+                self.watcher.answered(None);
                 Ok(true)
             }
             Err(refusal) => self.refuse(sink, line, refusal),
@@ -54,7 +54,7 @@ impl<Watch: Watcher> Checker<'_, Watch> {
             (K.state sink.old) (K.state sink.new) result }
     {
         sink.put(Reply::new(line, Err(refusal)).as_bytes())?;
-        self.watcher.judged(Err(refusal));
+        self.watcher.answered(Some(refusal));
         Ok(false)
     }
 }

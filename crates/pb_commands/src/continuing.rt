@@ -9,9 +9,10 @@ ghost use Rattle.pb_commands.specs.Run.{Answers, Headed, MakesContinued};
 ghost use Rattle.pb_commands.specs.Runs.{ContinueRun, HoldsSaved, HoldsNone};
 
 use crate::ends::{Ends, LedgerEnds};
-use crate::keeping::{NoBook, keep_book};
+use crate::keeping::keep_book;
 use crate::refusal::{Refused, Stopped, accept, unless_refused};
 use crate::run::{Intake, Report, book_of, open, take};
+use crate::stop::Stop;
 use crate::store::Store;
 use pb_io::{Fault, Sink, Source};
 use pb_ledger::{Ledger, MapTally, Rules, Watcher, load};
@@ -107,7 +108,7 @@ pub fn continue_into<
     ledger: &mut LedgerEnds<Saved, LedgerStore>,
     book: &mut BookStore,
     fills: u32,
-) -> Result<Report, NoBook>
+) -> Result<Report, Stop>
     ensures { let e = states Table.state In.state Out.state ends.old ends.new in
         let saved = between Saved.state ledger.old.saved ledger.new.saved in
         let kept = between LedgerStore.state ledger.old.store ledger.new.store in
@@ -140,13 +141,13 @@ fn keep_both<LedgerStore: Store, BookStore: Store>(
     taken: &Intake,
     ledger: &mut LedgerStore,
     book: &mut BookStore,
-) -> Result<Report, NoBook>
+) -> Result<Report, Stop>
     ensures { KeepsBoth (between LedgerStore.state ledger.old ledger.new)
         (between BookStore.state book.old book.new) taken.now result }
 {
     // The ledger is kept first: what was answered `ok` is in it.
     match (ledger.keep(&taken.ledger), taken.end) {
-        (Err(why), Ok(_)) => Err(NoBook::Ledger(why)),
+        (Err(why), Ok(_)) => Err(why.into()),
         _ => keep_book(alloc, taken, book),
     }
 }

@@ -9,9 +9,9 @@ ghost use Rattle.pb_commands.specs.Run.{Headed};
 ghost use Rattle.pb_commands.specs.Runs.{JournalRun};
 
 use crate::ends::{Ends, JournalEnds};
-use crate::keeping::{NoBook, keep_book};
-use crate::refusal::Stopped;
+use crate::keeping::keep_book;
 use crate::run::{Intake, Report, open};
+use crate::stop::Stop;
 use crate::store::Store;
 use pb_io::{Sink, Source};
 use pb_ledger::{Rules, Watcher, collect_journaled, replay};
@@ -23,8 +23,8 @@ use std::alloc::Global;
 ///
 /// # Errors
 ///
-/// `Run` is a refused table, or a fault of the table, the journal, the submissions or the replies;
-/// `Keep` is that of the store, or want of memory for the book.
+/// A refused table, the first fault of the table, the journal, the submissions or the replies, else
+/// that of the store, or want of memory for the book.
 pub fn journal_into<
     Table: Source,
     In: Source,
@@ -40,7 +40,7 @@ pub fn journal_into<
     journal: &mut JournalEnds<Kept, Journal>,
     book: &mut BookStore,
     fills: u32,
-) -> Result<Report, NoBook>
+) -> Result<Report, Stop>
     ensures ends { let e = states Table.state In.state Out.state ends.old ends.new in
         let j = journal_states Kept.state Journal.state journal.old journal.new in
         let store = between BookStore.state book.old book.new in
@@ -61,8 +61,7 @@ pub fn journal_into<
         &mut ledger,
         &mut ends.watcher,
         fills,
-    )
-    .map_err(Stopped::Fault)?;
+    )?;
     let end = collect_journaled(
         alloc,
         &mut ends.lines,

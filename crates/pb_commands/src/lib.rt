@@ -25,6 +25,7 @@ mod refusal;
 mod run;
 pub mod run_laws;
 mod show;
+mod stop;
 mod store;
 mod text;
 mod tree;
@@ -38,17 +39,17 @@ pub use exit::{FAULT_STATUS, status};
 pub use export::{export_submissions, run_export};
 pub use fen::{answer_fen, run_fen};
 pub use journaling::journal_into;
-pub use keeping::{NoBook, collect_into};
+pub use keeping::collect_into;
 pub use lookup::answer_lookup;
 pub use pb_io::Fault;
 pub use pb_ledger::{
-    Accepted, ExportFault, LoadError, MAX_LEAST, MAX_PLIES, Refusal, Rules, Totals, Watcher,
-    pick_games,
+    ExportFault, LoadError, MAX_LEAST, MAX_PLIES, Refusal, Rules, Totals, Watcher, pick_games,
 };
 pub use probe::{answer_probe, run_probe};
 pub use refusal::{Refused, Stopped};
 pub use run::Report;
 pub use show::{answer_show, run_show};
+pub use stop::Stop;
 pub use store::{Store, StoreError};
 pub use text::{LedgerBook, Text};
 pub use tree::answer_tree;

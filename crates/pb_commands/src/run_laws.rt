@@ -30,15 +30,15 @@ ghost use Rattle.pb_commands.specs.Runs.{CollectRun, ContinueRun, JournalRun};
 ghost use Rattle.pb_commands.specs.Store.{StoreState};
 ghost use Rattle.pb_commands.specs.declared.refusal.Stopped.TheVariants as stopped;
 ghost use Rattle.pb_commands.specs.Sentence.{Sentence};
-ghost use Rattle.pb_commands.specs.declared.keeping.NoBook.{NoBook};
 ghost use Rattle.pb_commands.specs.declared.run.Intake.{Intake};
 ghost use Rattle.pb_commands.specs.declared.run.Report.{Report};
+ghost use Rattle.pb_commands.specs.declared.stop.Stop.{Stop};
 ghost use Rattle.pb_commands.specs.declared.store.StoreError.{StoreError};
 ghost use Rattle.pb_commands.specs.CheckShown.{CheckShown};
 ghost use Rattle.pb_commands.specs.ContinueHeadline.{HasHeadlineOfBoth};
 ghost use Rattle.pb_commands.specs.Headline.{Effect, HasHeadline, Headline};
 
-use crate::keeping::NoBook;
+use crate::stop::Stop;
 use crate::store::StoreError;
 pub use pb_ledger::laws::one_game;
 
@@ -90,11 +90,10 @@ pub fn unread()
         → IsSame e.lines × IsSame j.kept × IsSame j.journal }
 {}
 
-/// Reasons why a text isn't kept, and why a run has made no book, are equal exactly where they are
-/// one.
+/// Reasons why a text isn't kept, and why a run stops, are equal exactly where they are one.
 pub fn equal_values()
     ensures text { (a b : StoreError) → Decides (⟦<StoreError as PartialEq>⟧.eq a b) (a ≡ b) }
-    ensures book { (a b : NoBook) → Decides (⟦<NoBook as PartialEq>⟧.eq a b) (a ≡ b) }
+    ensures stop { (a b : Stop) → Decides (⟦<Stop as PartialEq>⟧.eq a b) (a ≡ b) }
 {}
 
 /// Where the bytes of `run_check` are known, what was put is what their lines give. No line wants

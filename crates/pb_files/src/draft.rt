@@ -1,22 +1,19 @@
 //! The draft of a file that is to be made anew.
 
-ghost use Rattle.std.specs.Prelude.{◌≡◌, IfErr, OnOk, true};
+ghost use Rattle.std.specs.Prelude.{◌≡◌, IfErr, OnErr, OnOk, false, true};
 ghost use Rattle.pb_commands.specs.declared.store.StoreError.TheVariants.{Write};
 ghost use Rattle.pb_files.specs.Ends.{IsSynced};
 
-use crate::holding::{hold, is_same, sync_folder};
-use crate::stop::told;
+use crate::holding::{hold, is_same, lock, resolve, sync_folder};
+use crate::opening::{opened, told};
 use crate::system_file::SystemFile;
 use pb_commands::StoreError;
 use pb_messages::{Cause, Named};
 use std::fs::{self, File, OpenOptions};
 use std::io::ErrorKind::NotFound;
 use std::io::{self, Seek};
-use std::os::unix::fs::{MetadataExt, OpenOptionsExt};
-use std::path::{Path, PathBuf};
-
-/// The permissions of a new file, less what its user's umask takes away.
-const ANYBODY: u32 = 0o666;
+use std::os::unix::fs::MetadataExt;
+use std::path::PathBuf;
 
 /// A name that this run alone gives to a new file. It holds what has the name, and beside that the
 /// draft: `.NAME.pbook`, which goes unless it gets the name.
@@ -26,7 +23,7 @@ pub(crate) struct Draft<'a> {
     draft: PathBuf,
     old: Option<File>,
     reads: bool,
-    // None until it is opened, and where it could not be given the name, and so stays.
+    // None until it is made, and where it could not be given the name, and so stays.
     file: Option<File>,
 }
 
@@ -48,17 +45,20 @@ impl Drop for Draft<'_> {
 
 impl<'a> Draft<'a> {
     /// Gives the empty draft of the file that this name leads to, or None where it leads to a
-    /// device or a pipe.
-    pub(crate) fn of(named: Named<'a>, reads: bool) -> io::Result<Option<Draft<'a>>> {
+    /// device or a pipe. What fails is told, by the name of the draft where that can't be made.
+    pub(crate) fn of(named: Named<'a>, reads: bool) -> Result<Option<Draft<'a>>, StoreError> {
         let rt = named.messages.rt;
-        let path = resolve(rt, named.name)?;
+        let path = opened(named, resolve(rt, named.name))?;
         let old = match fs::metadata(rt, named.name) {
             Ok(told) if !told.is_file() && !told.is_dir() => return Ok(None),
             Err(error) if error.kind() == NotFound => None,
-            _ => Some(hold(rt, OpenOptions::new().read(reads).write(true), &path)?),
+            _ => {
+                let held = hold(rt, OpenOptions::new().read(reads).write(true), &path);
+                Some(opened(named, held)?)
+            }
         };
-        let draft = draft_path(rt, &path)?;
-        let mut draft = Draft {
+        let draft = opened(named, draft_path(rt, &path))?;
+        let mut claimed = Draft {
             named,
             path,
             draft,
@@ -66,36 +66,33 @@ impl<'a> Draft<'a> {
             reads,
             file: None,
         };
-        draft.open()?;
-        Ok(Some(draft))
+        let made = claimed.file();
+        claimed.opened(made)?;
+        Ok(Some(claimed))
     }
 
-    /// Opens the draft, empties it, since a run that was killed may have left it, and makes it as
-    /// private as the old file.
-    fn open(&mut self) -> io::Result<()> {
-        let old = self.old.as_ref().map(File::metadata).transpose()?;
-        let mut options = OpenOptions::new();
-        options.read(true).write(true).create(true);
-        options.mode(old.as_ref().map_or(ANYBODY, MetadataExt::mode));
-        let file = self
-            .file
-            .insert(hold(self.named.messages.rt, &options, &self.draft)?);
-        file.set_len(0)?;
-        if let Some(old) = old {
-            if old.dev() != file.metadata()?.dev() {
-                return Err(io::Error::other("something is mounted on it"));
+    /// Gives what was opened as the draft, or tells that it can't be.
+    fn opened<T>(&self, answer: io::Result<T>) -> Result<T, StoreError> {
+        let (messages, draft) = (self.named.messages, self.draft.as_str());
+        opened(Named::new(messages, draft), answer)
+    }
+
+    /// Makes the draft, in the place of one that a run has left that was killed: owner, permissions
+    /// and links are its own.
+    fn make(&mut self) -> io::Result<()> {
+        let rt = self.named.messages.rt;
+        match hold(rt, OpenOptions::new().read(true), &self.draft) {
+            Err(error) if error.kind() == NotFound => {}
+            left => {
+                // It is locked until its name is gone, so no other run has it.
+                let _left = left?;
+                fs::remove_file(rt, &self.draft)?;
             }
-            file.set_permissions(old.permissions())?;
         }
-        Ok(())
-    }
-
-    /// Gives the file of the draft, which is made anew where somebody has removed it.
-    pub(crate) fn file(&mut self) -> io::Result<File> {
-        if !self.is_there() {
-            self.open()?;
-        }
-        copy(&self.file, "its draft is gone")
+        let mut options = OpenOptions::new();
+        let options = options.read(true).write(true).create_new(true);
+        let file = self.file.insert(options.open(rt, &self.draft)?);
+        lock(rt, file, &self.draft)
     }
 
     /// Whether the draft is this run's still: another may have made one where this is removed.
@@ -105,6 +102,26 @@ impl<'a> Draft<'a> {
         file.is_some_and(|file| is_same(file.metadata(), found))
     }
 
+    /// Gives the file of the draft, which is made anew where somebody has removed it, as private as
+    /// the old file is by now.
+    pub(crate) fn file(&mut self) -> io::Result<File> {
+        if !self.is_there() {
+            self.make()?;
+        }
+        let file = copy(&self.file, "its draft is gone")?;
+        if let Some(old) = &self.old {
+            let (old, new) = (old.metadata()?, file.metadata()?);
+            if old.dev() != new.dev() {
+                return Err(io::Error::other("the old file is a mount"));
+            }
+            // Not each file system lets permissions be set.
+            if old.mode() != new.mode() {
+                file.set_permissions(old.permissions())?;
+            }
+        }
+        Ok(file)
+    }
+
     /// Gives another handle of what had the name at the start.
     pub(crate) fn old(&self) -> io::Result<File> {
         copy(&self.old, "no such file (an empty one begins a ledger)")
@@ -112,7 +129,9 @@ impl<'a> Draft<'a> {
 
     /// Gives another name to a file that isn't as long any more as this run has read it, and tells
     /// it: it may have what this run doesn't know.
-    pub(crate) fn keep_changed(&self) -> io::Result<()> {
+    fn keep_changed(&self, _file: &SystemFile<'a>) -> io::Result<()>
+        requires { _file.now.named ≡ false }
+    {
         let (Some(mut old), true) = (self.old.as_ref(), self.reads) else {
             return Ok(());
         };
@@ -130,10 +149,22 @@ impl<'a> Draft<'a> {
         Ok(())
     }
 
-    /// Gives the name to the draft, which is this file. Where that fails the draft stays, and is
-    /// told: it has all that the run took.
-    pub(crate) fn name(&mut self, file: &mut SystemFile<'a>) -> Result<(), StoreError>
+    /// Gives the name to the draft, which is this file.
+    fn rename(&self, file: &mut SystemFile<'a>) -> io::Result<()>
         requires { IsSynced file.old }
+        ensures named { OnOk result (file.new ≡ record file.old { named = true }) }
+        ensures failed { OnErr result (file.new ≡ file.old) }
+    {
+        fs::rename(self.named.messages.rt, &self.draft, &self.path)?;
+        file.is_named = true;
+        Ok(())
+    }
+
+    /// Gives the name to the draft, which is this file, once what another program has added to the
+    /// old one is kept. Where that fails the draft stays, and is told: it has all that the run took.
+    pub(crate) fn name(&mut self, file: &mut SystemFile<'a>) -> Result<(), StoreError>
+        requires synced { IsSynced file.old }
+        requires unnamed { file.old.named ≡ false }
         ensures named { OnOk result (file.new ≡ record file.old { named = true }) }
         ensures failed { IfErr result (λ why. why ≡ Write) }
     {
@@ -142,17 +173,24 @@ impl<'a> Draft<'a> {
             self.named.fail(&io::Error::other("its draft is gone"));
             return Err(StoreError::Write);
         }
-        if let Err(error) = fs::rename(messages.rt, &self.draft, &self.path) {
+        let renamed = match self.keep_changed(file) {
+            Ok(()) => self.rename(file),
+            kept => kept,
+        };
+        if let Err(error) = renamed {
             self.file = None;
             let (cause, draft) = (Cause(&error), self.draft.as_str());
-            messages.tell(&format_args!("{name}: {cause}; the new one is {draft}"));
+            let until = format_args!("until the next run over {name} removes it");
+            messages.tell(&format_args!("{name}: {cause}; the new one is {draft}, {until}"));
             return Err(StoreError::Write);
         }
-        file.is_named = true;
         Ok(())
     }
 
-    pub(crate) fn sync_name(&self) -> io::Result<()> {
+    /// Puts the name of this file on the disk.
+    pub(crate) fn sync_name(&self, _file: &SystemFile<'a>) -> io::Result<()>
+        requires { _file.now.named ≡ true }
+    {
         sync_folder(self.named.messages.rt, &self.path)
     }
 }
@@ -164,14 +202,6 @@ fn copy(file: &Option<File>, missing: &'static str) -> io::Result<File> {
 /// Gives the path of the draft that a file of this name has.
 pub fn draft_of(rt: &HostRuntime, name: &str) -> io::Result<PathBuf> {
     draft_path(rt, &resolve(rt, name)?)
-}
-
-/// Follows links, where they lead to something.
-fn resolve(rt: &HostRuntime, name: &str) -> io::Result<PathBuf> {
-    match fs::canonicalize(rt, name) {
-        Err(error) if error.kind() == NotFound => Ok(Path::new(name).to_path_buf(rt.alloc())?),
-        path => path,
-    }
 }
 
 /// Fails where the path doesn't end in a file's name.

@@ -43,7 +43,7 @@ impl<T: Tally, K: Sink, J: Sink, W: Watcher> Collector<'_, '_, '_, '_, T, K, J, 
         self.totals = self.totals.with(answer);
         let number = answer.map(|accepted| accepted.number);
         self.sink.put(Reply::new(line, number).as_bytes())?;
-        self.watcher.answered(answer);
+        self.watcher.answered(number.err());
         Ok(())
     }
 }

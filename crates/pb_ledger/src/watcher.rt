@@ -1,7 +1,7 @@
 //! Who watches a run.
 
 use crate::saving::HEADER;
-use pb_accepted::{Accepted, Refusal};
+use pb_accepted::Refusal;
 use pb_board::without_return;
 
 /// The end of a line of a journal that was torn and sealed.
@@ -12,20 +12,15 @@ pub trait Watcher {
     /// Takes the number of a line, from 1, that was skipped.
     fn skipped(&mut self, number: u64);
 
-    /// Takes the answer to a submission, after its reply was put.
-    fn answered(&mut self, answer: Result<Accepted, Refusal>);
-
-    /// Takes the answer to a line that was judged by itself.
-    fn judged(&mut self, answer: Result<(), Refusal>);
+    /// Takes why a submission was refused, if it was, after its answer was put.
+    fn answered(&mut self, refusal: Option<Refusal>);
 }
 
 /// Nobody watches.
 impl Watcher for () {
     fn skipped(&mut self, _number: u64) {}
 
-    fn answered(&mut self, _answer: Result<Accepted, Refusal>) {}
-
-    fn judged(&mut self, _answer: Result<(), Refusal>) {}
+    fn answered(&mut self, _refusal: Option<Refusal>) {}
 }
 
 /// Tells the number of a skipped line that is neither sealed nor the header of a saved ledger.

@@ -1,6 +1,6 @@
 -- How a run ends that stops.
 use Rattle.std.specs.Prelude.{ℕ}
-use Rattle.pb_files.specs.declared.stop.Stop.{Stop}
+use Rattle.pb_cli.specs.Runs.{Stop}
 
 -- the exit status
 abbrev pub stop_status : Stop → ℕ

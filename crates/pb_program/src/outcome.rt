@@ -1,14 +1,13 @@
 //! Why the files, the record or the moves of a command are refused.
 
-use pb_cli::{CollectOrder, ExportOrder, Keeping, Order, Refused};
-use pb_files::Stop;
-use pb_messages::{Looks, Messages, looks_of};
+use pb_cli::{CollectOrder, ExportOrder, Keeping, LoadError, Order, Refused, Stop};
+use pb_messages::{Looks, Messages, looks_of, may_begin};
 use std::fmt::Display;
 use std::fs::{self, File};
 use std::io::Read;
 
-/// In bytes, of a file that is refused or replaced.
-const LOOKED_AT: usize = 512;
+/// In bytes, of a file that is refused or replaced: the longest line of games.
+const LOOKED_AT: usize = 8192;
 
 /// Tells why an input of an order is refused.
 pub(crate) fn tell_refused(messages: Messages<'_>, order: &Order<'_>, why: &Refused) {
@@ -28,8 +27,12 @@ pub(crate) fn tell_refused(messages: Messages<'_>, order: &Order<'_>, why: &Refu
             | Order::Lookup { book, .. }
             | Order::Tree { book, .. },
         ) => tell_file(messages, Looks::Book, book, why),
-        (Refused::Ledger(_), Order::Collect(order)) => {
-            tell_file(messages, Looks::Games, path_of(order.kept), why);
+        (Refused::Ledger(why), Order::Collect(order)) => {
+            let file = path_of(order.kept);
+            tell_file(messages, Looks::Games, file, why);
+            if matches!(why, LoadError::Line(1_000_001..)) {
+                messages.tell(&format_args!("{file}: at most 1,000,000 games are held"));
+            }
         }
         _ => messages.tell(why),
     }
@@ -43,10 +46,16 @@ pub(crate) fn path_of(kept: Keeping<'_>) -> &str {
     }
 }
 
-/// Tells what it looks like too, unless it looks as it has to, or is text that may be meant so.
+/// Tells what it looks like too, unless it looks as it has to, or may be a book or a text that is
+/// meant so.
 fn tell_file<E: Display>(messages: Messages<'_>, due: Looks, name: &str, why: &E) {
-    match looks_of_file(messages.rt, name) {
-        Some(looks) if looks != due && (looks != Looks::Text || due == Looks::Book) => {
+    let meant = if due == Looks::Book {
+        Looks::Binary
+    } else {
+        Looks::Text
+    };
+    match look_at(messages.rt, name) {
+        Some((looks, _)) if looks != due && looks != meant => {
             messages.tell(&format_args!("{name}: {why}; it {looks}"));
         }
         _ => messages.tell(&format_args!("{name}: {why}")),
@@ -55,35 +64,39 @@ fn tell_file<E: Display>(messages: Messages<'_>, due: Looks, name: &str, why: &E
 
 /// Answers whether a file that gave no game may hold some, and tells where it can't.
 pub(crate) fn may_hold_games(messages: Messages<'_>, name: &str) -> bool {
-    matches!(looks_of_file(messages.rt, name), None | Some(Looks::Games))
-        || {
-            tell_file(messages, Looks::Games, name, &"it holds no game");
-            false
-        }
+    let may_hold = look_at(messages.rt, name).is_none_or(|(_, may_begin)| may_begin);
+    if !may_hold {
+        tell_file(messages, Looks::Games, name, &"it holds no game");
+    }
+    may_hold
 }
 
-/// Makes sure that no book takes the place of games, as where `--ledger` was left out, and warns
-/// where it takes that of something else.
+/// Makes sure that no book takes the place of what a book can be made of, as where `--ledger` was
+/// left out, and warns where it takes that of something else.
 pub(crate) fn spare_games(messages: Messages<'_>, book: &str) -> Result<(), Stop> {
-    match looks_of_file(messages.rt, book) {
-        Some(Looks::Games) => {
-            messages.tell(&format_args!("{book} holds games, and stays"));
+    let Some((looks, _)) = look_at(messages.rt, book) else {
+        return Ok(());
+    };
+    match looks {
+        Looks::Book => {}
+        Looks::Games | Looks::Pgn | Looks::Packed(..) => {
+            messages.tell(&format_args!("{book} stays: it {looks}"));
             return Err(Stop::NotOpened);
         }
-        Some(Looks::Book) | None => {}
-        Some(looks) => {
-            messages.warn(&format_args!("{book}: a book takes its place; it {looks}"));
-        }
+        _ => messages.warn(&format_args!("{book}: a book takes its place; it {looks}")),
     }
     Ok(())
 }
 
-/// Only an ordinary file that has bytes is looked at: a pipe gives its bytes once.
-fn looks_of_file(rt: &HostRuntime, name: &str) -> Option<Looks> {
-    fs::metadata(rt, name)
+/// Answers what a file looks like, and whether a journal may begin so. Only an ordinary file that
+/// has bytes is looked at: a pipe gives its bytes once.
+fn look_at(rt: &HostRuntime, name: &str) -> Option<(Looks, bool)> {
+    let len = fs::metadata(rt, name)
         .ok()
-        .filter(|told| told.is_file() && told.len() > 0)?;
+        .filter(|told| told.is_file() && told.len() > 0)?
+        .len();
     let mut front = [0; LOOKED_AT];
     let count = File::open(rt, name).ok()?.read(&mut front).ok()?;
-    Some(looks_of(&front[..count]))
+    let front = &front[..count];
+    Some((looks_of(front, len), may_begin(front, len)))
 }

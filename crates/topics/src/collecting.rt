@@ -9,8 +9,8 @@ use crate::ends::{Output, fills_in, is_told, rules_in};
 use crate::game::stream_of;
 use crate::mem_store::MemStore;
 use pb_commands::{
-    Accepted, Continued, Ends, Fault, JournalEnds, LedgerEnds, NoBook, Refusal, Report, Stopped,
-    StoreError, Watcher, collect_into, continue_into, journal_into, run_collect, run_continue,
+    Continued, Ends, Fault, JournalEnds, LedgerEnds, Refusal, Report, Stop, Watcher, collect_into,
+    continue_into, journal_into, run_collect, run_continue,
 };
 use pb_ledger::save;
 use pb_poly::{Book, FromRead, MemSink, ToWrite, read_book};
@@ -34,9 +34,7 @@ impl Watcher for Passed {
         self.numbers.put_count(" ", &number);
     }
 
-    fn answered(&mut self, _answer: Result<Accepted, Refusal>) {}
-
-    fn judged(&mut self, _answer: Result<(), Refusal>) {}
+    fn answered(&mut self, _refusal: Option<Refusal>) {}
 }
 
 impl Passed {
@@ -165,7 +163,7 @@ fn journal(page: &mut Page, call: [&str; 2], ends: &mut RowEnds, kept: NamedSour
 }
 
 /// The answer of a run with places, the book that is kept, an entry a line, and the report.
-fn tell_kept(page: &mut Page, ends: &str, made: &Result<Report, NoBook>, book: &MemStore) {
+fn tell_kept(page: &mut Page, ends: &str, made: &Result<Report, Stop>, book: &MemStore) {
     page.put_debug(&is_made(made));
     match book.kept() {
         Some(bytes) => {
@@ -180,7 +178,7 @@ fn tell_kept(page: &mut Page, ends: &str, made: &Result<Report, NoBook>, book: &
 }
 
 /// The same as of a run without places.
-fn tell_as_run(page: &mut Page, answer: &Result<Report, NoBook>, book: &MemStore) {
+fn tell_as_run(page: &mut Page, answer: &Result<Report, Stop>, book: &MemStore) {
     let answer = match is_made(answer) {
         Ok(_made) => match book.kept() {
             // They are a book's, for which memory may be wanting.
@@ -189,32 +187,31 @@ fn tell_as_run(page: &mut Page, answer: &Result<Report, NoBook>, book: &MemStore
                 .map_err(|_| Fault::Memory),
             None => Ok(None),
         },
-        Err(NoBook::Run(Stopped::Fault(fault))) => Err(fault),
-        Err(NoBook::Keep(StoreError::Memory)) => Err(Fault::Memory),
+        Err(Stop::Fault(fault)) => Err(fault),
         Err(_) => Err(Fault::Write),
     };
     tell_book(page, &answer);
 }
 
 /// Whether a book was made, or an input was refused, or the fault.
-fn is_made(made: &Result<Report, NoBook>) -> Result<bool, NoBook> {
+fn is_made(made: &Result<Report, Stop>) -> Result<bool, Stop> {
     match made {
         Ok(_) => Ok(true),
-        Err(NoBook::Run(Stopped::Refused(_))) => Ok(false),
+        Err(Stop::Refused(_)) => Ok(false),
         Err(why) => Err(*why),
     }
 }
 
 /// What a run has counted, or why it read no submission, where the word for the row's ends asks for
 /// it.
-fn tell_report(page: &mut Page, ends: &str, answer: &Result<Report, NoBook>) {
+fn tell_report(page: &mut Page, ends: &str, answer: &Result<Report, Stop>) {
     if !is_told(ends, "report") {
         return;
     }
     page.put("\nreport: ");
     match answer {
         Ok(report) => page.put_debug(report),
-        Err(NoBook::Run(Stopped::Refused(why))) => page.put_display(why),
+        Err(Stop::Refused(why)) => page.put_display(why),
         Err(_) => page.put("none"),
     }
 }

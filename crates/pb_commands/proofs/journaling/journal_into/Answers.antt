@@ -4,17 +4,16 @@ use Rattle.pb_commands.specs.declared.refusal.Stopped.TheVariants as stopped
 use Rattle.pb_commands.specs.Ends.{EndStates, JournalStates, journal_states, states}
 use Rattle.pb_commands.specs.declared.run.Intake.{Intake}
 use Rattle.pb_commands.proofs.JournalClauses.{headline, journaled, outlives, survives}
-use Rattle.pb_commands.proofs.Taking.{found_so, none_so}
 use Rattle.pb_commands.proofs.journaling.journal_into.Goals as goal
 
-pub returns-in_err-map_err-clause-ends : goal.returns-in_err-map_err-clause-ends
-returns-in_err-map_err-clause-ends g c =
-    let p = err_from_is_err_and c.from_residual-in_err-map_err.result c.from_residual-in_err-map_err.ensures.1 in
+pub returns-in_err-replay-clause-ends : goal.returns-in_err-replay-clause-ends
+returns-in_err-replay-clause-ends g c =
+    let p = err_from_is_err_and c.from_residual-in_err-replay.result c.from_residual-in_err-replay.ensures.1 in
     let opened = c.in_ok-ledger.ensures in
-    let h = none_so stopped.Fault c.replay.result c.map_err.result c.in_err-map_err.field-0.0 c.map_err.ensures.cases c.in_err-map_err.was in
+    let fault = c.in_err-replay.field-0.0 in
     rw (p.1, p.2) (inr (
-      c.in_err-map_err.field-0.0,
-      ((refl, inr (c.in_ok-ledger.ledger, c.replay.new.ledger, opened.0, h.0, rw h.1 at c.replay.ensures.fault, opened.1, h.2)), tt),
+      stopped.Fault fault,
+      ((refl, inr (c.in_ok-ledger.ledger, c.replay.new.ledger, opened.0, fault, c.in_err-replay.ensures.fault, opened.1, refl)), tt),
       refl,
       refl,
     ))
@@ -25,9 +24,8 @@ returns-clause-ends g c =
     let e : EndStates = states g.Table.Source.state g.In.Source.state g.Out.Sink.state c.args.ends.now (record { table = c.open.new.table; lines = end.new.source; replies = end.new.sink; watcher = end.new.watcher }) in
     let j : JournalStates = journal_states g.Kept.Source.state g.Journal.Sink.state c.args.journal.now (record { kept = c.replay.new.source; journal = end.new.journal }) in
     let opened = c.in_ok-ledger.ensures in
-    let replay = c.replay.ensures in
-    let found = found_so stopped.Fault c.replay.result c.map_err.result c.in_ok-map_err.field-0 c.map_err.ensures.cases c.in_ok-map_err.was in
-    let run = journaled c.args.rules c.args.fills e j _ (g.Journal.Sink.state c.replay.new.journal) c.in_ok-ledger.ledger c.replay.new.ledger end.new.ledger end.result opened.0 opened.1 (rw found at replay.ok)
+    let replay = c.in_ok-replay.ensures in
+    let run = journaled c.args.rules c.args.fills e j _ (g.Journal.Sink.state c.replay.new.journal) c.in_ok-ledger.ledger c.replay.new.ledger end.new.ledger end.result opened.0 opened.1 replay.ok
     replay.basis replay.cap end.ensures.ok end.ensures.fault in
     inl (_, (run, headline c.args.rules c.args.fills e j _ run), c.keep_book.ensures)
 
@@ -37,9 +35,8 @@ returns-clause-survives g c =
     let e : EndStates = states g.Table.Source.state g.In.Source.state g.Out.Sink.state c.args.ends.now (record { table = c.open.new.table; lines = end.new.source; replies = end.new.sink; watcher = end.new.watcher }) in
     let j : JournalStates = journal_states g.Kept.Source.state g.Journal.Sink.state c.args.journal.now (record { kept = c.replay.new.source; journal = end.new.journal }) in
     let opened = c.in_ok-ledger.ensures in
-    let replay = c.replay.ensures in
-    let found = found_so stopped.Fault c.replay.result c.map_err.result c.in_ok-map_err.field-0 c.map_err.ensures.cases c.in_ok-map_err.was in
+    let replay = c.in_ok-replay.ensures in
     let taken : Intake = record { ledger = end.new.ledger; end = end.result } in
-    let run = journaled c.args.rules c.args.fills e j _ (g.Journal.Sink.state c.replay.new.journal) c.in_ok-ledger.ledger c.replay.new.ledger end.new.ledger end.result opened.0 opened.1 (rw found at replay.ok)
+    let run = journaled c.args.rules c.args.fills e j _ (g.Journal.Sink.state c.replay.new.journal) c.in_ok-ledger.ledger c.replay.new.ledger end.new.ledger end.result opened.0 opened.1 replay.ok
     replay.basis replay.cap end.ensures.ok end.ensures.fault in
     (survives c.args.rules c.args.fills e j taken run, outlives c.args.rules c.args.fills e j taken run)

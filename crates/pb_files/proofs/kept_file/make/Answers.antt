@@ -3,8 +3,8 @@ use Rattle.pb_io.specs.Sink.{SinkState}
 use Rattle.pb_files.proofs.EndLemmas.{all_handed, handed_named, kept_whole}
 use Rattle.pb_files.proofs.kept_file.make.Goals as goal
 
-pub returns-in_err-told-2 : goal.returns-in_err-told-2
-returns-in_err-told-2 g c =
+pub returns-in_err-told : goal.returns-in_err-told
+returns-in_err-told g c =
     let h = c.in_ok-count.ensures in
     let all = handed_named c.into_file-file.result _ c.in_ok-name.ensures.named ∙ all_handed _ _ c.into_file-file.result.handed h.0 (ap (λ (s : SinkState). s.bytes) c.in_ok-end.ensures.state) (c.into_file-file.ensures.done h.3.flushed) h.3.all in
-    (h.0, h.1, h.2, kept_whole c.from_residual-in_err-told-2.result _ _ h.0 (search rules) refl all, search rules)
+    (h.0, h.1, h.2, kept_whole c.from_residual-in_err-told.result _ _ h.0 (search rules) refl all, search rules)
