@@ -125,7 +125,7 @@ fn probe<'a>(alloc: Global) -> Result<Command<'a>, AllocError>
         "Prints the moves that a book has for a FEN record",
         "pbook probe <TABLE> <BOOK> <FEN>",
         "\
-For example, the moves at the start of a game, the greatest weight first:
+For example, the moves in the initial position, the greatest weight first:
   pbook probe table.txt book.bin \\
     'rnbqkbnr/pppppppp/8/8/8/8/PPPPPPPP/RNBQKBNR w KQkq - 0 1'",
     )
@@ -165,7 +165,7 @@ fn tree<'a>(alloc: Global) -> Result<Command<'a>, AllocError>
 Each move has its weight, and its share of all weights there in per cent. Below
 it, two spaces further in, are those that the book has after it.
 
-For example, two plies from the start of a game:
+For example, two plies from the initial position:
   pbook tree --plies 2 table.txt book.bin
 prints lines such as
   e2e4 287 85%
@@ -256,7 +256,7 @@ fn check<'a>(alloc: Global) -> Command<'a>
         "Judges games one by one, and makes nothing of them",
         "pbook check < LINES > ANSWERS",
         "\
-Each line of standard input is a game, as for 'pbook collect'. Its answer is
+Each line of standard input is a game, as for 'pbook collect'. Its reply is
 'ok ID', or 'refused ID REASON'. The status is 1 if any was refused.
 
 For example, what is wrong with a worker's games:
@@ -278,7 +278,8 @@ lines that no submission has the shape of, and a last line without its end. The
 files stay as they are, and a journal may be in use.
 
 For example, a book of the games of two collectors:
-  pbook games a.journal b.journal | pbook collect table.txt book.bin > replies",
+  pbook games a.journal b.journal > all &&
+    pbook collect table.txt book.bin < all > replies",
     )
     .arg(
         Arg::new(alloc, "FILE")
