@@ -14,7 +14,7 @@ use Rattle.pb_commands.specs.declared.refusal.Stopped.{Stopped}
 use Rattle.pb_commands.specs.declared.refusal.Stopped.TheVariants as stopped
 
 -- The table is read, then the book, and then the record is judged, as by `probe`. The tree of the
--- record's setup is shown.
+-- record's setup is shown, so many plies deep, over moves of no less than this weight.
 abbrev pub GrowsTree : ℕ → SourceState → SourceState → SourceState → SourceState → List ℕ → ℕ → ℕ
     → SinkState → SinkState → Result Bool Stopped → Type 0
 GrowsTree fills t t' b b' fen plies least sink sink' result =

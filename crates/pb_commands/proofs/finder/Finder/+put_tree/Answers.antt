@@ -67,10 +67,11 @@ loop-m-preserved g t c =
     let some : 0 < c.args.plies = omega (arith, c.if-plies-eq0.false) in
     let x : Moved × ℕ = c.loop-m-item.result in
     let indent = c.as_slice-in-loop-m.ensures.value ∙ each_same _ _ c.in_ok-indent.ensures.items in
-    let put = indented (k c.loop-m.sink) (k c.put_branch.new.sink) (Ok c.in_ok-put_branch.field-0) c.args.depth c.sum_of_weights-sum.result c.as_slice-in-loop-m.result.now x indent c.in_ok-put_branch.ensures in
-    (c.loop-m.invariant.0,
-    tree_more words entries c.args.least c.args.plies c.args.depth s c.requires.rules some c.sum_of_weights-sum.result pairs c.loop-m.invariant.0 c.loop-m.m-index (k c.args.sink.now) (k c.loop-m.sink) c.loop-m.invariant.1 x c.loop-m-item.is c.loop-m-test.true
-    (k c.put_branch.new.sink) c.in_ok-put_branch.field-0 put c.play.result c.unwrap-next.result c.play.ensures.played c.unwrap-next.ensures (k c.put_tree.new.sink) c.in_ok-put_tree.field-0 c.in_ok-put_tree.ensures)
+    let put = indented (k c.loop-m.sink) (k c.put_branch.new.sink) (Ok c.in_ok-put_branch.field-0) c.args.depth c.sum_of_weights-sum.result c.as_slice-in-loop-m.result.now x indent c.in_ok-put_branch.ensures in (
+      c.loop-m.invariant.0,
+      tree_more words entries c.args.least c.args.plies c.args.depth s c.requires.rules some c.sum_of_weights-sum.result pairs c.loop-m.invariant.0 c.loop-m.m-index (k c.args.sink.now) (k c.loop-m.sink) c.loop-m.invariant.1 x c.loop-m-item.is c.loop-m-test.true
+          (k c.put_branch.new.sink) c.in_ok-put_branch.field-0 put c.play.result c.unwrap-next.result c.play.ensures.played c.unwrap-next.ensures (k c.put_tree.new.sink) c.in_ok-put_tree.field-0 c.in_ok-put_tree.ensures,
+    )
 
 pub returns : goal.returns
 returns g t c =
