@@ -419,12 +419,13 @@ no_more_files() {
     runner='strace -f -o /dev/null -e trace=fcntl -e inject=fcntl:error=EMFILE'
     holds tells_of 0 '' fen "$start"
     holds tells_of 0 '' check
-    for option in ledger journal; do
+    for words in '.kept.pbook: --ledger' 'kept: --journal'; do
         : > kept
-        holds tells_of 3 'kept: too many open files' collect "--$option" kept table.txt book.bin
+        holds tells_of 3 "${words% *} too many open files" collect ${words#* } kept table.txt book.bin
         holds test ! -s kept
     done
     holds is_old book.bin
+    holds no_draft
 }
 
 # told_yet TEXT: whether this line is on standard error
