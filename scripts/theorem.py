@@ -6,8 +6,8 @@ Usage: python3 -B scripts/theorem.py [--count] [--of CRATE.FILE.NAME]
        python3 -B scripts/theorem.py --check
 It runs at the top of the repository. `make theorem` and `make test` call it.
 
-First comes the contract of the call that the program makes, then the definitions of the case that a
-book is made, then what its laws and the rest of that contract rest on besides. Each is printed as it
+First comes the contract of the call that the program makes with its words, then the definitions of
+the case that a book is made, then what its laws and the rest of that contract rest on besides. Each is printed as it
 stands in crates/*/specs, with its comments. Then come the types of the code that definitions name,
 and the words of the toolchain's library, where `rt` is to be had. --of begins with another
 definition, without the call and the laws. --count prints the last lines alone, which tell how much
@@ -270,12 +270,15 @@ def main():
     more = [it for it in specs.closure(laws) if it not in found]
     call, cited = call_at(specs, *PROGRAM) if given.of == HEADLINE else (None, [])
     whole = specs.closure(cited)
-    rest = [it for it in whole if it not in found + more]
+    words = [it for it in cited if it not in found + more]
+    rest = [it for it in whole if it not in found + more + words]
     if given.check:
         return check(found, more, whole)
     if not given.count:
         if call:
             print(f"==== The program's call: {PROGRAM[0]}\n", call.text, "", sep="\n")
+            print("==== The words of its contract; the first case is the theorem\n")
+            print_definitions(specs, by_files(words, cited[0].file))
         files = by_files(found, file)
         print_definitions(specs, files)
         if more:
@@ -284,7 +287,7 @@ def main():
         if rest:
             print("==== What else the call's contract says\n")
             print_definitions(specs, by_files(rest, cited[0].file))
-        imported = specs.imported([*sum(files.values(), []), *more, *rest])
+        imported = specs.imported([*sum(files.values(), []), *more, *words, *rest])
         print_types(specs, imported)
         print_words(specs, imported)
         print()

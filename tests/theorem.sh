@@ -246,11 +246,14 @@ laws() {
 with its laws: 4 definitions, 8 lines, 24 tokens, 2 files
 the program's call, however it ends: 7 definitions, 20 lines, 126 tokens, 4 files
 END
-    theorem | grep '^====\|^abbrev\|^///\|^    ensures' | head -n 14 > "$work/printed"
+    theorem | grep '^====\|^abbrev\|^///\|^    ensures' | head -n 16 > "$work/printed"
     cat > "$work/due" << 'END'
 ==== The program's call: crates/pb_program/src/ordered.rt
 /// Collects.
     ensures { Promise result }
+==== The words of its contract; the first case is the theorem
+==== crates/upper/specs/Top.antt
+abbrev pub Promise : Colour → Type 0
 ==== crates/pb_commands/specs/Headline.antt
 abbrev pub headline : List ℕ
 abbrev pub HasHeadline : ℕ
@@ -261,7 +264,6 @@ abbrev pub HasHeadline : ℕ
 abbrev pub least : ℕ
 abbrev pub Sentence : ℕ
 ==== What else the call's contract says
-==== crates/upper/specs/Top.antt
 END
     holds diff "$work/due" "$work/printed"
 }
