@@ -12,8 +12,11 @@ use pb_messages::{Cause, Named};
 use std::fs::{self, File, OpenOptions};
 use std::io::ErrorKind::NotFound;
 use std::io::{self, Seek};
-use std::os::unix::fs::MetadataExt;
+use std::os::unix::fs::{MetadataExt, OpenOptionsExt};
 use std::path::PathBuf;
+
+/// The permissions of a new file, less what its user's umask takes away.
+const ANYBODY: u32 = 0o666;
 
 /// A name that this run alone gives to a new file. It holds what has the name, and beside that the
 /// draft: `.NAME.pbook`, which goes unless it gets the name.
@@ -78,10 +81,11 @@ impl<'a> Draft<'a> {
     }
 
     /// Makes the draft, in the place of one that a run has left that was killed: owner, permissions
-    /// and links are its own.
+    /// and links are its own. It is as private as the old file from the first, since whoever may
+    /// open it empty reads it later.
     fn make(&mut self) -> io::Result<()> {
         let rt = self.named.messages.rt;
-        match hold(rt, OpenOptions::new().read(true), &self.draft) {
+        match hold(rt, OpenOptions::new().read(true).write(true), &self.draft) {
             Err(error) if error.kind() == NotFound => {}
             left => {
                 // It is locked until its name is gone, so no other run has it.
@@ -89,8 +93,10 @@ impl<'a> Draft<'a> {
                 fs::remove_file(rt, &self.draft)?;
             }
         }
+        let old = self.old.as_ref().map(File::metadata).transpose()?;
         let mut options = OpenOptions::new();
-        let options = options.read(true).write(true).create_new(true);
+        options.read(true).write(true).create_new(true);
+        options.mode(old.as_ref().map_or(ANYBODY, MetadataExt::mode));
         let file = self.file.insert(options.open(rt, &self.draft)?);
         lock(rt, file, &self.draft)
     }

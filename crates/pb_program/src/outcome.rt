@@ -1,13 +1,11 @@
 //! Why the files, the record or the moves of a command are refused.
 
 use pb_cli::{CollectOrder, ExportOrder, Keeping, LoadError, Order, Refused, Stop};
+use pb_files::LONGEST;
 use pb_messages::{Looks, Messages, looks_of, may_begin};
 use std::fmt::Display;
 use std::fs::{self, File};
 use std::io::Read;
-
-/// In bytes, of a file that is refused or replaced: the longest line of games.
-const LOOKED_AT: usize = 8192;
 
 /// Tells why an input of an order is refused.
 pub(crate) fn tell_refused(messages: Messages<'_>, order: &Order<'_>, why: &Refused) {
@@ -95,7 +93,7 @@ fn look_at(rt: &HostRuntime, name: &str) -> Option<(Looks, bool)> {
         .ok()
         .filter(|told| told.is_file() && told.len() > 0)?
         .len();
-    let mut front = [0; LOOKED_AT];
+    let mut front = [0; LONGEST];
     let count = File::open(rt, name).ok()?.read(&mut front).ok()?;
     let front = &front[..count];
     Some((looks_of(front, len), may_begin(front, len)))
