@@ -239,7 +239,7 @@ open .games.ledger.pbook new 0100640
 flock .games.ledger.pbook LOCK_EX
 open book.bin w
 flock book.bin LOCK_EX
-open .book.bin.pbook r
+open .book.bin.pbook rw
 flock .book.bin.pbook LOCK_EX
 unlink .book.bin.pbook
 open .book.bin.pbook new 0100600
