@@ -83,7 +83,7 @@ case_of collect_ledger_empty 0 games collect --ledger empty table new
 case_of collect_ledger_noise 1 games collect --ledger noise table new
 case_of collect_journal 0 games collect --journal journal table new
 case_of collect_journal_sync 0 games collect --journal journal --sync table new
-case_of collect_journal_noise 0 games collect --journal noise table new
+case_of collect_journal_noise 1 games collect --journal noise table new
 case_of export 0 games export table
 case_of export_rules 0 games export --plies 8 --least 2 table
 case_of export_noise 0 noise export table
