@@ -322,7 +322,8 @@ where() {
 
 failed_calls() {
     draft=$place/.book.bin.pbook
-    for call in fchmod write fsync,fdatasync; do where 3 is_old "$draft" "$call" EIO; done
+    for call in write fsync,fdatasync; do where 3 is_old "$draft" "$call" EIO; done
+    where 3 is_old "$draft" fchmod EIO 666
     # Permissions that are right aren't set.
     where 0 is_new "$draft" fchmod EPERM 644
     # The folder's names can't be put on the disk. It has to be one that may not be read, or that
