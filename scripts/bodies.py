@@ -255,7 +255,8 @@ class Said:
 
     def goals_of(self, function):
         """The goals of this function that are told as unproved."""
-        answers = self.answers_of(function) + r"`([^`]+)`: (.*)"
+        # (a long message goes on in lines that are indented)
+        answers = self.answers_of(function) + r"`([^`]+)`: (.*(?:\n  .*)*)"
         found = [goal for goal, why in re.findall(answers, self.text, re.M) if not GONE.search(why)]
         at = rf"^note: {re.escape(function.file)}:(\d+):\d+: it is not proved that .*?\(`([^`]+)`\)"
         for line, goal in re.findall(at, self.text, re.M):
