@@ -4,7 +4,7 @@ use Rattle.std.proofs.lemmas.List.{get_or-take, get_or_default, length-take-le, 
 use Rattle.std.proofs.lemmas.List.Elements.{All-contains, Contains-append_left, Contains-push, Contains-push_cases}
 use Rattle.pb_board.specs.Position.{Position}
 use Rattle.pb_moves.specs.Legal.{Legal}
-use Rattle.pb_moves.specs.Listing.{ListsLegal, place}
+use Rattle.pb_moves.specs.Listing.{ListsLegal, order_of}
 use Rattle.pb_moves.specs.Moved.{Moved}
 use Rattle.pb_moves.specs.Played.{AreLegal}
 use Rattle.pb_moves.specs.Successor.{after}
@@ -53,7 +53,7 @@ new_move s moves i m lists lt c =
     let before : c.0 < i = omega (arith, c.1, length-take-le i moves (omega (arith, lt))) in
     let there : get_or moves c.0 x ≡ x = sym (get_or-take i moves c.0 x before) ∙ c.2 in
     let here : get_or moves i x ≡ x = get_or_default moves i x m lt in
-    omega (arith, lists.ordered c.0 i x before lt, ap place there, ap place here)
+    omega (arith, lists.ordered c.0 i x before lt, ap order_of there, ap order_of here)
 
 -- the next of the legal moves
 pub begun_more : (s : Position) (moves : List Moved) (i : ℕ) (m : Moved) (rest n k : ℕ) → ListsLegal s moves → i < length moves → Counts (Begins s (take i moves) rest) n

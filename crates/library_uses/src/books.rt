@@ -1,7 +1,7 @@
 //! Books, by pb_poly: the key of a position, and what a book has for it.
 
 ghost use Rattle.std.specs.Prelude.{◌≡◌, List, IfOk};
-ghost use Rattle.pb_poly.specs.declared.entry.Entry.{Entry};
+ghost use Rattle.pb_poly.specs.declared.book.Entry.{Entry};
 ghost use Rattle.pb_poly.specs.Book.{BookBytes};
 ghost use Rattle.pb_poly.specs.Found.{Found};
 ghost use Rattle.pb_poly.specs.Key.{key};

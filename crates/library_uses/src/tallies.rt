@@ -1,4 +1,4 @@
-//! A tally of one's own, by pb_ledger: points of moves in a tree. The tally gives the six calls
+//! A tally of one's own, by pb_ledger: points of moves in a tree. The tally gives the five calls
 //! that `Tally` asks for. The book of a ledger that counts in it comes with the trait.
 
 ghost use Rattle.std.specs.Prelude.{◌≡◌, IfOk, map};
@@ -51,12 +51,11 @@ impl Tally for TreeTally {
         }
     }
 
-    fn points(&self, key: u64, code: u16) -> u64 {
-        self.sums.get(&(key, code)).map_or(0, |sum| sum.points)
-    }
-
-    fn times(&self, key: u64, code: u16) -> u64 {
-        self.sums.get(&(key, code)).map_or(0, |sum| sum.times)
+    fn held(&self, key: u64, code: u16) -> (u64, u64) {
+        match self.sums.get(&(key, code)) {
+            Some(sum) => (sum.points, sum.times),
+            None => (0, 0),
+        }
     }
 
     fn rows(&self, alloc: Global) -> Result<Vec<Row>, AllocError> {

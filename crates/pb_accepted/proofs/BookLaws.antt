@@ -4,7 +4,7 @@ use Rattle.std.specs.Prelude.{sum_by}
 use Rattle.std.specs.List.{flat_map}
 use Rattle.std.proofs.lemmas.List.Sorted.{sum_by-IsPermutation}
 use Rattle.std.proofs.lemmas.List.Sums.{sum_by-append, sum_by-cons}
-use Rattle.pb_poly.specs.declared.entry.Entry.{Entry}
+use Rattle.pb_poly.specs.declared.book.Entry.{Entry}
 use Rattle.pb_games.specs.Submissions.{Submission}
 use Rattle.pb_points.specs.Weight.{scaled, Before}
 use Rattle.pb_accepted.specs.Basis.{Basis}

@@ -5,7 +5,7 @@ use Rattle.std.proofs.lemmas.Bool.{le-leb}
 use Rattle.std.proofs.lemmas.List.{append-nil}
 use Rattle.std.proofs.lemmas.List.Elements.{All-contains, Contains-append_cases, Contains-append_left, Contains-append_right, filter_passes}
 use Rattle.std.proofs.lemmas.List.Kept.{AllPairs-filter}
-use Rattle.pb_poly.specs.declared.entry.Entry.{Entry}
+use Rattle.pb_poly.specs.declared.book.Entry.{Entry}
 use Rattle.pb_points.specs.declared.row.Row.{Row}
 use Rattle.pb_points.specs.Rows.{IsBookOfRows, frequent}
 use Rattle.pb_points.specs.Tally.{Content, held_of}

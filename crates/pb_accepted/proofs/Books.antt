@@ -1,7 +1,7 @@
 -- The book of the rows of a tally that occur often enough is the book of the plies that it counts,
 -- also of some of the keys alone.
 use Rattle.std.proofs.Common.{◌≡◌, ℕ, ◌≤◌, ◌↔◌, Option, Some, None, unwrap_or, List, AllPairs, Contains, refl, sym, ap, subst, ◌∙◌, arith}
-use Rattle.pb_poly.specs.declared.entry.Entry.{Entry}
+use Rattle.pb_poly.specs.declared.book.Entry.{Entry}
 use Rattle.pb_points.specs.declared.row.Row.{Row}
 use Rattle.pb_points.specs.Rows.{IsTop, Gives, IsBookOfRows}
 use Rattle.pb_points.specs.Tally.{Content, Held, held_of, nothing}

@@ -17,8 +17,8 @@ use Rattle.pb_moves.specs.Successor.{after}
 use Rattle.pb_moves.specs.Played.{plies_from}
 use Rattle.pb_poly.specs.Key.{key}
 use Rattle.pb_games.specs.declared.game.Game.{Game}
-use Rattle.pb_games.specs.declared.outcome.Outcome.{Outcome}
-use Rattle.pb_games.specs.declared.outcome.Outcome.TheVariants.{White, Black, Draw}
+use Rattle.pb_games.specs.declared.game.Outcome.{Outcome}
+use Rattle.pb_games.specs.declared.game.Outcome.TheVariants.{White, Black, Draw}
 use Rattle.pb_games.specs.Submissions.{IsSubmission, Submission, plies}
 use Rattle.pb_points.proofs.Pairs.{is_pair_itself}
 use Rattle.pb_points.specs.Tally.{AddsPly, Content, HasRoomFor, Held, MakesRow, held, is_pair, more, nothing}

@@ -13,7 +13,7 @@ use Rattle.pb_board.specs.Position.{Position}
 use Rattle.pb_moves.specs.Moved.{IsMove, Moved}
 use Rattle.pb_moves.specs.Played.{Ply, plies_from}
 use Rattle.pb_moves.specs.Successor.{after}
-use Rattle.pb_poly.specs.declared.entry.Entry.{Entry}
+use Rattle.pb_poly.specs.declared.book.Entry.{Entry}
 use Rattle.pb_poly.specs.Code.{encode_move}
 use Rattle.pb_poly.specs.Entry.{IsEntry}
 use Rattle.pb_poly.specs.Key.{key, offsets}

@@ -23,7 +23,7 @@ use Rattle.pb_accepted.proofs.Runs.{Accepted-append, Accepted-unique, Run-append
 use Rattle.pb_accepted.specs.Replies.{named}
 use Rattle.pb_accepted.specs.Laws.{NoRepeats, SameMembers}
 use Rattle.pb_accepted.specs.Basis.{Basis}
-use Rattle.pb_poly.specs.declared.entry.Entry.{Entry}
+use Rattle.pb_poly.specs.declared.book.Entry.{Entry}
 
 -- ---- from a step
 

@@ -8,9 +8,9 @@ use Rattle.pb_board.specs.declared.piece.Colour.TheVariants as side
 use Rattle.pb_moves.specs.Played.{Ply}
 use Rattle.pb_poly.specs.Key.{key}
 use Rattle.pb_poly.specs.Code.{encode_move}
-use Rattle.pb_poly.specs.declared.entry.Entry.{Entry}
-use Rattle.pb_games.specs.declared.outcome.Outcome.{Outcome}
-use Rattle.pb_games.specs.declared.outcome.Outcome.TheVariants.{White, Black, Draw}
+use Rattle.pb_poly.specs.declared.book.Entry.{Entry}
+use Rattle.pb_games.specs.declared.game.Outcome.{Outcome}
+use Rattle.pb_games.specs.declared.game.Outcome.TheVariants.{White, Black, Draw}
 use Rattle.pb_games.specs.Submissions.{Submission, plies}
 use Rattle.pb_points.specs.TallyBook.{is_within}
 use Rattle.pb_points.specs.Weight.{scaled, Before}
@@ -55,6 +55,10 @@ pub record IsBook (G : List PlyPoints) (least : ℕ) (E : List Entry) : Type 0 w
   pub members : (e : Entry) → Contains E e ↔ ((least ≤ times G e.key e.code)
       × ((M : ℕ) × IsGreatest G least e.key M × (e.weight ≡ scaled (count G e.key e.code) M))
       × (1 ≤ e.weight) × (e.learn ≡ 0))
+
+-- the entries are the book of these games
+abbrev pub IsBookOf : Basis → List Submission → List Entry → Type 0
+IsBookOf T S E = IsBook (counted T S) T.rules.least E
 
 -- the entries of a book whose keys are in the stretch that begins with `first` and ends before the
 -- next one, if there is one

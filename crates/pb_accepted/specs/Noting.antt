@@ -3,7 +3,7 @@ use Rattle.std.specs.Prelude.{◌≡◌, List, map}
 use Rattle.pb_board.specs.Position.{Position}
 use Rattle.pb_moves.specs.Played.{Ply}
 use Rattle.pb_poly.specs.Key.{key}
-use Rattle.pb_games.specs.declared.outcome.Outcome.{Outcome}
+use Rattle.pb_games.specs.declared.game.Outcome.{Outcome}
 use Rattle.pb_accepted.specs.declared.recorder.Recorder.{Recorder}
 use Rattle.pb_accepted.specs.Counting.{given_by, points_for}
 

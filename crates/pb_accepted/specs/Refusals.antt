@@ -8,7 +8,7 @@ use Rattle.pb_board.specs.Refusal.{BreaksAt}
 use Rattle.pb_moves.specs.Attacks.{IsPlayable}
 use Rattle.pb_moves.specs.Moved.{Moved}
 use Rattle.pb_moves.specs.Played.{AreLegal, IsSpelled}
-use Rattle.pb_games.specs.declared.outcome.Outcome.{Outcome}
+use Rattle.pb_games.specs.declared.game.Outcome.{Outcome}
 use Rattle.pb_games.specs.Ids.{IsId}
 use Rattle.pb_games.specs.Refusing.{SpellsMoves, SpellsStart}
 use Rattle.pb_games.specs.Results.{outcome_text}

@@ -1,4 +1,4 @@
--- The reply lines: a line for each submission, with its LF.
+-- The replies to lines: their texts, and with an LF each their lines.
 use Rattle.std.specs.Prelude.{ℕ, List, [], ◌∷◌, ◌++◌, Ok, Err, codes, decimal}
 use Rattle.std.specs.Str.Lines.{strip_carriage_return}
 use Rattle.pb_board.specs.Fields.{field, fields, tab}
@@ -34,18 +34,20 @@ abbrev pub reply_text : List ℕ → Answer → List ℕ
 reply_text id (Ok n) = codes "ok " ++ id ++ 32 ∷ decimal n
 reply_text id (Err e) = codes "refused " ++ id ++ 32 ∷ reason e
 
--- the reply to a line with this answer, and its line
+-- the text of the reply to a line with this answer
 abbrev pub reply : List ℕ → Answer → List ℕ
 reply line r = reply_text (named line r) r
 
+-- and its line
 abbrev pub reply_line : List ℕ → Answer → List ℕ
 reply_line line r = with_end (reply line r)
 
--- the replies to these lines with these answers, and their lines
+-- the texts of the replies to these lines with these answers
 abbrev pub reply_texts : List (List ℕ) → List Answer → List (List ℕ)
 reply_texts (line ∷ L) (r ∷ R) = reply line r ∷ reply_texts L R
 reply_texts L R = []
 
+-- and their lines, one after the other
 abbrev pub replies : List (List ℕ) → List Answer → List ℕ
 replies (line ∷ L) (r ∷ R) = reply_line line r ++ replies L R
 replies L R = []

@@ -3,17 +3,16 @@
 
 ghost use Rattle.std.specs.Prelude.{◌≡◌, ◌↔◌, ◌∷◌, ◌≢◌, ◌≤◌, ◌++◌, ◌⊎◌, ◌<◌, [], ℕ, Contains, List};
 ghost use Rattle.std.specs.Prelude.{All, codes, Err, Ok, Some, length, slice_get, take};
-ghost use Rattle.std.specs.Bool.{Decides};
+ghost use Rattle.pb_board.specs.Equality.{IsEquality};
 ghost use Rattle.std.specs.List.{flat_map};
 ghost use Rattle.pb_board.specs.LineEnd.{with_end};
 ghost use Rattle.pb_poly.specs.Book.{BookBytes};
 ghost use Rattle.pb_poly.specs.Table.{IsTable};
-ghost use Rattle.pb_poly.specs.declared.entry.Entry.{Entry};
+ghost use Rattle.pb_poly.specs.declared.book.Entry.{Entry};
 ghost use Rattle.pb_games.specs.Submissions.{Submits, Submission};
 ghost use Rattle.pb_games.specs.Worked.{worked_line, worked_submission};
 ghost use Rattle.pb_games.specs.declared.refusal.Refusal.TheVariants.{Conflict, Full, Memory};
 ghost use Rattle.pb_games.specs.declared.refusal.Refusal.{Refusal};
-ghost use Rattle.pb_accepted.specs.declared.ledger.Accepted.{Accepted};
 ghost use Rattle.pb_accepted.specs.declared.ledger.TheConstants.{MAX_CAP};
 ghost use Rattle.pb_accepted.specs.declared.rules.TheConstants.{MAX_LEAST};
 ghost use Rattle.pb_accepted.specs.Accepting.{OneGame, Answer, Step, Run, Taken};
@@ -22,7 +21,6 @@ ghost use Rattle.pb_accepted.specs.Holding.{HaveOwnIds};
 ghost use Rattle.pb_accepted.specs.Laws.{NoRepeats, SameMembers};
 ghost use Rattle.pb_accepted.specs.Replying.{Arrives, AreNumbered, IsNewId, IsNumber, Replies};
 ghost use Rattle.pb_accepted.specs.Replying.{Reply, most_games, ok, refused};
-ghost use Rattle.pb_accepted.specs.Rules.{CountingRules};
 ghost use Rattle.pb_accepted.specs.Worked.{worked_basis, worked_book, worked_bytes};
 ghost use Rattle.pb_accepted.specs.Replies.{named, replies as replies_to, reply, reply_texts};
 ghost use Rattle.pb_accepted.specs.Refusals.{IsRefused};
@@ -120,16 +118,12 @@ pub fn books()
     ensures members { (T : Basis) (S U : List Submission) → NoRepeats S → NoRepeats U
         → SameMembers S U → (least : ℕ) (E : List Entry) → IsBook (counted T S) least E
         → IsBook (counted T U) least E }
-    ensures same { (T : Basis) (m n : ℕ) (K L : List (List ℕ)) (Q R : List Answer)
-        (A B : List Submission) → Run m [] K Q A → Run n [] L R B → SameMembers A B
-        → (least : ℕ) (E F : List Entry) → IsBook (counted T A) least E
-        → IsBook (counted T B) least F → E ≡ F }
 {}
 
 /// States that rules and answers are equal (`==`) exactly where they are one value.
 pub fn equal_values()
-    ensures rules { (a b : CountingRules) → Decides (⟦<Rules as PartialEq>⟧.eq a b) (a ≡ b) }
-    ensures accepted { (a b : Accepted) → Decides (⟦<Accepted as PartialEq>⟧.eq a b) (a ≡ b) }
+    ensures rules { IsEquality ⟦<Rules as PartialEq>⟧.eq }
+    ensures accepted { IsEquality ⟦<Accepted as PartialEq>⟧.eq }
 {}
 
 /// States what the laws above ask of lines and of lists.

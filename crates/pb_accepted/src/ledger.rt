@@ -4,15 +4,16 @@ ghost use Rattle.std.specs.Prelude.{◌≡◌, ◌<◌, ◌≤◌, ◌+◌, ◌*
 ghost use Rattle.std.specs.Prelude.{IfOk, IfSome, MatchOption, OnErr, OnOk, Ok, false, length};
 ghost use Rattle.std.specs.Prelude.{◌↔◌, IsTrue, nat_lt};
 ghost use Rattle.pb_games.specs.Cuts.{IsCut};
-ghost use Rattle.pb_games.specs.Submissions.{Submits, IsSubmission, Submission};
+ghost use Rattle.pb_games.specs.Submissions.{IsSubmission, Submission};
 ghost use Rattle.pb_points.specs.Tally.{held};
 ghost use Rattle.pb_points.specs.TallyBook.{AddsSome};
 ghost use Rattle.pb_poly.specs.Entry.{IsEntry};
-ghost use Rattle.pb_poly.specs.declared.entry.Entry.{Entry};
+ghost use Rattle.pb_poly.specs.declared.book.Entry.{Entry};
 ghost use Rattle.pb_accepted.specs.Accepting.{Step, answer_of, says_new};
 ghost use Rattle.pb_accepted.specs.Replying.{IsNewId, IsNumber, most_games};
-ghost use Rattle.pb_accepted.specs.Counting.{IsBook, count, counted as counted_by, stretch, times};
+ghost use Rattle.pb_accepted.specs.Counting.{IsBookOf, count, counted as counted_by, stretch, times};
 ghost use Rattle.pb_accepted.specs.Holding.{IsLedger, lost as lost_of, rowed, with_ply_points};
+ghost use Rattle.pb_accepted.specs.Ledger.{new_ledger};
 ghost use Rattle.pb_accepted.specs.Rules.{AreRules, all_plies};
 
 use crate::lost_ply::{LostPly, lost_times};
@@ -79,11 +80,7 @@ impl<T: Tally> Ledger<T> {
     pub fn new(alloc: Global, table: &Table, cap: u32) -> Result<Ledger<T>, AllocError>
         requires some { 1 ≤ cap }
         requires few { cap ≤ most_games }
-        ensures { IfOk result (λ l. l ≡ record {
-          basis = record { randoms = table.now; rules = all_plies };
-          cap = cap;
-          accepted = [];
-        }) }
+        ensures { IfOk result (λ l. l ≡ new_ledger all_plies table.now cap) }
     {
         Ledger::with_rules(alloc, table, cap, Rules::all_plies())
     }
@@ -97,11 +94,7 @@ impl<T: Tally> Ledger<T> {
     ) -> Result<Ledger<T>, AllocError>
         requires some { 1 ≤ cap }
         requires few { cap ≤ most_games }
-        ensures empty { IfOk result (λ l. l ≡ record {
-          basis = record { randoms = table.now; rules = rules };
-          cap = cap;
-          accepted = [];
-        }) }
+        ensures empty { IfOk result (λ l. l ≡ new_ledger rules table.now cap) }
         ensures counting { OnOk result (AreRules rules) }
     {
         // The reader tells that the numbers lie in their ranges.
@@ -128,8 +121,6 @@ impl<T: Tally> Ledger<T> {
     /// is new and there was no memory for it. Nothing has changed then.
     pub fn submit(&mut self, line: &[u8]) -> Result<u32, Refusal>
         ensures step { Step self.old.cap self.old.accepted line.now result self.new.accepted }
-        ensures held { (s : Submission) (n : ℕ) → Submits line.now s
-            → IsNumber self.old.accepted n s → result ≡ Ok n }
         ensures basis { self.new.basis ≡ self.old.basis }
         ensures cap { self.new.cap ≡ self.old.cap }
     {
@@ -142,8 +133,6 @@ impl<T: Tally> Ledger<T> {
             self.new.accepted }
         ensures new { says_new result ≡ nat_lt (length self.old.accepted)
             (length self.new.accepted) }
-        ensures held { (s : Submission) (n : ℕ) → Submits line.now s
-            → IsNumber self.old.accepted n s → result ≡ Ok (record { number = n; is_new = false }) }
         ensures basis { self.new.basis ≡ self.old.basis }
         ensures cap { self.new.cap ≡ self.old.cap }
     {
@@ -267,7 +256,7 @@ impl<T: Tally> Ledger<T> {
         entries: &mut Vec<Entry>,
     ) -> Result<Option<u64>, AllocError>
         ensures ok { IfOk result (λ next. (book : List Entry)
-            × IsBook (counted_by self.now.basis self.now.accepted) self.now.basis.rules.least book
+            × IsBookOf self.now.basis self.now.accepted book
             × (entries.new.items ≡ entries.old.items ++ stretch first next book)) }
         ensures onward { IfOk result (λ next. IfSome next (λ n. first < n)) }
         ensures err { OnErr result (AddsSome entries.old.items entries.new.items) }
@@ -279,8 +268,7 @@ impl<T: Tally> Ledger<T> {
 
     /// Makes the opening book of the games that are held.
     pub fn make_book(&self, alloc: Global) -> Result<Book, AllocError>
-        ensures book { IfOk result (IsBook (counted_by self.now.basis self.now.accepted)
-            self.now.basis.rules.least) }
+        ensures book { IfOk result (IsBookOf self.now.basis self.now.accepted) }
         ensures bounds { IfOk result (All IsEntry) }
     {
         let mut entries = Vec::new(alloc);

@@ -1,3 +1,4 @@
+pub mod Equality
 pub mod Piece
 pub mod Castling
 pub mod Rights

@@ -99,32 +99,32 @@ pub(crate) fn bitboards_of(board: &[Option<Piece>; 64]) -> Bitboards
 }
 
 #[inline(always)]
-pub(crate) fn occupied(bitboards: Bitboards) -> u64
-    ensures { (b : Board) (q : ℕ) → bitboards ≡ bitboards_of b
+pub(crate) fn occupied(bitboards: &Bitboards) -> u64
+    ensures { (b : Board) (q : ℕ) → bitboards.now ≡ bitboards_of b
         → ((bit_at result q ≡ 1) ↔ ¬ IsEmpty b q) }
 {
     bitboards.sides[0] | bitboards.sides[1]
 }
 
 #[inline(always)]
-pub(crate) fn by_colour(bitboards: Bitboards, colour: Colour) -> u64
-    ensures { (b : Board) (q : ℕ) → bitboards ≡ bitboards_of b
+pub(crate) fn by_colour(bitboards: &Bitboards, colour: Colour) -> u64
+    ensures { (b : Board) (q : ℕ) → bitboards.now ≡ bitboards_of b
         → ((bit_at result q ≡ 1) ↔ ((k : Kind) × Holds b q (piece_of colour k))) }
 {
     bitboards.sides[colour as usize]
 }
 
 #[inline(always)]
-pub(crate) fn by_piece(bitboards: Bitboards, piece: Piece) -> u64
-    ensures { (b : Board) (q : ℕ) → bitboards ≡ bitboards_of b
+pub(crate) fn by_piece(bitboards: &Bitboards, piece: Piece) -> u64
+    ensures { (b : Board) (q : ℕ) → bitboards.now ≡ bitboards_of b
         → ((bit_at result q ≡ 1) ↔ Holds b q piece) }
 {
     bitboards.sides[piece.colour as usize] & bitboards.kinds[piece.kind as usize]
 }
 
 #[inline(always)]
-pub(crate) fn by_kind(bitboards: Bitboards, kind: Kind) -> u64
-    ensures { (b : Board) (q : ℕ) → bitboards ≡ bitboards_of b
+pub(crate) fn by_kind(bitboards: &Bitboards, kind: Kind) -> u64
+    ensures { (b : Board) (q : ℕ) → bitboards.now ≡ bitboards_of b
         → ((bit_at result q ≡ 1) ↔ ((c : Colour) × Holds b q (piece_of c kind))) }
 {
     bitboards.kinds[kind as usize]
@@ -189,7 +189,7 @@ pub(crate) fn piece_at(bitboards: &Bitboards, index: u8) -> Option<Piece>
     requires { index < 64 }
     ensures { (b : Board) → bitboards.now ≡ bitboards_of b → result ≡ at b index }
 {
-    has(occupied(*bitboards), index).then_some(Piece {
+    has(occupied(bitboards), index).then_some(Piece {
         colour: colour_at(bitboards, index),
         kind: kind_at(bitboards, index),
     })

@@ -1,7 +1,7 @@
 //! Laws of FEN records and their texts, and of equality (`==`) and order.
 
 ghost use Rattle.std.specs.Prelude.{◌≡◌, ℕ, ◌↔◌, ◌≤◌, List, codes, length};
-ghost use Rattle.std.specs.Bool.{Decides};
+ghost use Rattle.pb_board.specs.Equality.{IsEquality, IsEqualityWhere};
 ghost use Rattle.std.specs.Ordering.{nat_cmp, ordering_then};
 ghost use Rattle.pb_board.specs.Position.{Position, Record, IsSetup, IsRecord, record_of};
 ghost use Rattle.pb_board.specs.Board.{Place};
@@ -11,15 +11,10 @@ ghost use Rattle.pb_board.specs.Piece.{colour_number, kind_number};
 ghost use Rattle.pb_board.specs.Ranks.{RankText};
 ghost use Rattle.pb_board.specs.Refusal.{IsDueFen, IsFirstOf, fen_errors};
 ghost use Rattle.pb_board.specs.Text.{fen_text, rank_text, setup_fields};
-ghost use Rattle.pb_board.specs.declared.castling.Castling.{Castling};
-ghost use Rattle.pb_board.specs.declared.castling.CastlingSquares.{CastlingSquares};
 ghost use Rattle.pb_board.specs.declared.piece.Colour.{Colour};
 ghost use Rattle.pb_board.specs.declared.piece.Kind.{Kind};
 ghost use Rattle.pb_board.specs.declared.piece.Piece.{Piece};
 ghost use Rattle.pb_board.specs.declared.refusal.FenError.{FenError};
-ghost use Rattle.pb_board.specs.declared.refusal.SetupError.{SetupError};
-ghost use Rattle.pb_board.specs.declared.setup.MovedPiece.{MovedPiece};
-ghost use Rattle.pb_board.specs.declared.setup.Rights.{Rights};
 
 use crate::castling::{Castling, CastlingSquares};
 use crate::fen::{Fen, FenBytes};
@@ -61,26 +56,24 @@ pub fn one_refusal()
 /// Setups are equal (`==`) exactly where they are one position, and castling rights where each flag
 /// is the same.
 pub fn equal_setups()
-    ensures setups { (p q : Position) → IsSetup p → IsSetup q
-        → Decides (⟦<Setup as PartialEq>⟧.eq p q) (p ≡ q) }
-    ensures rights { (a b : Rights) → Decides (⟦<Rights as PartialEq>⟧.eq a b) (a ≡ b) }
+    ensures setups { IsEqualityWhere IsSetup ⟦<Setup as PartialEq>⟧.eq }
+    ensures rights { IsEquality ⟦<Rights as PartialEq>⟧.eq }
 {}
 
 /// Records are equal exactly where setup and clocks are the same, and their texts where the bytes
 /// are.
 pub fn equal_records()
-    ensures records { (f g : Record) → IsRecord f → IsRecord g
-        → Decides (⟦<Fen as PartialEq>⟧.eq f g) (f ≡ g) }
-    ensures texts { (t u : List ℕ) → Decides (⟦<FenBytes as PartialEq>⟧.eq t u) (t ≡ u) }
+    ensures records { IsEqualityWhere IsRecord ⟦<Fen as PartialEq>⟧.eq }
+    ensures texts { IsEquality ⟦<FenBytes as PartialEq>⟧.eq }
 {}
 
 /// Squares, colours, kinds, pieces and moved pieces are equal exactly where they are the same.
 pub fn equal_pieces()
-    ensures squares { (a b : ℕ) → Decides (⟦<Square as PartialEq>⟧.eq a b) (a ≡ b) }
-    ensures colours { (a b : Colour) → Decides (⟦<Colour as PartialEq>⟧.eq a b) (a ≡ b) }
-    ensures kinds { (a b : Kind) → Decides (⟦<Kind as PartialEq>⟧.eq a b) (a ≡ b) }
-    ensures pieces { (a b : Piece) → Decides (⟦<Piece as PartialEq>⟧.eq a b) (a ≡ b) }
-    ensures moved { (a b : MovedPiece) → Decides (⟦<MovedPiece as PartialEq>⟧.eq a b) (a ≡ b) }
+    ensures squares { IsEquality ⟦<Square as PartialEq>⟧.eq }
+    ensures colours { IsEquality ⟦<Colour as PartialEq>⟧.eq }
+    ensures kinds { IsEquality ⟦<Kind as PartialEq>⟧.eq }
+    ensures pieces { IsEquality ⟦<Piece as PartialEq>⟧.eq }
+    ensures moved { IsEquality ⟦<MovedPiece as PartialEq>⟧.eq }
 {}
 
 /// Squares are in the order of their numbers, White is before Black, kinds go from pawn to king as
@@ -99,15 +92,14 @@ pub fn ordered_pieces()
 /// Castlings, and the squares between which king and rook go, are equal exactly where they are the
 /// same.
 pub fn equal_castlings()
-    ensures castlings { (a b : Castling) → Decides (⟦<Castling as PartialEq>⟧.eq a b) (a ≡ b) }
-    ensures squares { (a b : CastlingSquares) → Decides (⟦<CastlingSquares as PartialEq>⟧.eq a b)
-        (a ≡ b) }
+    ensures castlings { IsEquality ⟦<Castling as PartialEq>⟧.eq }
+    ensures squares { IsEquality ⟦<CastlingSquares as PartialEq>⟧.eq }
 {}
 
 /// Refusals of setups, and of records, are equal exactly where the cause is the same.
 pub fn equal_errors()
-    ensures setups { (a b : SetupError) → Decides (⟦<SetupError as PartialEq>⟧.eq a b) (a ≡ b) }
-    ensures records { (a b : FenError) → Decides (⟦<FenError as PartialEq>⟧.eq a b) (a ≡ b) }
+    ensures setups { IsEquality ⟦<SetupError as PartialEq>⟧.eq }
+    ensures records { IsEquality ⟦<FenError as PartialEq>⟧.eq }
 {}
 
 /// The initial array before the first move is a record, and has the text that players know.

@@ -12,16 +12,12 @@ mod castling;
 mod fen;
 mod fields;
 pub mod laws;
-mod number;
 mod piece;
-mod placement;
-mod rank;
 mod read;
 mod refusal;
 mod setup;
 mod setup_rules;
 mod square;
-mod state_fields;
 mod text;
 mod write;
 

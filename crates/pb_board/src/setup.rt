@@ -5,9 +5,10 @@ ghost use Rattle.std.specs.Prelude.{◌≡◌, ◌↔◌, ℕ, IsTrue, MatchResu
 use crate::bitboards::{self, Bitboards, initial_bitboards};
 use crate::piece::{Colour, Kind, Piece};
 use crate::refusal::SetupError;
-use crate::setup_rules::{has_no_edge_pawn, has_one_king, is_en_passant_square, only_king};
+use crate::setup_rules::{
+    en_passant_rank, has_no_edge_pawn, has_one_king, is_en_passant_square, only_king,
+};
 use crate::square::Square;
-use crate::state_fields::en_passant_rank;
 use std::marker::Model;
 
 /// Holds the castling rights (PGN Standard 16.1.3.3), as they were given, even where the king or
@@ -98,10 +99,10 @@ impl Setup {
             MatchResult result (λ s. (s ≡ p) × IsSetup p) (λ e. IsFirstFault e p) }
     {
         let bitboards = bitboards::bitboards_of(&board);
-        if !has_one_king(bitboards, Colour::White) || !has_one_king(bitboards, Colour::Black) {
+        if !has_one_king(&bitboards, Colour::White) || !has_one_king(&bitboards, Colour::Black) {
             return Err(SetupError::Kings);
         }
-        if !has_no_edge_pawn(bitboards) {
+        if !has_no_edge_pawn(&bitboards) {
             return Err(SetupError::Pawns);
         }
         if let Some(square) = ep
@@ -212,7 +213,7 @@ impl Setup {
         ensures squares { (q : ℕ) → (bit_at result q ≡ 1) ↔ ¬ IsEmpty self.now.board q }
         ensures rules { IsSetup self.now }
     {
-        bitboards::occupied(self.bitboards)
+        bitboards::occupied(&self.bitboards)
     }
 
     /// Gives the squares of this side's pieces, as `occupied` does.
@@ -222,7 +223,7 @@ impl Setup {
             ↔ ((kind : Kind) × Holds self.now.board q (piece_of colour kind)) }
         ensures rules { IsSetup self.now }
     {
-        bitboards::by_colour(self.bitboards, colour)
+        bitboards::by_colour(&self.bitboards, colour)
     }
 
     /// Gives the squares of the pieces of this kind, as `occupied` does.
@@ -231,7 +232,7 @@ impl Setup {
         ensures { (q : ℕ) → (bit_at result q ≡ 1)
             ↔ ((colour : Colour) × Holds self.now.board q (piece_of colour kind)) }
     {
-        bitboards::by_kind(self.bitboards, kind)
+        bitboards::by_kind(&self.bitboards, kind)
     }
 
     /// Gives the squares of this piece, as `occupied` does.
@@ -239,13 +240,13 @@ impl Setup {
     pub fn by_piece(&self, piece: Piece) -> u64
         ensures { (q : ℕ) → (bit_at result q ≡ 1) ↔ Holds self.now.board q piece }
     {
-        bitboards::by_piece(self.bitboards, piece)
+        bitboards::by_piece(&self.bitboards, piece)
     }
 
     /// Gives the square of this colour's king.
     pub fn king(&self, colour: Colour) -> Square
         ensures { IsOnlyKing self.now.board colour result }
     {
-        only_king(self.bitboards, colour)
+        only_king(&self.bitboards, colour)
     }
 }

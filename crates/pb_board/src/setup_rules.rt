@@ -1,8 +1,8 @@
 //! The rules that every setup meets.
 
-ghost use Rattle.std.specs.Prelude.{◌≡◌, ◌↔◌, ℕ, IsTrue, Some, length};
+ghost use Rattle.std.specs.Prelude.{◌≡◌, ◌<◌, ◌↔◌, ℕ, IsTrue, Some, length};
 ghost use Rattle.pb_board.specs.declared.piece.Colour.{Colour};
-ghost use Rattle.pb_board.specs.Board.{Board};
+ghost use Rattle.pb_board.specs.Board.{Board, rank};
 ghost use Rattle.pb_board.specs.Bitboards.{bitboards_of};
 ghost use Rattle.pb_board.specs.Position.{EnPassantHolds, HasNoEdgePawn, IsOnlyKing};
 ghost use Rattle.pb_board.specs.Position.{OnEnPassantRank};
@@ -11,8 +11,8 @@ use crate::bitboards::{self, Bitboards};
 use crate::piece::{Colour, Kind, Piece};
 use crate::square::Square;
 
-pub(crate) fn has_one_king(bitboards: Bitboards, colour: Colour) -> bool
-    ensures { (b : Board) → bitboards ≡ bitboards_of b
+pub(crate) fn has_one_king(bitboards: &Bitboards, colour: Colour) -> bool
+    ensures { (b : Board) → bitboards.now ≡ bitboards_of b
         → (IsTrue result ↔ ((king : ℕ) × IsOnlyKing b colour king)) }
 {
     let kind = Kind::King;
@@ -21,8 +21,8 @@ pub(crate) fn has_one_king(bitboards: Bitboards, colour: Colour) -> bool
 }
 
 #[inline(always)]
-pub(crate) fn only_king(bitboards: Bitboards, colour: Colour) -> Square
-    ensures { (b : Board) (king : ℕ) → bitboards ≡ bitboards_of b → IsOnlyKing b colour king
+pub(crate) fn only_king(bitboards: &Bitboards, colour: Colour) -> Square
+    ensures { (b : Board) (king : ℕ) → bitboards.now ≡ bitboards_of b → IsOnlyKing b colour king
         → result ≡ king }
 {
     let kind = Kind::King;
@@ -34,11 +34,21 @@ pub(crate) fn only_king(bitboards: Bitboards, colour: Colour) -> Square
 
 const EDGE_RANKS: u64 = 0xFF00_0000_0000_00FF;
 
-pub(crate) fn has_no_edge_pawn(bitboards: Bitboards) -> bool
-    ensures { (b : Board) → length b ≡ 64 → bitboards ≡ bitboards_of b
+pub(crate) fn has_no_edge_pawn(bitboards: &Bitboards) -> bool
+    ensures { (b : Board) → length b ≡ 64 → bitboards.now ≡ bitboards_of b
         → (IsTrue result ↔ HasNoEdgePawn b) }
 {
     bitboards::by_kind(bitboards, Kind::Pawn) & EDGE_RANKS == 0
+}
+
+pub(crate) fn en_passant_rank(turn: Colour) -> u8
+    ensures is { (q : ℕ) → (rank q ≡ result) ↔ OnEnPassantRank turn q }
+    ensures on_board { result < 8 }
+{
+    match turn {
+        Colour::White => 5,
+        Colour::Black => 2,
+    }
 }
 
 pub(crate) fn is_en_passant_square(

@@ -105,5 +105,5 @@ abbrev pub pbook : App
 pbook = with_subcommand (with_subcommand (with_subcommand (with_subcommand (with_subcommand
     (with_subcommand (with_subcommand (with_subcommand (with_subcommand (with_subcommand
     program_alone collect_command.top) export_command.top) check_command.top) games_command.top)
-    fen_command.top) epd_command.top) show_command.top) probe_command.top) lookup_command.top)
-    tree_command.top
+    show_command.top) probe_command.top) lookup_command.top) tree_command.top) fen_command.top)
+    epd_command.top

@@ -40,12 +40,12 @@ pub(crate) fn command_line<'a>(alloc: Global) -> Result<Command<'a>, AllocError>
         .subcommand(export(alloc)?)?
         .subcommand(check(alloc))?
         .subcommand(games(alloc)?)?
-        .subcommand(fen(alloc)?)?
-        .subcommand(epd(alloc))?
         .subcommand(show(alloc)?)?
         .subcommand(probe(alloc)?)?
         .subcommand(lookup(alloc)?)?
-        .subcommand(tree(alloc)?)
+        .subcommand(tree(alloc)?)?
+        .subcommand(fen(alloc)?)?
+        .subcommand(epd(alloc))
 }
 
 // Its name in usage lines is `pbook`, however it was called.
@@ -194,7 +194,7 @@ fn collect<'a>(alloc: Global) -> Result<Command<'a>, AllocError>
     let keeping = bare_command(
         alloc,
         "collect",
-        "Takes games, answers each, and makes their PolyGlot book",
+        "Takes games, replies to each, and makes their PolyGlot book",
         "pbook collect [OPTIONS] <TABLE> <BOOK> < LINES > REPLIES",
         COLLECT_HELP,
     )
@@ -254,7 +254,7 @@ fn check<'a>(alloc: Global) -> Command<'a>
         alloc,
         "check",
         "Judges games one by one, and makes nothing of them",
-        "pbook check < LINES > ANSWERS",
+        "pbook check < LINES > REPLIES",
         "\
 Each line of standard input is a game, as for 'pbook collect'. Its reply is
 'ok ID', or 'refused ID REASON'. The status is 1 if any was refused.

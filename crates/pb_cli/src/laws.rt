@@ -1,10 +1,12 @@
 //! Laws of what the command line says, and of equality (`==`) between what is kept, as contracts of
 //! functions that do nothing.
 
-ghost use Rattle.std.specs.Prelude.{◌≡◌, ◌<◌, ◌^◌, ℕ, List, Some, decimal};
+ghost use Rattle.std.specs.Prelude.{◌≡◌, ◌<◌, ◌^◌, ℕ, Bool, List, Some, codes, decimal};
+ghost use Rattle.std.specs.Prelude.{unwrap_or};
 ghost use Rattle.std.specs.Bool.{Decides};
+ghost use Rattle.clap.specs.Values.{bool_text};
 ghost use Rattle.clap.specs.Words.{Row, Text, one_of};
-ghost use Rattle.pb_cli.specs.Orders.{SaysNumber, options_of};
+ghost use Rattle.pb_cli.specs.Orders.{HasFlag, SaysNumber, options_of};
 ghost use Rattle.pb_cli.specs.declared.order.Keeping.{Keeping};
 
 use crate::order::Keeping;
@@ -13,6 +15,12 @@ use crate::order::Keeping;
 pub fn says_number()
     ensures { (id : Text) (number : ℕ) (rows : List Row) → number < 2 ^ 64
         → one_of id rows ≡ Some (decimal number) → SaysNumber id number rows }
+{}
+
+/// A flag is what its text says.
+pub fn says_flag()
+    ensures { (id : Text) (flag given : Bool) (rows : List Row) → HasFlag id flag rows
+        → unwrap_or (one_of id rows) (codes "false") ≡ bool_text given → flag ≡ given }
 {}
 
 /// What is kept is equal exactly where it is of one kind, at paths of the same text, and synced

@@ -8,20 +8,20 @@ use Rattle.pb_io.specs.Source.{SourceState}
 use Rattle.pb_poly.proofs.ToldReads.{handed_out}
 use Rattle.pb_poly.specs.Book.{book_bytes}
 use Rattle.pb_poly.specs.Entry.{IsEntry}
-use Rattle.pb_poly.specs.declared.entry.Entry.{Entry}
+use Rattle.pb_poly.specs.declared.book.Entry.{Entry}
 use Rattle.pb_poly.proofs.Told.{found_table}
 use Rattle.pb_poly.specs.TableReading.{ReadsTable}
 use Rattle.pb_games.specs.Submissions.{Submission}
 use Rattle.pb_accepted.specs.Basis.{Basis}
 use Rattle.pb_accepted.specs.Counting.{IsBook, counted}
 use Rattle.pb_accepted.specs.Replying.{most_games}
-use Rattle.pb_accepted.specs.Ledger.{LedgerState}
+use Rattle.pb_accepted.specs.Ledger.{LedgerState, new_ledger}
 use Rattle.pb_accepted.specs.Replies.{replies}
 use Rattle.pb_accepted.specs.Rules.{CountingRules}
 use Rattle.pb_accepted.proofs.Steps.{runs_join}
 use Rattle.pb_accepted.specs.Accepting.{Answer, Run}
 use Rattle.pb_ledger.proofs.Continued.{continued, loaded_back}
-use Rattle.pb_ledger.proofs.Changes.{from_to}
+use Rattle.pb_ledger.specs.Change.{from_to}
 use Rattle.pb_ledger.specs.Collecting.{CollectsStream}
 use Rattle.pb_ledger.specs.Loading.{Loads}
 use Rattle.pb_ledger.specs.Change.{across}
@@ -31,13 +31,13 @@ use Rattle.pb_ledger.specs.Saving.{Saved}
 use Rattle.pb_commands.specs.ContinueHeadline.{GoesOn, HasHeadlineOfBoth}
 use Rattle.pb_commands.specs.Ends.{Change, EndStates}
 use Rattle.pb_commands.specs.Run.{MakesBook}
-use Rattle.pb_commands.specs.Runs.{ContinueRun, HoldsSaved, Takes, new_ledger}
+use Rattle.pb_commands.specs.Runs.{ContinueRun, HoldsSaved, Takes}
 use Rattle.pb_commands.specs.declared.run.Intake.{Intake}
 use Rattle.pb_commands.proofs.Headlines.{effect}
 use Rattle.pb_commands.proofs.Taking.{same_but_games}
 
 module _ (rules : CountingRules) (fills : ℕ) (e : EndStates) (randoms : List ℕ) (held : List Submission) (left : LedgerState) (totals : Totals) (entries : List Entry)
-    (read : ReadsTable fills e.table.old e.table.new (Ok randoms)) (takes : CollectsStream fills e.lines e.replies (from_to (record (new_ledger rules randoms) { accepted = held }) left) totals)
+    (read : ReadsTable fills e.table.old e.table.new (Ok randoms)) (takes : CollectsStream fills e.lines e.replies (from_to (record (new_ledger rules randoms most_games) { accepted = held }) left) totals)
     (book : IsBook (counted left.basis left.accepted) left.basis.rules.least entries) (bounds : All IsEntry entries) where
   pub goes_on : GoesOn rules e held left.accepted entries (book_bytes entries)
   goes_on =
@@ -76,12 +76,12 @@ module _ (rules : CountingRules) (fills : ℕ) (e : EndStates) (randoms : List �
         held = held;
         loads = loads.done;
         goes_on = goes_on;
-        is = same_but_games (new_ledger rules randoms) left leads.basis leads.cap;
+        is = same_but_games (new_ledger rules randoms most_games) left leads.basis leads.cap;
       }
 
 module _ (rules : CountingRules) (fills : ℕ) (e : EndStates) (source : Change SourceState) where
   by_end : (randoms : List ℕ) (held left : LedgerState) (end : Result Totals Fault) (entries : List Entry) → ReadsTable fills e.table.old e.table.new (Ok randoms)
-      → across (AtEnd fills) source (Makes Loads (from_to (new_ledger rules randoms) held)) → held ≡ record (new_ledger rules randoms) { accepted = held.accepted }
+      → across (AtEnd fills) source (Makes Loads (from_to (new_ledger rules randoms most_games) held)) → held ≡ record (new_ledger rules randoms most_games) { accepted = held.accepted }
       → Takes fills e.lines e.replies held (record { ledger = left; end = end }) → MakesBook (record { ledger = left; end = end }) (Ok entries)
       → HasHeadlineOfBoth rules e source left entries (book_bytes entries)
   by_end randoms held left (Ok totals) entries read loads like takes (book, bounds) =

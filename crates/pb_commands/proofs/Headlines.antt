@@ -6,7 +6,7 @@ use Rattle.pb_poly.proofs.EntryBytes.{book_is_one}
 use Rattle.pb_poly.proofs.ToldReads.{handed_out}
 use Rattle.pb_poly.specs.Book.{BookBytes, book_bytes}
 use Rattle.pb_poly.specs.Entry.{IsEntry}
-use Rattle.pb_poly.specs.declared.entry.Entry.{Entry}
+use Rattle.pb_poly.specs.declared.book.Entry.{Entry}
 use Rattle.pb_poly.proofs.Told.{found_table}
 use Rattle.pb_poly.specs.TableReading.{ReadsTable}
 use Rattle.pb_games.specs.Submissions.{Submission}
@@ -14,7 +14,7 @@ use Rattle.pb_accepted.specs.Accepting.{Answer, Run}
 use Rattle.pb_accepted.specs.Basis.{Basis}
 use Rattle.pb_accepted.specs.Counting.{IsBook, counted}
 use Rattle.pb_accepted.specs.Replying.{most_games}
-use Rattle.pb_accepted.specs.Ledger.{LedgerState}
+use Rattle.pb_accepted.specs.Ledger.{LedgerState, new_ledger}
 use Rattle.pb_accepted.specs.Replies.{replies, reply_texts}
 use Rattle.pb_accepted.specs.Rules.{AreRules, CountingRules}
 use Rattle.pb_accepted.proofs.BookLaws.{one_book}
@@ -22,12 +22,12 @@ use Rattle.pb_accepted.proofs.Replyings.{replies_are, replies_number, run_to}
 use Rattle.pb_io.specs.declared.fault.Fault.{Fault}
 use Rattle.pb_ledger.specs.Collecting.{CollectsStream}
 use Rattle.pb_ledger.specs.declared.totals.Totals.{Totals}
-use Rattle.pb_ledger.proofs.Changes.{from_to}
+use Rattle.pb_ledger.specs.Change.{from_to}
 use Rattle.pb_commands.specs.Ends.{EndStates}
 use Rattle.pb_commands.specs.Answered.{IsAnswered}
 use Rattle.pb_commands.specs.Headline.{Effect}
 use Rattle.pb_commands.specs.Run.{MakesBook}
-use Rattle.pb_commands.specs.Runs.{CollectRun, Opens, Takes, new_ledger}
+use Rattle.pb_commands.specs.Runs.{CollectRun, Opens, Takes}
 use Rattle.pb_commands.specs.declared.run.Intake.{Intake}
 
 -- the effect of lines that were answered as a ledger answers them, wherever they came from
@@ -49,7 +49,7 @@ effect L R games run T entries bounds book = record {
 
 module _ (rules : CountingRules) (fills : ℕ) (e : EndStates) where
   has_headline : (randoms : List ℕ) (left : LedgerState) (totals : Totals) (entries : List Entry) → ReadsTable fills e.table.old e.table.new (Ok randoms) → AreRules rules
-      → CollectsStream fills e.lines e.replies (from_to (new_ledger rules randoms) left) totals → IsBook (counted left.basis left.accepted) left.basis.rules.least entries → All IsEntry entries
+      → CollectsStream fills e.lines e.replies (from_to (new_ledger rules randoms most_games) left) totals → IsBook (counted left.basis left.accepted) left.basis.rules.least entries → All IsEntry entries
       → IsAnswered rules e entries (book_bytes entries)
   has_headline randoms left totals entries read counting takes book bounds =
       let table = found_table fills e.table.old e.table.new randoms read in
@@ -81,7 +81,7 @@ module _ (rules : CountingRules) (fills : ℕ) (e : EndStates) where
       )
 
   by_end : (randoms : List ℕ) (left : LedgerState) (end : Result Totals Fault) (entries : List Entry) → ReadsTable fills e.table.old e.table.new (Ok randoms) → AreRules rules
-      → Takes fills e.lines e.replies (new_ledger rules randoms) (record { ledger = left; end = end }) → MakesBook (record { ledger = left; end = end }) (Ok entries)
+      → Takes fills e.lines e.replies (new_ledger rules randoms most_games) (record { ledger = left; end = end }) → MakesBook (record { ledger = left; end = end }) (Ok entries)
       → IsAnswered rules e entries (book_bytes entries)
   by_end randoms left (Ok totals) entries read counting takes (book, bounds) = has_headline randoms left totals entries read counting takes book bounds
   by_end randoms left (Err fault) entries read counting takes is = absurd (cc is)

@@ -7,8 +7,9 @@ use Rattle.pb_io.specs.declared.fault.Fault.{Fault}
 use Rattle.pb_poly.proofs.ToldReads.{handed_out}
 use Rattle.pb_poly.specs.Book.{book_bytes}
 use Rattle.pb_poly.specs.TableReading.{ReadsTable}
-use Rattle.pb_poly.specs.declared.entry.Entry.{Entry}
-use Rattle.pb_accepted.specs.Ledger.{LedgerState}
+use Rattle.pb_poly.specs.declared.book.Entry.{Entry}
+use Rattle.pb_accepted.specs.Ledger.{LedgerState, new_ledger}
+use Rattle.pb_accepted.specs.Replying.{most_games}
 use Rattle.pb_accepted.specs.Rules.{CountingRules}
 use Rattle.pb_ledger.specs.Change.{across}
 use Rattle.pb_ledger.specs.Collecting.{CollectsStream}
@@ -16,11 +17,11 @@ use Rattle.pb_ledger.specs.Journaling.{Gains, JournalsUntil}
 use Rattle.pb_ledger.specs.Replaying.{ReplaysAll}
 use Rattle.pb_ledger.specs.Streams.{Puts}
 use Rattle.pb_ledger.specs.declared.totals.Totals.{Totals}
-use Rattle.pb_ledger.proofs.Changes.{from_to}
+use Rattle.pb_ledger.specs.Change.{from_to}
 use Rattle.pb_commands.specs.Ends.{Change, EndStates, IsSame, JournalStates}
 use Rattle.pb_commands.specs.JournalHeadline.{HasHeadlineOfJournal, LosesNone, LosesNoneLater, Survives}
 use Rattle.pb_commands.specs.Run.{MakesBook}
-use Rattle.pb_commands.specs.Runs.{JournalRun, Opens, TakesJournaled, new_ledger}
+use Rattle.pb_commands.specs.Runs.{JournalRun, Opens, TakesJournaled}
 use Rattle.pb_commands.specs.declared.run.Intake.{Intake}
 use Rattle.pb_commands.proofs.JournalGains.{Replayed, replayed}
 use Rattle.pb_commands.proofs.JournalHeadlines.{has_headline}
@@ -29,10 +30,10 @@ use Rattle.pb_commands.proofs.Taking.{same_but_games}
 
 module _ (rules : CountingRules) (fills : ℕ) (e : EndStates) (j : JournalStates) where
   -- from the games of the journal on the submissions were taken so
-  module _ (randoms : List ℕ) (held : LedgerState) (mended : SinkState) (replays : ReplaysAll fills j.kept (from_to j.journal.old mended) (from_to (new_ledger rules randoms) held))
-      (like : held ≡ record (new_ledger rules randoms) { accepted = held.accepted }) where
-    abbrev all : Replayed fills j.kept (from_to j.journal.old mended) (from_to (new_ledger rules randoms) held)
-    all = replayed fills j.kept (from_to j.journal.old mended) (from_to (new_ledger rules randoms) held) replays
+  module _ (randoms : List ℕ) (held : LedgerState) (mended : SinkState) (replays : ReplaysAll fills j.kept (from_to j.journal.old mended) (from_to (new_ledger rules randoms most_games) held))
+      (like : held ≡ record (new_ledger rules randoms most_games) { accepted = held.accepted }) where
+    abbrev all : Replayed fills j.kept (from_to j.journal.old mended) (from_to (new_ledger rules randoms most_games) held)
+    all = replayed fills j.kept (from_to j.journal.old mended) (from_to (new_ledger rules randoms most_games) held) replays
 
     abbrev Took : LedgerState → Result Totals Fault → Type 0
     Took left end = TakesJournaled fills e.lines e.replies (from_to mended j.journal.new) held (record { ledger = left; end = end })
@@ -98,7 +99,7 @@ module _ (rules : CountingRules) (fills : ℕ) (e : EndStates) (j : JournalState
   is_safe : (taken : Intake) → JournalRun rules fills e j (Ok taken) → Unless (Safe e j)
   is_safe taken (new, held, (randoms, read, counting, is), mended, replays, like, takes) =
       let replays = subst (Replays mended held) is replays in
-      read_to_end (replayed fills j.kept (from_to j.journal.old mended) (from_to (new_ledger rules randoms) held) replays)
+      read_to_end (replayed fills j.kept (from_to j.journal.old mended) (from_to (new_ledger rules randoms most_games) held) replays)
       (safe_so randoms held mended replays (subst (Like held) is like) taken.ledger taken.end takes)
 
   pub survives : (taken : Intake) → JournalRun rules fills e j (Ok taken) → LosesNone e j

@@ -7,26 +7,25 @@ use Rattle.pb_poly.proofs.ToldReads.{handed_out}
 use Rattle.pb_poly.specs.Book.{book_bytes}
 use Rattle.pb_poly.specs.Entry.{IsEntry}
 use Rattle.pb_poly.specs.TableReading.{ReadsTable}
-use Rattle.pb_poly.specs.declared.entry.Entry.{Entry}
+use Rattle.pb_poly.specs.declared.book.Entry.{Entry}
 use Rattle.pb_games.specs.Submissions.{Submission}
 use Rattle.pb_accepted.specs.Counting.{IsBook, counted}
 use Rattle.pb_accepted.specs.Replying.{most_games}
-use Rattle.pb_accepted.specs.Ledger.{LedgerState}
+use Rattle.pb_accepted.specs.Ledger.{LedgerState, new_ledger}
 use Rattle.pb_accepted.specs.Rules.{CountingRules}
 use Rattle.pb_ledger.specs.Collecting.{CollectsStream}
 use Rattle.pb_ledger.specs.Journaling.{Gains}
-use Rattle.pb_ledger.proofs.Changes.{from_to}
+use Rattle.pb_ledger.specs.Change.{from_to}
 use Rattle.pb_ledger.specs.declared.totals.Totals.{Totals}
 use Rattle.pb_commands.specs.ContinueHeadline.{GoesOn}
 use Rattle.pb_commands.specs.Ends.{EndStates, JournalStates}
 use Rattle.pb_commands.specs.JournalHeadline.{HasHeadlineOfJournal}
 use Rattle.pb_commands.proofs.ContinueHeadlines.{goes_on}
 use Rattle.pb_commands.proofs.JournalGains.{Replayed, gains_all}
-use Rattle.pb_commands.specs.Runs.{new_ledger}
 
 module _ (rules : CountingRules) (fills : ℕ) (e : EndStates) (j : JournalStates) where
   pub has_headline : (randoms : List ℕ) (held left : LedgerState) (mended : SinkState) (totals : Totals) (entries : List Entry) → ReadsTable fills e.table.old e.table.new (Ok randoms)
-      → Replayed fills j.kept (from_to j.journal.old mended) (from_to (new_ledger rules randoms) held) → held ≡ record (new_ledger rules randoms) { accepted = held.accepted }
+      → Replayed fills j.kept (from_to j.journal.old mended) (from_to (new_ledger rules randoms most_games) held) → held ≡ record (new_ledger rules randoms most_games) { accepted = held.accepted }
       → CollectsStream fills e.lines e.replies (from_to held left) totals → Gains (from_to mended j.journal.new) (from_to held left) → IsBook (counted left.basis left.accepted) left.basis.rules.least entries
       → All IsEntry entries → HasHeadlineOfJournal rules e j entries (book_bytes entries)
   has_headline randoms held left mended totals entries read replays like takes gains book bounds =

@@ -14,13 +14,13 @@ use Rattle.pb_games.specs.Submissions.{Submission, submission_text}
 use Rattle.pb_accepted.specs.Accepting.{Answer, Run}
 use Rattle.pb_accepted.specs.Replying.{Arrives, IsNumber}
 use Rattle.pb_accepted.specs.Replying.{most_games}
-use Rattle.pb_accepted.specs.Ledger.{LedgerState}
+use Rattle.pb_accepted.specs.Ledger.{LedgerState, new_ledger}
 use Rattle.pb_accepted.specs.Replies.{replies, reply_line}
 use Rattle.pb_accepted.specs.Rules.{CountingRules}
 use Rattle.pb_ledger.specs.Journal.{GameLines, Journals, mending}
 use Rattle.pb_ledger.specs.Collecting.{Collects, CollectsButOne, CollectsStream, CollectsUntil, Leads}
 use Rattle.pb_ledger.specs.Journaling.{CollectsUnkept, Gains, JournalsUntil}
-use Rattle.pb_ledger.proofs.Changes.{from_to}
+use Rattle.pb_ledger.specs.Change.{from_to}
 use Rattle.pb_ledger.proofs.Lasting.{lasts_first}
 use Rattle.pb_ledger.specs.Change.{across}
 use Rattle.pb_ledger.specs.Streams.{AtLast, Puts}
@@ -30,7 +30,6 @@ use Rattle.pb_io.specs.declared.fault.Fault.TheVariants as fault
 use Rattle.pb_ledger.specs.declared.totals.Totals.{Totals}
 use Rattle.pb_commands.specs.Ends.{Change, EndStates, IsSame, JournalStates}
 use Rattle.pb_commands.specs.JournalHeadline.{HoldsAnswered}
-use Rattle.pb_commands.specs.Runs.{new_ledger}
 use Rattle.pb_commands.proofs.JournalGains.{IsNumber-front, Replayed, gains_all, gains_torn, has_numbers, replies-push}
 
 -- ---- the first lines of the submissions
@@ -71,13 +70,13 @@ abbrev pub Safe : EndStates → JournalStates → List ℕ → Type 0
 Safe e j kept = HoldsBy e kept (Puts j.journal) × (AllLasts j.journal.old → HoldsBy e kept (across LastsFirst j.journal))
 
 module _ (rules : CountingRules) (fills : ℕ) (e : EndStates) (j : JournalStates) (randoms : List ℕ) (mended : SinkState) (held : LedgerState)
-    (replays : Replayed fills j.kept (from_to j.journal.old mended) (from_to (new_ledger rules randoms) held)) (like : held ≡ record (new_ledger rules randoms) { accepted = held.accepted }) where
+    (replays : Replayed fills j.kept (from_to j.journal.old mended) (from_to (new_ledger rules randoms most_games) held)) (like : held ≡ record (new_ledger rules randoms most_games) { accepted = held.accepted }) where
   abbrev kept : List ℕ
   kept = replays.came
 
   -- the ledger of the journal's games
   abbrev from : LedgerState
-  from = record (new_ledger rules randoms) { accepted = held.accepted }
+  from = record (new_ledger rules randoms most_games) { accepted = held.accepted }
 
   holds : Journals most_games kept held.accepted
   holds = replays.holds

@@ -8,7 +8,7 @@ use Rattle.pb_epd.specs.declared.refusal.EpdError.{EpdError}
 use Rattle.pb_io.specs.Lines.{IsLine}
 use Rattle.pb_io.specs.declared.fault.Fault.TheVariants.{Memory}
 use Rattle.pb_moves.specs.Moved.{Moved}
-use Rattle.pb_poly.specs.declared.entry.Entry.{Entry}
+use Rattle.pb_poly.specs.declared.book.Entry.{Entry}
 use Rattle.pb_poly.specs.Found.{Found}
 use Rattle.pb_commands.specs.EpdShown.{AsEpd, IsBlank, LineGives, epd_verdict}
 use Rattle.pb_commands.specs.Judged.{ByInput, Verdict}

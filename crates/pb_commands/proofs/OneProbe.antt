@@ -7,7 +7,7 @@ use Rattle.pb_board.specs.Refusal.{IsDueFen, fen_errors}
 use Rattle.pb_board.proofs.Dues.{one_first}
 use Rattle.pb_board.proofs.Fens.{record_never_due}
 use Rattle.pb_board.proofs.Unique.{one_record}
-use Rattle.pb_poly.specs.declared.entry.Entry.{Entry}
+use Rattle.pb_poly.specs.declared.book.Entry.{Entry}
 use Rattle.pb_poly.proofs.Finding.{found_is_one}
 use Rattle.pb_poly.proofs.OneBook.{one_book}
 use Rattle.pb_poly.proofs.OneTable.{one_table}

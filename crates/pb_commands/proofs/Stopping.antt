@@ -6,7 +6,7 @@ use Rattle.std.specs.Result.{IsErrAnd}
 use Rattle.pb_io.specs.Sink.{SinkState}
 use Rattle.pb_io.specs.Source.{SourceState}
 use Rattle.pb_io.specs.declared.fault.Fault.{Fault}
-use Rattle.pb_poly.specs.declared.entry.Entry.{Entry}
+use Rattle.pb_poly.specs.declared.book.Entry.{Entry}
 use Rattle.pb_commands.specs.BookJudged.{book_verdict}
 use Rattle.pb_commands.specs.Judged.{PutsOrEnds, Verdict}
 use Rattle.pb_commands.specs.Refused.{Accepts, StopsOrEnds, refused_verdict, unless_refused}

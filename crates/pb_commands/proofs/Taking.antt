@@ -9,7 +9,7 @@ use Rattle.pb_io.specs.declared.fault.ReadFault.TheVariants as of_read
 use Rattle.pb_poly.proofs.Told.{found_table}
 use Rattle.pb_poly.specs.Streams.{at_end}
 use Rattle.pb_poly.specs.TableReading.{ReadsTable}
-use Rattle.pb_poly.specs.declared.table_file.TableFault.TheVariants as table
+use Rattle.pb_poly.specs.declared.table.TableFault.TheVariants as table
 use Rattle.pb_accepted.specs.Basis.{Basis}
 use Rattle.pb_accepted.specs.Ledger.{LedgerState}
 use Rattle.pb_ledger.specs.Collecting.{CollectsStream, CollectsUntil}

@@ -6,8 +6,8 @@ use Rattle.pb_poly.specs.Reading.{AsBook, ReadsBook}
 use Rattle.pb_poly.specs.TableReading.{AsTable, ReadsTable}
 use Rattle.pb_poly.specs.declared.reading.BookError.{BookError}
 use Rattle.pb_poly.specs.declared.reading.BookError.TheVariants as book
-use Rattle.pb_poly.specs.declared.table_file.TableFault.{TableFault}
-use Rattle.pb_poly.specs.declared.table_file.TableFault.TheVariants as table
+use Rattle.pb_poly.specs.declared.table.TableFault.{TableFault}
+use Rattle.pb_poly.specs.declared.table.TableFault.TheVariants as table
 use Rattle.pb_commands.specs.BookJudged.{book_verdict}
 use Rattle.pb_commands.specs.BookShown.{BookShown}
 use Rattle.pb_commands.specs.Laws.{TextsAreOf}

@@ -21,7 +21,7 @@ use Rattle.pb_moves.specs.Legal.{Legal}
 use Rattle.pb_moves.specs.Moved.{Moved}
 use Rattle.pb_moves.specs.Successor.{after}
 use Rattle.pb_moves.proofs.Kept.{after_is_setup}
-use Rattle.pb_poly.specs.declared.entry.Entry.{Entry}
+use Rattle.pb_poly.specs.declared.book.Entry.{Entry}
 use Rattle.pb_poly.specs.Found.{Found}
 use Rattle.pb_poly.proofs.Finding.{found_is_one}
 use Rattle.pb_commands.specs.Tree.{Branches, FailsOrWants, PutsFrontOf, PutsTree, ShowsTree, Tree, branch_line, branch_text, heavy, sum_of_weights}

@@ -1,7 +1,7 @@
 -- What the command `show` writes: a line for each entry of a book.
 use Rattle.std.specs.Prelude.{◌≡◌, ℕ, true, List, ◌∷◌, ◌++◌, Result, Ok, flat_map}
 use Rattle.pb_board.specs.LineEnd.{with_end}
-use Rattle.pb_poly.specs.declared.entry.Entry.{Entry}
+use Rattle.pb_poly.specs.declared.book.Entry.{Entry}
 use Rattle.pb_poly.specs.declared.reading.BookError.{BookError}
 use Rattle.pb_commands.specs.BookJudged.{book_verdict}
 use Rattle.pb_commands.specs.Hexadecimal.{hexadecimal}

@@ -1,21 +1,25 @@
 -- The theorem of a run of `collect` that goes on from games that are held first, for the bytes of a
 -- table file and of submissions, and of the saved ledger that has these games.
-use Rattle.std.specs.Prelude.{◌≡◌, ℕ, List, [], ◌++◌}
+use Rattle.std.specs.Prelude.{◌≡◌, ℕ, List, [], ◌++◌, Result}
 use Rattle.pb_io.specs.Lines.{lines}
 use Rattle.pb_io.specs.Source.{HandsOut, SourceState}
 use Rattle.pb_poly.specs.Table.{IsTableFile}
-use Rattle.pb_poly.specs.declared.entry.Entry.{Entry}
+use Rattle.pb_poly.specs.Book.{book_bytes}
+use Rattle.pb_poly.specs.declared.book.Entry.{Entry}
 use Rattle.pb_games.specs.Submissions.{Submission}
 use Rattle.pb_accepted.specs.Accepting.{Answer, Run}
 use Rattle.pb_accepted.specs.Replying.{most_games}
-use Rattle.pb_accepted.specs.Ledger.{LedgerState}
+use Rattle.pb_accepted.specs.Ledger.{LedgerState, new_ledger}
 use Rattle.pb_accepted.specs.Replies.{replies, reply_texts}
 use Rattle.pb_accepted.specs.Rules.{CountingRules}
 use Rattle.pb_ledger.specs.Change.{across}
 use Rattle.pb_ledger.specs.Loading.{Loads}
 use Rattle.pb_commands.specs.Ends.{Change, EndStates}
 use Rattle.pb_commands.specs.Headline.{Effect, EndBytes}
-use Rattle.pb_commands.specs.Runs.{new_ledger}
+use Rattle.pb_commands.specs.Run.{Headed}
+use Rattle.pb_commands.specs.Runs.{ContinueRun}
+use Rattle.pb_commands.specs.declared.refusal.Stopped.{Stopped}
+use Rattle.pb_commands.specs.declared.run.Intake.{Intake}
 
 -- From games that were held first the lines of the submissions were answered, which left games, and
 -- the replies were put in order.
@@ -43,4 +47,10 @@ pub record HasHeadlineOfBoth (rules : CountingRules) (e : EndStates) (source : C
   pub held : List Submission
   pub loads : Loads most_games (lines saved) held
   pub goes_on : GoesOn rules e held left.accepted entries book
-  pub is : left ≡ record (new_ledger rules goes_on.randoms) { accepted = left.accepted }
+  pub is : left ≡ record (new_ledger rules goes_on.randoms most_games) { accepted = left.accepted }
+
+-- how such a run ends, with the theorem where it took submissions
+abbrev pub ContinueTheorem : CountingRules → ℕ → EndStates → Change SourceState
+    → Result Intake Stopped → Type 0
+ContinueTheorem rules fills e source = Headed (ContinueRun rules fills e source)
+    (λ left entries. HasHeadlineOfBoth rules e source left entries (book_bytes entries))

@@ -8,10 +8,10 @@ use Rattle.pb_io.specs.Lines.{lines}
 use Rattle.pb_io.specs.Source.{HandsOut}
 use Rattle.pb_poly.specs.Book.{BookBytes}
 use Rattle.pb_poly.specs.Table.{IsTableFile}
-use Rattle.pb_poly.specs.declared.entry.Entry.{Entry}
+use Rattle.pb_poly.specs.declared.book.Entry.{Entry}
 use Rattle.pb_games.specs.Submissions.{Submission}
 use Rattle.pb_accepted.specs.Basis.{Basis}
-use Rattle.pb_accepted.specs.Counting.{IsBook, counted}
+use Rattle.pb_accepted.specs.Counting.{IsBookOf}
 use Rattle.pb_accepted.specs.Replying.{AreNumbered, Replies, most_games, ok}
 use Rattle.pb_accepted.specs.Rules.{AreRules, CountingRules}
 use Rattle.pb_commands.specs.Ends.{EndStates}
@@ -26,7 +26,7 @@ pub record Effect (T : Basis) (L R : List (List ℕ)) (games : List Submission)
   pub numbered : AreNumbered ok L R games
   -- the entries and no others are the book of these games, and the bytes decode to no others
   pub is_book : (others : List Entry)
-      → IsBook (counted T games) T.rules.least others ↔ (others ≡ entries)
+      → IsBookOf T games others ↔ (others ≡ entries)
   pub bytes : (others : List Entry) → BookBytes others book ↔ (others ≡ entries)
 
 -- What is made of the bytes of a table file and those of submissions, by rules that say what of the

@@ -2,7 +2,7 @@
 use Rattle.std.specs.Prelude.{◌≡◌, ◌⊎◌, ◌-◌, ◌^◌, ℕ, List, MatchResult, Result, Ok, Err}
 use Rattle.std.specs.Prelude.{IfOk, length, min}
 use Rattle.pb_poly.specs.Book.{book_bytes}
-use Rattle.pb_poly.specs.declared.entry.Entry.{Entry}
+use Rattle.pb_poly.specs.declared.book.Entry.{Entry}
 use Rattle.pb_ledger.specs.Change.{across}
 use Rattle.pb_ledger.specs.Saving.{Saved}
 use Rattle.pb_ledger.specs.declared.totals.Totals.{Totals}

@@ -1,10 +1,11 @@
 -- The theorem of a run of `collect` with a journal, for the bytes of a table file, of the journal
 -- and of submissions, which three sources handed out, and of the book. A list is counted from 0.
-use Rattle.std.specs.Prelude.{◌≡◌, ◌⊎◌, ℕ, List, ◌++◌, Some, Ok, slice_get, take}
+use Rattle.std.specs.Prelude.{◌≡◌, ◌⊎◌, ℕ, List, ◌++◌, Some, Ok, Result, slice_get, take}
 use Rattle.pb_io.specs.Lines.{lines}
 use Rattle.pb_io.specs.Sink.{AllLasts, LastsFirst}
 use Rattle.pb_io.specs.Source.{HandsOut, SourceState}
-use Rattle.pb_poly.specs.declared.entry.Entry.{Entry}
+use Rattle.pb_poly.specs.Book.{book_bytes}
+use Rattle.pb_poly.specs.declared.book.Entry.{Entry}
 use Rattle.pb_games.specs.Submissions.{Submission}
 use Rattle.pb_accepted.specs.Accepting.{Answer}
 use Rattle.pb_accepted.specs.Replying.{Arrives, IsNumber, most_games}
@@ -15,6 +16,10 @@ use Rattle.pb_ledger.specs.Journal.{GameLines, Journals, mending}
 use Rattle.pb_ledger.specs.Streams.{Puts}
 use Rattle.pb_commands.specs.ContinueHeadline.{GoesOn}
 use Rattle.pb_commands.specs.Ends.{Change, EndStates, IsSame, JournalStates}
+use Rattle.pb_commands.specs.Run.{Headed}
+use Rattle.pb_commands.specs.Runs.{JournalRun}
+use Rattle.pb_commands.specs.declared.refusal.Stopped.{Stopped}
+use Rattle.pb_commands.specs.declared.run.Intake.{Intake}
 
 -- The games of the journal, of which its source handed out all bytes, were held first: its own
 -- lines left them. The journal was mended and gained the line of each new game in order, so that it
@@ -31,6 +36,12 @@ pub record HasHeadlineOfJournal (rules : CountingRules) (e : EndStates) (j : Jou
   pub are : GameLines new text
   pub gains : Puts j.journal (mending kept ++ text)
   pub holds_all : Journals most_games (kept ++ mending kept ++ text) (held ++ new)
+
+-- how such a run ends, with the theorem where it took submissions
+abbrev pub JournalTheorem : CountingRules → ℕ → EndStates → JournalStates → Result Intake Stopped
+    → Type 0
+JournalTheorem rules fills e j = Headed (JournalRun rules fills e j)
+    (λ _ entries. HasHeadlineOfJournal rules e j entries (book_bytes entries))
 
 -- A journal of these bytes holds all that was acknowledged: of these lines, the first of what was
 -- handed out of the submissions, a front of the replies was put, and each game that one of them

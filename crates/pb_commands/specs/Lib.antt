@@ -37,5 +37,5 @@ pub mod Tree
 pub mod TreeRun
 pub mod WithBook
 pub use Rattle.pb_poly.specs.TableReading
-pub use Rattle.pb_poly.specs.declared.table_file.TableFault
+pub use Rattle.pb_poly.specs.declared.table.TableFault
 pub use Rattle.pb_ledger.specs.Games

@@ -4,9 +4,9 @@ use Rattle.std.specs.Prelude.{◌≡◌, ℕ, List, [], ◌∷◌, Result, codes
 use Rattle.std.specs.List.{join_with_byte}
 use Rattle.pb_board.specs.LineEnd.{with_end}
 use Rattle.pb_moves.specs.Moved.{Moved}
-use Rattle.pb_poly.specs.declared.entry.Entry.{Entry}
+use Rattle.pb_poly.specs.declared.book.Entry.{Entry}
 use Rattle.pb_poly.specs.declared.reading.BookError.{BookError}
-use Rattle.pb_poly.specs.declared.table_file.TableFault.{TableFault}
+use Rattle.pb_poly.specs.declared.table.TableFault.{TableFault}
 use Rattle.pb_commands.specs.EpdShown.{AsEpd, LineGives, epd_verdict}
 use Rattle.pb_commands.specs.Judged.{ByInput, Verdict}
 use Rattle.pb_commands.specs.LinesShown.{LinesShown}

@@ -6,9 +6,9 @@ use Rattle.pb_board.specs.LineEnd.{with_end}
 use Rattle.pb_moves.specs.Moved.{Moved}
 use Rattle.pb_moves.specs.Spelling.{spelling}
 use Rattle.pb_io.specs.Source.{SourceState}
-use Rattle.pb_poly.specs.declared.entry.Entry.{Entry}
+use Rattle.pb_poly.specs.declared.book.Entry.{Entry}
 use Rattle.pb_poly.specs.declared.reading.BookError.{BookError}
-use Rattle.pb_poly.specs.declared.table_file.TableFault.{TableFault}
+use Rattle.pb_poly.specs.declared.table.TableFault.{TableFault}
 use Rattle.pb_poly.specs.Found.{Found}
 use Rattle.pb_poly.specs.Reading.{ReadsBook}
 use Rattle.pb_poly.specs.TableReading.{ReadsTable}

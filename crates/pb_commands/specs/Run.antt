@@ -4,8 +4,8 @@ use Rattle.std.specs.Prelude.{Option, Some, None, Result, Ok, Err}
 use Rattle.pb_io.specs.declared.fault.Fault.{Fault}
 use Rattle.pb_io.specs.declared.fault.Fault.TheVariants.{Memory}
 use Rattle.pb_poly.specs.Entry.{IsEntry}
-use Rattle.pb_poly.specs.declared.entry.Entry.{Entry}
-use Rattle.pb_accepted.specs.Counting.{IsBook, counted}
+use Rattle.pb_poly.specs.declared.book.Entry.{Entry}
+use Rattle.pb_accepted.specs.Counting.{IsBookOf}
 use Rattle.pb_accepted.specs.Ledger.{LedgerState}
 use Rattle.pb_commands.specs.declared.refusal.Refused.{Refused}
 use Rattle.pb_commands.specs.declared.refusal.Stopped.{Stopped}
@@ -16,7 +16,7 @@ use Rattle.pb_commands.specs.declared.run.Intake.{Intake}
 -- these are the entries of the book of the games that a ledger holds; or memory was wanting for it
 abbrev pub MayBeBook : LedgerState → Result (List Entry) Fault → Type 0
 MayBeBook left (Ok entries) =
-    IsBook (counted left.basis left.accepted) left.basis.rules.least entries × All IsEntry entries
+    IsBookOf left.basis left.accepted entries × All IsEntry entries
 MayBeBook left (Err fault) = fault ≡ Memory
 
 -- the book of what was taken is made of it; or there is none, but the fault that ended the taking

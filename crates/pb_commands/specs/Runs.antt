@@ -5,11 +5,11 @@ use Rattle.pb_io.specs.Sink.{SinkState}
 use Rattle.pb_io.specs.Source.{SourceState}
 use Rattle.pb_io.specs.declared.fault.Fault.{Fault}
 use Rattle.pb_poly.specs.TableReading.{ReadsTable}
-use Rattle.pb_poly.specs.declared.table_file.TableFault.{TableFault}
+use Rattle.pb_poly.specs.declared.table.TableFault.{TableFault}
 use Rattle.pb_accepted.specs.Replying.{most_games}
-use Rattle.pb_accepted.specs.Ledger.{LedgerState}
+use Rattle.pb_accepted.specs.Ledger.{LedgerState, new_ledger}
 use Rattle.pb_accepted.specs.Rules.{AreRules, CountingRules}
-use Rattle.pb_ledger.specs.Change.{across}
+use Rattle.pb_ledger.specs.Change.{across, from_to}
 use Rattle.pb_ledger.specs.Collecting.{CollectsStream, CollectsUntil}
 use Rattle.pb_ledger.specs.Journaling.{Gains, JournalsUntil}
 use Rattle.pb_ledger.specs.Loading.{Loads, LoadsUntil}
@@ -31,15 +31,10 @@ StopsFor why sink stop = across (Accepts {X = ⊤} (Err why)) sink (Err stop)
 
 -- ---- which games are held first
 
--- a ledger of a table with these random numbers, without games
-abbrev pub new_ledger : CountingRules → List ℕ → LedgerState
-new_ledger rules randoms =
-    record { basis = record { randoms = randoms; rules = rules }; cap = most_games; accepted = [] }
-
 -- the table was read, and this is a ledger of it without games, by rules within their bounds
 abbrev pub Opens : CountingRules → ℕ → Change SourceState → LedgerState → Type 0
 Opens rules fills table new = (randoms : List ℕ) × across (ReadsTable fills) table (Ok randoms)
-    × AreRules rules × (new ≡ new_ledger rules randoms)
+    × AreRules rules × (new ≡ new_ledger rules randoms most_games)
 
 -- there is no table, and the run stopped at the line that says so, or by a fault
 abbrev pub OpensNone : ℕ → Change SourceState → Change SinkState → Stopped → Type 0
@@ -50,7 +45,7 @@ OpensNone fills table sink why = (cause : TableFault)
 abbrev pub HoldsSaved : CountingRules → ℕ → Change SourceState → Change SourceState → LedgerState
     → Type 0
 HoldsSaved rules fills table saved held = (new : LedgerState) × Opens rules fills table new
-    × across (AtEnd fills) saved (Makes Loads (record { old = new; new = held }))
+    × across (AtEnd fills) saved (Makes Loads (from_to new held))
     × (held ≡ record new { accepted = held.accepted })
 
 -- there is no table, and the saved ledger was left alone; or it can't be gone on from
@@ -58,7 +53,7 @@ abbrev pub HoldsNone : CountingRules → ℕ → Change SourceState → Change S
     → Change SinkState → Stopped → Type 0
 HoldsNone rules fills table saved sink why = (OpensNone fills table sink why × IsSame saved)
     ⊎ ((new left : LedgerState) × Opens rules fills table new × (cause : LoadError)
-    × LoadsUntil fills saved (record { old = new; new = left }) cause
+    × LoadsUntil fills saved (from_to new left) cause
     × StopsFor (Ledger cause) sink why)
 
 -- ---- how submissions are taken from these games on
@@ -66,7 +61,7 @@ HoldsNone rules fills table saved sink why = (OpensNone fills table sink why × 
 -- all submissions were taken, counted and answered, and the replies handed on; or that broke off
 abbrev pub Takes : ℕ → Change SourceState → Change SinkState → LedgerState → Intake → Type 0
 Takes fills lines replies held taken =
-    let ledger : Change LedgerState = record { old = held; new = taken.ledger } in
+    let ledger = from_to held taken.ledger in
     MatchResult taken.end (CollectsStream fills lines replies ledger)
     (CollectsUntil fills lines replies ledger)
 
@@ -74,7 +69,7 @@ Takes fills lines replies held taken =
 abbrev pub TakesJournaled : ℕ → Change SourceState → Change SinkState → Change SinkState
     → LedgerState → Intake → Type 0
 TakesJournaled fills lines replies journal held taken =
-    let ledger : Change LedgerState = record { old = held; new = taken.ledger } in
+    let ledger = from_to held taken.ledger in
     MatchResult taken.end
     (λ totals. CollectsStream fills lines replies ledger totals × Gains journal ledger)
     (JournalsUntil fills lines replies journal ledger)
@@ -100,11 +95,11 @@ abbrev pub JournalRun : CountingRules → ℕ → EndStates → JournalStates �
     → Type 0
 JournalRun rules fills e j (Ok taken) = (new held : LedgerState) × Opens rules fills e.table new
     × (mended : SinkState)
-    × ReplaysAll fills j.kept (record j.journal { new = mended }) (record { old = new; new = held })
+    × ReplaysAll fills j.kept (record j.journal { new = mended }) (from_to new held)
     × (held ≡ record new { accepted = held.accepted })
     × TakesJournaled fills e.lines e.replies (record j.journal { old = mended }) held taken
 JournalRun rules fills e j (Err why) = IsSame e.lines
     × ((OpensNone fills e.table e.replies why × IsSame j.kept × IsSame j.journal)
     ⊎ ((new left : LedgerState) × Opens rules fills e.table new × (fault : Fault)
-    × ReplaysUntil fills j.kept j.journal (record { old = new; new = left }) fault
+    × ReplaysUntil fills j.kept j.journal (from_to new left) fault
     × IsSame e.replies × (why ≡ stopped.Fault fault)))

@@ -3,10 +3,10 @@
 use Rattle.std.specs.Prelude.{◌≡◌, ℕ, ◌+◌, ◌<◌, ◌≤◌, ◌⊎◌, ◌↔◌, List, [], ◌++◌, Contains, Some}
 use Rattle.std.specs.Prelude.{codes, length, slice_get, take}
 use Rattle.pb_poly.specs.Book.{BookBytes}
-use Rattle.pb_poly.specs.declared.entry.Entry.{Entry}
+use Rattle.pb_poly.specs.declared.book.Entry.{Entry}
 use Rattle.pb_games.specs.Submissions.{Submission}
 use Rattle.pb_accepted.specs.Basis.{Basis}
-use Rattle.pb_accepted.specs.Counting.{IsBook, counted}
+use Rattle.pb_accepted.specs.Counting.{IsBookOf}
 use Rattle.pb_accepted.specs.Laws.{NoRepeats}
 use Rattle.pb_accepted.specs.Replying.{Arrives, IsAccepted, IsNewId, Replies, most_games, ok}
 use Rattle.pb_accepted.specs.Replying.{refused}
@@ -28,7 +28,7 @@ pub record Sentence (T : Basis) (L R : List (List ℕ)) (entries : List Entry) (
   pub once : NoRepeats distinct
   pub accepted : (s : Submission) → Contains distinct s ↔ WasAccepted L R s
   -- the book's bytes are those of their book, and decode to its entries
-  pub is_book : IsBook (counted T distinct) T.rules.least entries
+  pub is_book : IsBookOf T distinct entries
   pub decodes : (others : List Entry) → BookBytes others book ↔ (others ≡ entries)
   -- in any order and however often: each run on the same basis that accepted the same submissions
   -- has the same bytes

@@ -1,7 +1,7 @@
 -- What is put where there is no table.
 use Rattle.std.specs.Prelude.{◌++◌, Err, codes, decimal}
-use Rattle.pb_poly.specs.declared.table_file.TableFault.{TableFault}
-use Rattle.pb_poly.specs.declared.table_file.TableFault.TheVariants.{Long, Line, Count, Fault}
+use Rattle.pb_poly.specs.declared.table.TableFault.{TableFault}
+use Rattle.pb_poly.specs.declared.table.TableFault.TheVariants.{Long, Line, Count, Fault}
 use Rattle.pb_io.specs.Fault.{fault_of_read}
 use Rattle.pb_commands.specs.Judged.{Verdict, refused_for}
 

@@ -12,7 +12,7 @@ use Rattle.pb_moves.specs.Successor.{after}
 use Rattle.pb_io.specs.Sink.{SinkState}
 use Rattle.pb_io.specs.declared.fault.Fault.{Fault}
 use Rattle.pb_io.specs.declared.fault.Fault.TheVariants.{Write, Memory}
-use Rattle.pb_poly.specs.declared.entry.Entry.{Entry}
+use Rattle.pb_poly.specs.declared.book.Entry.{Entry}
 use Rattle.pb_poly.specs.Found.{Found}
 use Rattle.pb_commands.specs.Judged.{HandedOnOnce}
 use Rattle.pb_commands.specs.ProbeShown.{found_text}

@@ -1,10 +1,8 @@
 //! The command `collect`: submissions are answered, and the book of the games is made.
 
-ghost use Rattle.pb_poly.specs.Book.{book_bytes};
-ghost use Rattle.pb_commands.specs.Answered.{IsAnswered};
+ghost use Rattle.pb_commands.specs.Answered.{CollectTheorem};
 ghost use Rattle.pb_commands.specs.Ends.{EndStates, between};
-ghost use Rattle.pb_commands.specs.Run.{Answers, Headed, MakesBook};
-ghost use Rattle.pb_commands.specs.Runs.{CollectRun};
+ghost use Rattle.pb_commands.specs.Run.{Answers, MakesBook};
 
 use crate::refusal::unless_refused;
 use crate::run::{book_of, open, take};
@@ -35,8 +33,7 @@ pub fn run_collect<Table: Source, In: Source, Out: Sink>(
       lines = between In.state source.old source.new;
       replies = between Out.state sink.old sink.new;
     } in
-        Answers (Headed (CollectRun rules fills e)
-        (λ _ entries. IsAnswered rules e entries (book_bytes entries))) MakesBook result }
+        Answers (CollectTheorem rules fills e) MakesBook result }
 {
     let Some(ledger) = unless_refused(open(alloc, rules, table_source, sink, fills))? else {
         return Ok(None);

@@ -1,12 +1,11 @@
 //! The command `collect` that goes on from a saved ledger, also up to the stores.
 
 ghost use Rattle.std.specs.Prelude.{MatchResult};
-ghost use Rattle.pb_poly.specs.Book.{book_bytes};
-ghost use Rattle.pb_commands.specs.ContinueHeadline.{HasHeadlineOfBoth};
+ghost use Rattle.pb_commands.specs.ContinueHeadline.{ContinueTheorem};
 ghost use Rattle.pb_commands.specs.Ends.{EndStates, IsSame, between, states};
 ghost use Rattle.pb_commands.specs.Into.{Into, KeepsBoth};
-ghost use Rattle.pb_commands.specs.Run.{Answers, Headed, MakesContinued};
-ghost use Rattle.pb_commands.specs.Runs.{ContinueRun, HoldsSaved, HoldsNone};
+ghost use Rattle.pb_commands.specs.Run.{Answers, MakesContinued};
+ghost use Rattle.pb_commands.specs.Runs.{HoldsSaved, HoldsNone};
 
 use crate::ends::{Ends, LedgerEnds};
 use crate::keeping::keep_book;
@@ -50,9 +49,7 @@ pub fn run_continue<Table: Source, Saved: Source, In: Source, Out: Sink>(
       replies = between Out.state sink.old sink.new;
     } in
         let earlier = between Saved.state saved.old saved.new in
-        Answers (Headed (ContinueRun rules fills e earlier) (λ left entries.
-        HasHeadlineOfBoth rules e earlier left entries (book_bytes entries)))
-        MakesContinued result }
+        Answers (ContinueTheorem rules fills e earlier) MakesContinued result }
 {
     let began = load_first(alloc, rules, table_source, saved, sink, fills);
     let Some(ledger) = unless_refused(began)? else {
@@ -113,9 +110,8 @@ pub fn continue_into<
         let saved = between Saved.state ledger.old.saved ledger.new.saved in
         let kept = between LedgerStore.state ledger.old.store ledger.new.store in
         let store = between BookStore.state book.old book.new in
-        Into (Headed (ContinueRun rules fills e saved) (λ left entries.
-        HasHeadlineOfBoth rules e saved left entries (book_bytes entries)))
-        (KeepsBoth kept store) (IsSame kept × IsSame store) result }
+        Into (ContinueTheorem rules fills e saved) (KeepsBoth kept store)
+        (IsSame kept × IsSame store) result }
 {
     let began = load_first(
         alloc,

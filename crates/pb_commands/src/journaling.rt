@@ -1,12 +1,8 @@
 //! The command `collect` with a journal, up to the store.
 
-ghost use Rattle.pb_poly.specs.Book.{book_bytes};
 ghost use Rattle.pb_commands.specs.Ends.{IsSame, between, journal_states, states};
 ghost use Rattle.pb_commands.specs.Into.{Into, KeepsBook};
-ghost use Rattle.pb_commands.specs.JournalHeadline.{HasHeadlineOfJournal, LosesNone};
-ghost use Rattle.pb_commands.specs.JournalHeadline.{LosesNoneLater};
-ghost use Rattle.pb_commands.specs.Run.{Headed};
-ghost use Rattle.pb_commands.specs.Runs.{JournalRun};
+ghost use Rattle.pb_commands.specs.JournalHeadline.{JournalTheorem, LosesNone, LosesNoneLater};
 
 use crate::ends::{Ends, JournalEnds};
 use crate::keeping::keep_book;
@@ -44,9 +40,7 @@ pub fn journal_into<
     ensures ends { let e = states Table.state In.state Out.state ends.old ends.new in
         let j = journal_states Kept.state Journal.state journal.old journal.new in
         let store = between BookStore.state book.old book.new in
-        Into (Headed (JournalRun rules fills e j)
-        (λ _ entries. HasHeadlineOfJournal rules e j entries (book_bytes entries)))
-        (KeepsBook store) (IsSame store) result }
+        Into (JournalTheorem rules fills e j) (KeepsBook store) (IsSame store) result }
     // No submission was read, or the journal holds each game that a reply calls `ok`; and so it is
     // whatever ends the run, where what the journal had before lasts.
     ensures survives { let e = states Table.state In.state Out.state ends.old ends.new in

@@ -1,11 +1,8 @@
 //! The command `collect` up to the store where its book is kept.
 
-ghost use Rattle.pb_poly.specs.Book.{book_bytes};
-ghost use Rattle.pb_commands.specs.Answered.{IsAnswered};
+ghost use Rattle.pb_commands.specs.Answered.{CollectTheorem};
 ghost use Rattle.pb_commands.specs.Ends.{IsSame, between, states};
 ghost use Rattle.pb_commands.specs.Into.{Into, KeepsBook};
-ghost use Rattle.pb_commands.specs.Run.{Headed};
-ghost use Rattle.pb_commands.specs.Runs.{CollectRun};
 
 use crate::ends::Ends;
 use crate::run::{Intake, Report, open, take};
@@ -33,9 +30,7 @@ pub fn collect_into<Table: Source, In: Source, Out: Sink, Watch: Watcher, BookSt
 ) -> Result<Report, Stop>
     ensures { let e = states Table.state In.state Out.state ends.old ends.new in
         let store = between BookStore.state book.old book.new in
-        Into (Headed (CollectRun rules fills e)
-        (λ _ entries. IsAnswered rules e entries (book_bytes entries)))
-        (KeepsBook store) (IsSame store) result }
+        Into (CollectTheorem rules fills e) (KeepsBook store) (IsSame store) result }
 {
     let ledger = open(alloc, rules, &mut ends.table, &mut ends.replies, fills)?;
     let taken = take(

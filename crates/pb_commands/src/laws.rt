@@ -1,6 +1,6 @@
 //! Laws of how commands end, as contracts of functions that do nothing.
 
-ghost use Rattle.std.specs.Bool.{Decides};
+ghost use Rattle.pb_board.specs.Equality.{IsEquality};
 ghost use Rattle.std.specs.Prelude.{◌≡◌, ◌+◌, ◌*◌, ◌<◌, ◌≤◌, ℕ, Bool, Err, IfOk, List, Ok, Result};
 ghost use Rattle.std.specs.Prelude.{Some};
 ghost use Rattle.pb_io.specs.LineTask.{IfKnown};
@@ -24,7 +24,6 @@ ghost use Rattle.pb_commands.specs.ProbeShown.{ProbeShown, ProbesSources};
 ghost use Rattle.pb_commands.specs.Refused.{taken};
 ghost use Rattle.pb_commands.specs.Tree.{share};
 ghost use Rattle.pb_commands.specs.declared.refusal.Stopped.{Stopped};
-ghost use Rattle.pb_commands.specs.declared.run.Report.{Report};
 
 use crate::refusal::Stopped;
 use crate::run::Report;
@@ -44,8 +43,8 @@ pub fn epd_ends()
 
 /// Reports are equal exactly where they are one, and so are reasons why a command stopped.
 pub fn equal_values()
-    ensures reports { (a b : Report) → Decides (⟦<Report as PartialEq>⟧.eq a b) (a ≡ b) }
-    ensures stopped { (a b : Stopped) → Decides (⟦<Stopped as PartialEq>⟧.eq a b) (a ≡ b) }
+    ensures reports { IsEquality ⟦<Report as PartialEq>⟧.eq }
+    ensures stopped { IsEquality ⟦<Stopped as PartialEq>⟧.eq }
 {}
 
 /// What `run_show` puts, where its bytes are known, is what they show; only want of memory comes in

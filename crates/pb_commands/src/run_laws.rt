@@ -1,7 +1,7 @@
 //! Laws of `pbook collect` and `check`, and of equality (`==`), as contracts of functions that do
 //! nothing.
 
-ghost use Rattle.std.specs.Bool.{Decides};
+ghost use Rattle.pb_board.specs.Equality.{IsEquality};
 ghost use Rattle.std.specs.Prelude.{◌≡◌, ◌⊎◌, ◌++◌, [], ℕ, Bool, Err, Ok, Some, false, List, true};
 ghost use Rattle.pb_io.specs.LineTask.{IfKnown};
 ghost use Rattle.pb_io.specs.Sink.{SinkState};
@@ -9,7 +9,7 @@ ghost use Rattle.pb_io.specs.Source.{SourceState};
 ghost use Rattle.pb_io.specs.declared.fault.Fault.TheVariants.{Memory};
 ghost use Rattle.pb_io.specs.Lines.{lines};
 ghost use Rattle.pb_poly.specs.Book.{book_bytes};
-ghost use Rattle.pb_poly.specs.declared.entry.Entry.{Entry};
+ghost use Rattle.pb_poly.specs.declared.book.Entry.{Entry};
 ghost use Rattle.pb_games.specs.Submissions.{Submission};
 ghost use Rattle.pb_games.specs.declared.refusal.Refusal.{Refusal};
 ghost use Rattle.pb_games.specs.declared.refusal.Refusal.TheVariants as refusal;
@@ -32,8 +32,6 @@ ghost use Rattle.pb_commands.specs.declared.refusal.Stopped.TheVariants as stopp
 ghost use Rattle.pb_commands.specs.Sentence.{Sentence};
 ghost use Rattle.pb_commands.specs.declared.run.Intake.{Intake};
 ghost use Rattle.pb_commands.specs.declared.run.Report.{Report};
-ghost use Rattle.pb_commands.specs.declared.stop.Stop.{Stop};
-ghost use Rattle.pb_commands.specs.declared.store.StoreError.{StoreError};
 ghost use Rattle.pb_commands.specs.CheckShown.{CheckShown};
 ghost use Rattle.pb_commands.specs.ContinueHeadline.{HasHeadlineOfBoth};
 ghost use Rattle.pb_commands.specs.Headline.{Effect, HasHeadline, Headline};
@@ -92,8 +90,8 @@ pub fn unread()
 
 /// Reasons why a text isn't kept, and why a run stops, are equal exactly where they are one.
 pub fn equal_values()
-    ensures text { (a b : StoreError) → Decides (⟦<StoreError as PartialEq>⟧.eq a b) (a ≡ b) }
-    ensures stop { (a b : Stop) → Decides (⟦<Stop as PartialEq>⟧.eq a b) (a ≡ b) }
+    ensures text { IsEquality ⟦<StoreError as PartialEq>⟧.eq }
+    ensures stop { IsEquality ⟦<Stop as PartialEq>⟧.eq }
 {}
 
 /// Where the bytes of `run_check` are known, what was put is what their lines give. No line wants

@@ -4,7 +4,7 @@ use Rattle.std.specs.Prelude.{All}
 use Rattle.std.proofs.lemmas.List.{length-append}
 use Rattle.std.proofs.lemmas.List.Elements.{All-cons, All-nil, All-weaker}
 use Rattle.pb_board.specs.declared.refusal.FenError.{FenError}
-use Rattle.pb_epd.specs.declared.operand.Operand.{Operand}
+use Rattle.pb_epd.specs.declared.operation.Operand.{Operand}
 use Rattle.pb_epd.specs.declared.refusal.EpdError.{EpdError}
 use Rattle.pb_epd.specs.declared.refusal.EpdError.TheVariants as epd
 use Rattle.pb_epd.specs.declared.refusal.PutError.{PutError}

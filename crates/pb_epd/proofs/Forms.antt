@@ -8,8 +8,8 @@ use Rattle.pb_board.specs.Position.{Position}
 use Rattle.pb_board.specs.Text.{castling_text, en_passant_text, placement_text, setup_fields, turn_text}
 use Rattle.pb_board.proofs.Unique.{one_setup}
 use Rattle.pb_board.proofs.FieldWords.{IsPlainByte, IsWord, setup_words}
-use Rattle.pb_epd.specs.declared.operand.Operand.{Operand}
-use Rattle.pb_epd.specs.declared.operand.Operand.TheVariants as operand
+use Rattle.pb_epd.specs.declared.operation.Operand.{Operand}
+use Rattle.pb_epd.specs.declared.operation.Operand.TheVariants as operand
 use Rattle.pb_epd.specs.declared.refusal.EpdError.{EpdError}
 use Rattle.pb_epd.specs.declared.refusal.EpdError.TheVariants as epd
 use Rattle.pb_epd.specs.Token.{Token, word, end_mark, IsToken, IsWordByte, TokensAfter, token_text}

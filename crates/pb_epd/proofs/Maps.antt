@@ -13,7 +13,7 @@ use Rattle.std.specs.BTreeMap.{insert_entry}
 use Rattle.std.proofs.lemmas.Map.Lookups.{exact_bytes}
 use Rattle.std.proofs.lemmas.Bool.{false≢true}
 use Rattle.std.proofs.lemmas.List.Elements.{All-nil, All-cons}
-use Rattle.pb_epd.specs.declared.operand.Operand.{Operand}
+use Rattle.pb_epd.specs.declared.operation.Operand.{Operand}
 use Rattle.pb_epd.specs.Operation.{Operation}
 use Rattle.pb_epd.specs.ByteOrder.{IsBytesBelow}
 use Rattle.pb_epd.specs.Epd.{operations_of}

@@ -9,7 +9,7 @@ use Rattle.pb_board.specs.declared.refusal.FenError.TheVariants as fen
 use Rattle.pb_board.specs.Refusal.{BreaksAt, IsDueFen, IsFirstOf, of_setup}
 use Rattle.pb_board.proofs.Breaks.{one_all_break}
 use Rattle.pb_board.proofs.Dues.{one_first}
-use Rattle.pb_epd.specs.declared.operand.Operand.{Operand}
+use Rattle.pb_epd.specs.declared.operation.Operand.{Operand}
 use Rattle.pb_epd.specs.declared.refusal.EpdError.{EpdError}
 use Rattle.pb_epd.specs.declared.refusal.EpdError.TheVariants as epd
 use Rattle.pb_epd.specs.declared.refusal.PutError.{PutError}

@@ -2,7 +2,7 @@
 use Rattle.std.proofs.Common.{◌≡◌, ◌<◌, ◌↔◌, ◌⊎◌, ℕ, List, None, sym, subst, inl, inr, arith}
 use Rattle.std.specs.Prelude.{All, Contains}
 use Rattle.std.proofs.lemmas.List.Elements.{All-contains}
-use Rattle.pb_epd.specs.declared.operand.Operand.{Operand}
+use Rattle.pb_epd.specs.declared.operation.Operand.{Operand}
 use Rattle.pb_epd.specs.declared.refusal.PutError.{PutError}
 use Rattle.pb_epd.specs.declared.refusal.PutError.TheVariants as put
 use Rattle.pb_epd.specs.Operation.{Operation, IsOpcode, IsOperand, IsOperation}

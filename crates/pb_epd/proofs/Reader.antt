@@ -4,8 +4,8 @@ use Rattle.std.specs.Prelude.{All, map}
 use Rattle.std.specs.Borrow.{Bor}
 use Rattle.std.proofs.lemmas.List.{append_assoc, append-nil, map_push}
 use Rattle.std.proofs.lemmas.List.Elements.{All-nil, All-cons, All-push, All-same}
-use Rattle.pb_epd.specs.declared.operand.Operand.{Operand}
-use Rattle.pb_epd.specs.declared.operand.Operand.TheVariants as operand
+use Rattle.pb_epd.specs.declared.operation.Operand.{Operand}
+use Rattle.pb_epd.specs.declared.operation.Operand.TheVariants as operand
 use Rattle.pb_epd.specs.declared.token.Lexeme.{Lexeme}
 use Rattle.pb_epd.specs.declared.token.Lexeme.TheVariants as lexeme
 use Rattle.pb_epd.specs.declared.token.Next.{Next}

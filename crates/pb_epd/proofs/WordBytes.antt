@@ -3,7 +3,7 @@ use Rattle.std.proofs.Common.{◌≡◌, ℕ, ◌<◌, ◌↔◌, ◌&&◌, Bool
 use Rattle.std.specs.Prelude.{IsTrue}
 use Rattle.std.proofs.lemmas.Bool.{agree_below, agree_below_at}
 use Rattle.pb_epd.specs.Token.{IsWordByte}
-use Rattle.pb_epd.specs.declared.byte_runs.TheConstants.{WORD_BYTES}
+use Rattle.pb_epd.specs.declared.token.TheConstants.{WORD_BYTES}
 
 -- a byte of 33 to 126 that is no ; and no "
 abbrev tests_word : ℕ → Bool

@@ -3,7 +3,7 @@ use Rattle.std.specs.Prelude.{◌≡◌, ◌≢◌, ◌<◌, ◌↔◌, ℕ, ◌
 use Rattle.std.specs.Prelude.{map, flat_map, All, AllPairs, Contains, MatchOption, Option}
 use Rattle.std.specs.List.{slice_split}
 use Rattle.pb_board.specs.Refusal.{BreaksAt}
-use Rattle.pb_epd.specs.declared.operand.Operand.{Operand}
+use Rattle.pb_epd.specs.declared.operation.Operand.{Operand}
 use Rattle.pb_epd.specs.declared.read.SoFar.{SoFar}
 use Rattle.pb_epd.specs.declared.read.NextOperation.{NextOperation}
 use Rattle.pb_epd.specs.declared.read.NextOperation.TheVariants as next

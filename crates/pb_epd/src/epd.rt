@@ -4,10 +4,9 @@ ghost use Rattle.std.specs.Prelude.{◌≡◌, ◌↔◌, [], IsTrue, List, leng
 ghost use Rattle.pb_epd.specs.Epd.{EpdRecord, IsEpd, operations_of};
 ghost use Rattle.pb_epd.specs.Operation.{IsOperation};
 ghost use Rattle.pb_epd.specs.Refusal.{PutsOperation};
-ghost use Rattle.pb_epd.specs.declared.operand.Operand.{Operand};
+ghost use Rattle.pb_epd.specs.declared.operation.Operand.{Operand};
 
-use crate::operand::Operand;
-use crate::operation::{first_unlawful, is_opcode};
+use crate::operation::{Operand, first_unlawful, is_opcode};
 use crate::refusal::PutError;
 use pb_board::Setup;
 use std::alloc::Global;

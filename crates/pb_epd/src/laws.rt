@@ -1,14 +1,14 @@
 //! Laws of EPD records and their texts, and of equality (`==`) between refusals.
 
 ghost use Rattle.std.specs.Prelude.{◌≡◌, ◌≢◌, [], ℕ, List};
-ghost use Rattle.std.specs.Bool.{Decides};
+ghost use Rattle.pb_board.specs.Equality.{IsEquality};
 ghost use Rattle.pb_epd.specs.declared.refusal.EpdError.{EpdError};
 ghost use Rattle.pb_epd.specs.declared.refusal.PutError.{PutError};
 ghost use Rattle.pb_epd.specs.Epd.{EpdRecord, IsEpd, EpdText, epd_form};
 ghost use Rattle.pb_epd.specs.Token.{IsBadAt};
 ghost use Rattle.pb_epd.specs.declared.refusal.EpdError.TheVariants as epd;
 ghost use Rattle.pb_epd.specs.Refusal.{IsFirstDueEpd, IsFirstDuePut, IsFourWords};
-ghost use Rattle.pb_epd.specs.declared.operand.Operand.{Operand};
+ghost use Rattle.pb_epd.specs.declared.operation.Operand.{Operand};
 
 use crate::refusal::{EpdError, PutError};
 
@@ -50,6 +50,6 @@ pub fn bare_is_four_words()
 
 /// Refusals of operations, and of texts, are equal exactly where cause and place are the same.
 pub fn equal_refusals()
-    ensures operations { (a b : PutError) → Decides (⟦<PutError as PartialEq>⟧.eq a b) (a ≡ b) }
-    ensures texts { (a b : EpdError) → Decides (⟦<EpdError as PartialEq>⟧.eq a b) (a ≡ b) }
+    ensures operations { IsEquality ⟦<PutError as PartialEq>⟧.eq }
+    ensures texts { IsEquality ⟦<EpdError as PartialEq>⟧.eq }
 {}

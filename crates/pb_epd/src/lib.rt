@@ -7,10 +7,8 @@
 //! ```
 #![tactic(auto)]
 
-mod byte_runs;
 mod epd;
 pub mod laws;
-mod operand;
 mod operation;
 mod read;
 mod refusal;
@@ -18,7 +16,7 @@ mod token;
 mod write;
 
 pub use epd::Epd;
-pub use operand::{Operand, OperandBytes};
+pub use operation::{Operand, OperandBytes};
 pub use read::read_epd;
 pub use refusal::{EpdError, PutError};
 pub use write::write_epd;

@@ -14,8 +14,7 @@ ghost use Rattle.pb_epd.specs.Reading.{AreOperations, RefusesTokens, StandsWith}
 ghost use Rattle.pb_epd.specs.declared.refusal.EpdError.TheVariants as epd;
 
 use crate::epd::Epd;
-use crate::operand::{Operand, OperandBytes};
-use crate::operation::is_opcode;
+use crate::operation::{Operand, OperandBytes, is_opcode};
 use crate::refusal::{EpdError, PutError};
 use crate::token::{Lexeme, Next, first_bad, next_token};
 use pb_board::{Setup, read_setup};

@@ -1,10 +1,57 @@
 //! The tokens of an EPD line: words, quoted texts and ends, with spaces around them.
 
-ghost use Rattle.std.specs.Prelude.{◌≡◌, ◌≢◌, ◌↔◌, ◌++◌, ◌∷◌, List, ℕ, IsTrue, MatchOption};
-ghost use Rattle.pb_epd.specs.Token.{Token, text as text_token, word, Tokens, IsToken, IsBadAt};
+ghost use Rattle.std.specs.Prelude.{◌≡◌, ◌↔◌, ◌<◌, IsTrue, ◌≢◌, ◌++◌, ◌∷◌, List, ℕ, MatchOption};
+ghost use Rattle.pb_epd.specs.Token.{IsWordByte, IsTextByte, Token, text as text_token, word};
+ghost use Rattle.pb_epd.specs.Token.{Tokens, IsToken, IsBadAt};
+ghost use Rattle.pb_epd.specs.Run.{IsRun};
 ghost use Rattle.pb_epd.specs.Lexeme.{IsOperandToken, BeginsWith, token_of, Begins, IsNext};
 
-use crate::byte_runs::{space_run, text_run, word_run};
+/// Lines are long, so a byte is judged by one look-up: `y` if a word may have it.
+static WORD_BYTES: [u8; 256] = *b"\
+    nnnnnnnnnnnnnnnnnnnnnnnnnnnnnnnn\
+    nynyyyyyyyyyyyyyyyyyyyyyyyynyyyy\
+    yyyyyyyyyyyyyyyyyyyyyyyyyyyyyyyy\
+    yyyyyyyyyyyyyyyyyyyyyyyyyyyyyyyn\
+    nnnnnnnnnnnnnnnnnnnnnnnnnnnnnnnn\
+    nnnnnnnnnnnnnnnnnnnnnnnnnnnnnnnn\
+    nnnnnnnnnnnnnnnnnnnnnnnnnnnnnnnn\
+    nnnnnnnnnnnnnnnnnnnnnnnnnnnnnnnn";
+
+fn is_word_byte(byte: u8) -> bool
+    ensures { IsTrue result ↔ IsWordByte byte }
+{
+    WORD_BYTES[byte as usize] == b'y'
+}
+
+fn is_text_byte(byte: u8) -> bool
+    ensures { IsTrue result ↔ IsTextByte byte }
+{
+    (32..=126).contains(&byte) && byte != b'"'
+}
+
+pub(crate) fn space_run(text: &[u8]) -> usize
+    ensures { IsRun (λ b. b ≡ 32) text.now result }
+{
+    text.iter()
+        .position(|byte| *byte != b' ')
+        .unwrap_or(text.len())
+}
+
+pub(crate) fn word_run(text: &[u8]) -> usize
+    ensures { IsRun IsWordByte text.now result }
+{
+    text.iter()
+        .position(|byte| !is_word_byte(*byte))
+        .unwrap_or(text.len())
+}
+
+pub(crate) fn text_run(text: &[u8]) -> usize
+    ensures { IsRun IsTextByte text.now result }
+{
+    text.iter()
+        .position(|byte| !is_text_byte(*byte))
+        .unwrap_or(text.len())
+}
 
 pub(crate) const LONGEST: usize = 255;
 

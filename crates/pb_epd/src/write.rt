@@ -7,7 +7,7 @@ ghost use Rattle.pb_epd.specs.Token.{token_text};
 ghost use Rattle.pb_epd.specs.Operation.{operand_token, operation_text};
 
 use crate::epd::Epd;
-use crate::operand::Operand;
+use crate::operation::Operand;
 use pb_board::write_setup;
 use std::alloc::{AllocError, Global};
 

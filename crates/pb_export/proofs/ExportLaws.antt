@@ -6,7 +6,7 @@ use Rattle.pb_board.specs.Position.{Position}
 use Rattle.pb_epd.specs.ByteOrder.{IsBytesBelow}
 use Rattle.pb_epd.proofs.Order.{below_itself, both_below}
 use Rattle.pb_games.specs.Submissions.{Submission}
-use Rattle.pb_poly.specs.declared.entry.Entry.{Entry}
+use Rattle.pb_poly.specs.declared.book.Entry.{Entry}
 use Rattle.pb_accepted.specs.Accepting.{Answer, Run}
 use Rattle.pb_accepted.specs.Basis.{Basis}
 use Rattle.pb_accepted.specs.Counting.{counted}

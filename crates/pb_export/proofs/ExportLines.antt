@@ -18,7 +18,7 @@ use Rattle.pb_moves.specs.Played.{Ply}
 use Rattle.pb_io.specs.Count.{next_count}
 use Rattle.pb_io.specs.Sink.{Flush, SinkState}
 use Rattle.pb_io.proofs.FlushLemmas.{not_flushed}
-use Rattle.pb_poly.specs.declared.entry.Entry.{Entry}
+use Rattle.pb_poly.specs.declared.book.Entry.{Entry}
 use Rattle.pb_io.specs.declared.source.Failed.{Failed}
 use Rattle.pb_poly.specs.Found.{Found}
 use Rattle.pb_poly.proofs.Finding.{found_is_one}

@@ -20,7 +20,7 @@ use Rattle.pb_epd.proofs.Lists.{contains_none, pairs_none}
 use Rattle.pb_games.specs.declared.game.Game.{Game}
 use Rattle.pb_games.specs.Submissions.{IsLegalGame, IsSubmission, Submission, plies}
 use Rattle.pb_accepted.specs.Replying.{IsNumber}
-use Rattle.pb_poly.specs.declared.entry.Entry.{Entry}
+use Rattle.pb_poly.specs.declared.book.Entry.{Entry}
 use Rattle.pb_poly.specs.Found.{Found}
 use Rattle.pb_export.specs.Setups.{HasMoves, IsListedAs, ListsSetups, all_setups, moves_of, setups_before}
 use Rattle.pb_export.specs.declared.setups.ListedSetup.{ListedSetup}

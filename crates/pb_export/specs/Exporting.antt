@@ -8,8 +8,8 @@ use Rattle.pb_board.specs.LineEnd.{with_end}
 use Rattle.pb_board.specs.Text.{setup_text}
 use Rattle.pb_epd.specs.ByteOrder.{IsBytesBelow}
 use Rattle.pb_epd.specs.Epd.{EpdRecord, epd_form}
-use Rattle.pb_epd.specs.declared.operand.Operand.{Operand}
-use Rattle.pb_epd.specs.declared.operand.Operand.TheVariants.{Word}
+use Rattle.pb_epd.specs.declared.operation.Operand.{Operand}
+use Rattle.pb_epd.specs.declared.operation.Operand.TheVariants.{Word}
 use Rattle.pb_games.specs.Submissions.{Submission, plies}
 use Rattle.pb_moves.specs.Moved.{Moved}
 use Rattle.pb_moves.specs.Spelling.{spelling}
@@ -18,9 +18,9 @@ use Rattle.pb_io.specs.Count.{next_count}
 use Rattle.pb_io.specs.Sink.{AwaitsFlush, HandedOn, SinkState}
 use Rattle.pb_io.specs.declared.fault.Fault.{Fault}
 use Rattle.pb_io.specs.declared.fault.Fault.TheVariants as run
-use Rattle.pb_poly.specs.declared.entry.Entry.{Entry}
+use Rattle.pb_poly.specs.declared.book.Entry.{Entry}
 use Rattle.pb_accepted.specs.Basis.{Basis}
-use Rattle.pb_accepted.specs.Counting.{IsBook, counted}
+use Rattle.pb_accepted.specs.Counting.{IsBookOf}
 use Rattle.pb_accepted.specs.Ledger.{LedgerState}
 use Rattle.pb_export.specs.declared.exporting.ExportFault.{ExportFault}
 use Rattle.pb_export.specs.declared.exporting.ExportFault.TheVariants as fault
@@ -67,7 +67,7 @@ pub record IsListing (is : Listed → Type 0) (listed : List Listed) : Type 0 wh
 -- the lines of the export of the games
 pub record ExportLines (T : Basis) (S : List Submission) (lines : List (List ℕ)) : Type 0 where
   pub book : List Entry
-  pub is_book : IsBook (counted T S) T.rules.least book
+  pub is_book : IsBookOf T S book
   pub listed : List Listed
   pub is_listing : IsListing (IsListed T S book) listed
   pub are : lines ≡ map (λ x. x.line) listed

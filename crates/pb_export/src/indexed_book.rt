@@ -21,7 +21,7 @@ pub(crate) struct IndexedBook {
 
 impl Model for IndexedBook {
     ghost use Rattle.std.specs.Prelude.{List};
-    ghost use Rattle.pb_poly.specs.declared.entry.Entry.{Entry};
+    ghost use Rattle.pb_poly.specs.declared.book.Entry.{Entry};
     ghost use Rattle.pb_export.specs.Indexing.{AreFirsts};
 
     ghost Value = { List Entry };

@@ -7,7 +7,7 @@ ghost use Rattle.pb_board.specs.Text.{setup_text};
 ghost use Rattle.pb_games.specs.Submissions.{IsLegalGame};
 ghost use Rattle.pb_moves.specs.Moved.{Moved};
 ghost use Rattle.pb_poly.specs.Found.{Found};
-ghost use Rattle.pb_poly.specs.declared.entry.Entry.{Entry as BookEntry};
+ghost use Rattle.pb_poly.specs.declared.book.Entry.{Entry as BookEntry};
 ghost use Rattle.pb_poly.specs.Key.{key as key_by};
 ghost use Rattle.pb_export.specs.Setups.{AddsSetups, HasMoves, InFieldOrder, ListsSetups};
 ghost use Rattle.pb_export.specs.Setups.{all_setups, moves_of, setups_before};

@@ -21,8 +21,8 @@ use Rattle.pb_board.specs.declared.piece.Colour.TheVariants as side
 use Rattle.pb_board.specs.Piece.{piece_of}
 use Rattle.pb_board.specs.Text.{piece_letter}
 use Rattle.pb_moves.specs.Spelling.{spelling}
-use Rattle.pb_games.specs.declared.outcome.Outcome.{Outcome}
-use Rattle.pb_games.specs.declared.outcome.Outcome.TheVariants as outcome
+use Rattle.pb_games.specs.declared.game.Outcome.{Outcome}
+use Rattle.pb_games.specs.declared.game.Outcome.TheVariants as outcome
 use Rattle.pb_games.specs.Ids.{IsId, IsPrintable}
 use Rattle.pb_games.specs.Results.{outcome_text}
 use Rattle.pb_games.specs.Submissions.{moves_text}

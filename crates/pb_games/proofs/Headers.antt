@@ -4,7 +4,7 @@ use Rattle.pb_board.specs.declared.refusal.FenError.{FenError}
 use Rattle.pb_board.specs.Fields.{field, fields}
 use Rattle.pb_board.specs.Refusal.{fen_errors}
 use Rattle.pb_board.proofs.Dues.{IsFirstDue}
-use Rattle.pb_games.specs.declared.outcome.Outcome.{Outcome}
+use Rattle.pb_games.specs.declared.game.Outcome.{Outcome}
 use Rattle.pb_games.specs.declared.refusal.Refusal.TheVariants as refusal
 use Rattle.pb_games.specs.Ids.{IsId}
 use Rattle.pb_games.specs.declared.fields.TheConstants.{MAX_BYTES}

@@ -15,7 +15,7 @@ use Rattle.std.specs.Str.Lines.{strip_carriage_return}
 use Rattle.pb_moves.specs.Attacks.{IsPlayable}
 use Rattle.pb_moves.specs.Played.{AreLegal, IsSpelled}
 use Rattle.pb_games.specs.declared.fields.LineFields.{LineFields}
-use Rattle.pb_games.specs.declared.outcome.Outcome.{Outcome}
+use Rattle.pb_games.specs.declared.game.Outcome.{Outcome}
 use Rattle.pb_games.specs.declared.refusal.Refusal.{Refusal}
 use Rattle.pb_games.specs.declared.refusal.Refusal.TheVariants as refusal
 use Rattle.pb_games.specs.Cuts.{IsCut, fields_of}

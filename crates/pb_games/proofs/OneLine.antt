@@ -10,8 +10,8 @@ use Rattle.pb_board.proofs.Unique as unique
 use Rattle.pb_moves.specs.Moved.{Moved, IsMove}
 use Rattle.pb_moves.specs.Spelling.{spelling}
 use Rattle.pb_games.specs.declared.game.Game.{Game}
-use Rattle.pb_games.specs.declared.outcome.Outcome.{Outcome}
-use Rattle.pb_games.specs.declared.outcome.Outcome.TheVariants as outcome
+use Rattle.pb_games.specs.declared.game.Outcome.{Outcome}
+use Rattle.pb_games.specs.declared.game.Outcome.TheVariants as outcome
 use Rattle.pb_games.specs.Results.{outcome_text}
 use Rattle.pb_games.specs.Submissions.{Submits, Submission, moves_text, IsGame, submission_text}
 use Rattle.pb_games.specs.Tokens.{tokens_of}

@@ -2,7 +2,7 @@
 use Rattle.std.specs.Prelude.{◌≡◌, ℕ, List, length, All}
 use Rattle.pb_board.specs.Position.{Record}
 use Rattle.pb_moves.specs.Played.{IsSpelled}
-use Rattle.pb_games.specs.declared.outcome.Outcome.{Outcome}
+use Rattle.pb_games.specs.declared.game.Outcome.{Outcome}
 use Rattle.pb_games.specs.Submissions.{Submission, IsSubmission}
 use Rattle.pb_games.specs.Tokens.{tokens_of, moves_spelt}
 

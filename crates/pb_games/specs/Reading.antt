@@ -3,7 +3,7 @@ use Rattle.std.specs.Prelude.{◌≡◌, ℕ, ◌≤◌, ◌<◌, List, length, 
 use Rattle.pb_board.specs.Position.{Position}
 use Rattle.pb_board.specs.Refusal.{BreaksAt}
 use Rattle.pb_moves.specs.Played.{Ply, AreLegal, IsSpelled}
-use Rattle.pb_games.specs.declared.outcome.Outcome.{Outcome}
+use Rattle.pb_games.specs.declared.game.Outcome.{Outcome}
 use Rattle.pb_games.specs.declared.refusal.Refusal.{Refusal}
 use Rattle.pb_games.specs.declared.refusal.Refusal.TheVariants as refusal
 use Rattle.pb_games.specs.declared.judge.TheConstants.{MAX_PLIES}

@@ -10,7 +10,7 @@ use Rattle.pb_moves.specs.Attacks.{IsPlayable}
 use Rattle.pb_moves.specs.Moved.{Moved, IsMove}
 use Rattle.pb_moves.specs.Spelling.{spelling}
 use Rattle.pb_moves.specs.Played.{AreLegal, IsSpelled}
-use Rattle.pb_games.specs.declared.outcome.Outcome.{Outcome}
+use Rattle.pb_games.specs.declared.game.Outcome.{Outcome}
 use Rattle.pb_games.specs.declared.refusal.Refusal.{Refusal}
 use Rattle.pb_games.specs.declared.refusal.Refusal.TheVariants as refusal
 use Rattle.pb_games.specs.Ids.{IsId}

@@ -2,7 +2,7 @@
 use Rattle.std.specs.Prelude.{ℕ, List, [], ◌∷◌, codes}
 use Rattle.std.specs.List.{join_with_byte}
 use Rattle.pb_moves.specs.Worked.{fools_mate}
-use Rattle.pb_games.specs.declared.outcome.Outcome.TheVariants.{Black}
+use Rattle.pb_games.specs.declared.game.Outcome.TheVariants.{Black}
 use Rattle.pb_games.specs.Starts.{initial_record}
 use Rattle.pb_games.specs.Submissions.{Submission}
 

@@ -1,16 +1,19 @@
-//! The four fields of a line.
+//! The four fields of a line, and the record that the third spells.
 
-ghost use Rattle.std.specs.Prelude.{◌≡◌, ◌≢◌, ◌≤◌, ◌∷◌, [], IfErr, IfOk, IfSome, IsOk};
-ghost use Rattle.std.specs.Prelude.{MatchOption, length};
-ghost use Rattle.pb_board.specs.Fields.{fields, tab};
+ghost use Rattle.std.specs.Prelude.{◌≡◌, ◌≢◌, ◌≤◌, ◌∷◌, [], IfErr, IfOk, IfSome, IsOk, MatchOption};
+ghost use Rattle.std.specs.Prelude.{length, ◌↔◌, IsTrue};
+ghost use Rattle.pb_board.specs.Fields.{fields, tab, space};
 ghost use Rattle.pb_games.specs.Cuts.{IsCut, fields_of};
 ghost use Rattle.pb_games.specs.Ids.{IsId};
 ghost use Rattle.pb_games.specs.declared.fields.LineFields.{LineFields};
 ghost use Rattle.pb_games.specs.Refusing.{Refuses};
+ghost use Rattle.pb_board.specs.Position.{IsRecord};
+ghost use Rattle.pb_board.specs.Refusal.{IsDueFen, IsFirstOf, fen_errors};
+ghost use Rattle.pb_board.specs.Text.{fen_text};
 
 use crate::id::{Id, is_id};
 use crate::refusal::Refusal;
-use pb_board::{cut_once, without_return};
+use pb_board::{Fen, FenError, Setup, cut_once, read_fen, without_return};
 
 // A final CR counts.
 const MAX_BYTES: usize = 8192;
@@ -68,4 +71,31 @@ fn cut_fields(line: &[u8]) -> Option<LineFields<'_>>
         start,
         moves,
     })
+}
+
+const INITIAL_TEXT: &[u8] = b"rnbqkbnr/pppppppp/8/8/8/8/PPPPPPPP/RNBQKBNR w KQkq - 0 1";
+
+/// Not inlined: else the caller reserves stack for both records.
+#[inline(never)]
+pub(crate) fn read_start(text: &[u8]) -> Result<Fen, FenError>
+    ensures found { IfOk result (λ f. IsRecord f × (text.now ≡ fen_text f)) }
+    ensures refused { IfErr result (IsFirstOf fen_errors (IsDueFen (fields space text.now))) }
+{
+    if text == INITIAL_TEXT {
+        Ok(Fen::with_clocks(Setup::start(), 0, 1))
+    } else {
+        read_fen(text)
+    }
+}
+
+pub(crate) fn is_text_of(text: &[u8], fen: &Fen) -> bool
+    ensures { IsTrue result ↔ (text.now ≡ fen_text fen.now) }
+{
+    let setup = fen.setup();
+    match read_start(text) {
+        Ok(start) => start.half() == fen.half()
+            && start.full() == fen.full()
+            && start.setup() == setup,
+        Err(_) => false,
+    }
 }

@@ -9,12 +9,10 @@ ghost use Rattle.pb_games.specs.Submissions.{Submits, Submission, last_setup, pl
 ghost use Rattle.pb_games.specs.Tokens.{moves_spelt};
 ghost use Rattle.pb_games.specs.declared.fields.TheConstants.{MAX_BYTES};
 
-use crate::fields::{LineFields, cut_line};
-use crate::line::Line;
-use crate::outcome::{Outcome, read_outcome};
+use crate::fields::{LineFields, cut_line, read_start};
+use crate::game::{Outcome, read_outcome};
+use crate::line::{Line, Tokens};
 use crate::refusal::Refusal;
-use crate::start::read_start;
-use crate::tokens::Tokens;
 use crate::visitor::{MoveVisitor, NoVisitor};
 use pb_board::Setup;
 use pb_moves::playable;

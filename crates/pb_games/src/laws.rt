@@ -1,7 +1,7 @@
 //! Laws of submissions, their lines and their refusals, and of equality (`==`).
 
 ghost use Rattle.std.specs.Prelude.{◌≡◌, ◌≤◌, ◌≢◌, ◌∷◌, [], ℕ, List, length, All};
-ghost use Rattle.std.specs.Bool.{Decides};
+ghost use Rattle.pb_board.specs.Equality.{IsEquality};
 ghost use Rattle.pb_board.specs.declared.piece.Colour.TheVariants.{White};
 ghost use Rattle.pb_board.specs.Fields.{fields, tab};
 ghost use Rattle.pb_board.specs.Text.{fen_text};
@@ -9,7 +9,6 @@ ghost use Rattle.pb_moves.specs.Attacks.{InCheck};
 ghost use Rattle.pb_games.specs.declared.judge.TheConstants.{MAX_PLIES};
 ghost use Rattle.pb_games.specs.declared.fields.TheConstants.{MAX_BYTES};
 ghost use Rattle.pb_games.specs.declared.id.TheConstants.{MAX_LEN};
-ghost use Rattle.pb_games.specs.declared.outcome.Outcome.{Outcome};
 ghost use Rattle.pb_games.specs.declared.refusal.Refusal.{Refusal};
 ghost use Rattle.pb_games.specs.declared.refusal.Refusal.TheVariants.{Conflict, Full, Memory};
 ghost use Rattle.pb_games.specs.Submissions.{Submits, last_setup, Submission, IsGame, moves_text};
@@ -19,8 +18,8 @@ ghost use Rattle.pb_games.specs.Ids.{IsId};
 ghost use Rattle.pb_games.specs.Results.{outcome_text};
 ghost use Rattle.pb_games.specs.Refusing.{Refuses};
 
+use crate::game::Outcome;
 use crate::id::Id;
-use crate::outcome::Outcome;
 use crate::refusal::Refusal;
 use std::hash::Hash;
 
@@ -67,9 +66,9 @@ pub fn one_refusal()
 /// States that ids, outcomes and refusals are equal (`==`) exactly where they are one, and that
 /// distinct ids hand a hasher distinct bytes.
 pub fn equal_values()
-    ensures ids { (a b : List ℕ) → Decides (⟦<Id as PartialEq>⟧.eq a b) (a ≡ b) }
-    ensures outcomes { (a b : Outcome) → Decides (⟦<Outcome as PartialEq>⟧.eq a b) (a ≡ b) }
-    ensures refusals { (a b : Refusal) → Decides (⟦<Refusal as PartialEq>⟧.eq a b) (a ≡ b) }
+    ensures ids { IsEquality ⟦<Id as PartialEq>⟧.eq }
+    ensures outcomes { IsEquality ⟦<Outcome as PartialEq>⟧.eq }
+    ensures refusals { IsEquality ⟦<Refusal as PartialEq>⟧.eq }
     ensures hashes { (a b : List ℕ) → ⟦<Id as Hash>⟧.hash_input a ≡ ⟦<Id as Hash>⟧.hash_input b
         → a ≡ b }
 {}

@@ -6,10 +6,9 @@ ghost use Rattle.pb_moves.specs.Spelling.{spelling};
 ghost use Rattle.pb_games.specs.Repeat.{AreFieldsOf};
 ghost use Rattle.pb_games.specs.Tokens.{tokens_of};
 
-use crate::fields::LineFields;
+use crate::fields::{LineFields, is_text_of};
 use crate::game::Game;
-use crate::start::is_text_of;
-use crate::tokens::Tokens;
+use crate::line::Tokens;
 use pb_moves::Move;
 
 /// Tells whether the fields after the id are those of this game, without playing its moves.

@@ -5,10 +5,10 @@ ghost use Rattle.pb_board.specs.Position.{Position};
 ghost use Rattle.pb_moves.specs.Legal.{Legal};
 ghost use Rattle.pb_moves.specs.Played.{Ply};
 ghost use Rattle.pb_moves.specs.Successor.{after};
-ghost use Rattle.pb_games.specs.declared.outcome.Outcome.{Outcome};
+ghost use Rattle.pb_games.specs.declared.game.Outcome.{Outcome};
 ghost use Rattle.pb_games.specs.Reading.{CanTake};
 
-use crate::outcome::Outcome;
+use crate::game::Outcome;
 use pb_board::Setup;
 use pb_moves::{Move, try_play};
 
@@ -17,7 +17,7 @@ pub trait MoveVisitor {
     ghost use Rattle.std.specs.Prelude.{ℕ, List};
     ghost use Rattle.pb_board.specs.Position.{Position};
     ghost use Rattle.pb_moves.specs.Played.{Ply};
-    ghost use Rattle.pb_games.specs.declared.outcome.Outcome.{Outcome};
+    ghost use Rattle.pb_games.specs.declared.game.Outcome.{Outcome};
     ghost use Rattle.pb_games.specs.Reading.{CanTake};
 
     /// What it holds after these plies of a game with this outcome, which have led to this setup.

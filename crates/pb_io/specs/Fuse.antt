@@ -1,5 +1,5 @@
 -- What a fuse does to a source and to a sink, and what a source gives that never ends.
-use Rattle.std.specs.Prelude.{◌≡◌, ℕ, ◌-◌, ◌<◌, ◌/◌, min, Bool, true, false, ◌&&◌}
+use Rattle.std.specs.Prelude.{◌≡◌, ℕ, ◌-◌, ◌<◌, ◌/◌, min, Bool, false, ◌&&◌}
 use Rattle.std.specs.Prelude.{◌||◌, ◌==◌, nat_lt, if◌then◌else◌, List, [], ◌∷◌, length}
 use Rattle.std.specs.Prelude.{take, drop, Result, Ok, is_err}
 use Rattle.std.specs.Io.KnownBytes.{Appends}
@@ -21,16 +21,17 @@ passing failed good bytes = if failed then []
     else (if good == 0 then take (length bytes / 2) bytes else bytes)
 
 -- A put from old to new with this answer, where so many calls were to pass before it, and so many
--- after it; starved says whether a put has found no memory.
+-- after it.
 pub record FusePut {E : Type 0} (old new : SinkState) (good good_after : ℕ)
-    (starved starved_after : Bool) (answer : Result (Unit {0}) E) (bytes : List ℕ) : Type 0 where
-  pub fails : is_err answer ≡ (old.failed || ((good == 0) || starved_after))
+    (answer : Result (Unit {0}) E) (bytes : List ℕ) : Type 0 where
+  -- whether it has found no memory
+  pub starved : Bool
+  pub fails : is_err answer ≡ (old.failed || ((good == 0) || starved))
   pub taken : Appends old.bytes new.bytes
-      (if starved_after then [] else passing old.failed good bytes)
+      (if starved then [] else passing old.failed good bytes)
   pub one_less : good_after ≡ good - 1
-  pub stays : old.failed ≡ true → starved_after ≡ starved
   -- where nothing is to be taken, no memory is wanted
-  pub asks : old.failed ≡ false → length (passing old.failed good bytes) ≡ 0 → starved_after ≡ false
+  pub asks : length (passing old.failed good bytes) ≡ 0 → starved ≡ false
 
 -- A flush from old on with this answer, where so many calls were to pass before it, and so many
 -- after it.

@@ -1,11 +1,12 @@
 //! Laws, each the contract of a function that does nothing.
 
-ghost use Rattle.std.specs.Prelude.{◌≡◌, ◌≤◌, ℕ, List, ◌++◌, length};
+ghost use Rattle.std.specs.Prelude.{◌≡◌, ◌≤◌, ℕ, List, ◌++◌, length, true, IsErr, Result};
 ghost use Rattle.std.specs.Bool.{Decides};
 ghost use Rattle.std.specs.List.{join_with_byte};
 ghost use Rattle.pb_io.specs.Lines.{ended_lines, line_feed, line_limit, line_pieces, lines};
 ghost use Rattle.pb_io.specs.Reads.{chunk_len};
-ghost use Rattle.pb_io.specs.Source.{HandsOut, SourceState};
+ghost use Rattle.pb_io.specs.Count.{next_count};
+ghost use Rattle.pb_io.specs.Source.{Fill, HandsOut, SourceState};
 ghost use Rattle.pb_io.specs.declared.fault.Fault.{Fault};
 ghost use Rattle.pb_io.specs.declared.fault.ReadFault.{ReadFault};
 ghost use Rattle.pb_io.specs.declared.lines.TheConstants.{LINE_LIMIT};
@@ -32,6 +33,15 @@ pub fn equal_faults()
 pub fn handed_is_one()
     ensures { (old new : SourceState) (a b : List ℕ) → HandsOut old new a → HandsOut old new b
         → a ≡ b }
+{}
+
+/// A source that handed out a text has answered its end, and one that has failed fails each later
+/// fill.
+pub fn sources_end()
+    ensures ended { (old new : SourceState) (bytes : List ℕ) → HandsOut old new bytes
+        → new.ends ≡ next_count old.ends }
+    ensures failed { (old new : SourceState) (answer : Result ℕ Failed) (slice : List ℕ)
+        → Fill old new answer slice → old.failed ≡ true → IsErr answer }
 {}
 
 /// The pieces of a text, joined by LFs, are the text.

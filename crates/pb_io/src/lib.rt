@@ -4,25 +4,16 @@
 #![tactic(auto)]
 
 mod fault;
-mod fuse_sink;
-mod fuse_source;
+mod fuse;
 mod history;
 pub mod laws;
-mod line_buffer;
 mod lines;
-mod never_source;
-mod null_sink;
-mod parts;
 mod sink;
 mod source;
 
 pub use fault::{Fault, ReadFault};
-pub use fuse_sink::FuseSink;
-pub use fuse_source::FuseSource;
+pub use fuse::{FuseSink, FuseSource, NeverSource};
 pub use history::History;
 pub use lines::{LINE_LIMIT, LineTask, take_lines};
-pub use never_source::NeverSource;
-pub use null_sink::NullSink;
-pub use parts::put_pieces;
-pub use sink::{MemSink, Sink, ToWrite};
+pub use sink::{MemSink, NullSink, Sink, ToWrite, put_pieces};
 pub use source::{CHUNK_LEN, Failed, FromRead, MemSource, Source};

@@ -12,7 +12,7 @@ use Rattle.pb_io.proofs.PutLemmas.{Lasts-refl, Lasts-trans, front_more, put_fail
 use Rattle.pb_io.proofs.WritesLemmas.{Writes-flushed, Writes-stopped}
 use Rattle.pb_poly.specs.Book.{book_bytes}
 use Rattle.pb_poly.specs.Entry.{IsEntry}
-use Rattle.pb_poly.specs.declared.entry.Entry.{Entry}
+use Rattle.pb_poly.specs.declared.book.Entry.{Entry}
 use Rattle.pb_poly.proofs.Entries.{book_bytes-append}
 use Rattle.pb_accepted.specs.Counting.{IsBook, counted, stretch}
 use Rattle.pb_accepted.specs.Holding.{IsLedger}
@@ -20,7 +20,7 @@ use Rattle.pb_accepted.specs.Ledger.{LedgerState}
 use Rattle.pb_accepted.proofs.BookLaws.{one_book}
 use Rattle.pb_accepted.proofs.BookStretches.{front_stretch, joined_stretch, no_stretch, whole_stretch}
 use Rattle.pb_accepted.proofs.SomeBooks.{some_book_of_ledger}
-use Rattle.pb_ledger.proofs.Changes.{from_to}
+use Rattle.pb_ledger.specs.Change.{from_to}
 use Rattle.pb_ledger.specs.Booking.{PutsOn, WritesBook}
 use Rattle.pb_export.specs.declared.exporting.ExportFault.{ExportFault}
 use Rattle.pb_export.specs.declared.exporting.ExportFault.TheVariants as fault

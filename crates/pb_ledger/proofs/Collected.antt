@@ -23,7 +23,7 @@ use Rattle.pb_accepted.proofs.Steps.{runs_join}
 use Rattle.pb_accepted.specs.Replies.{reply_line}
 use Rattle.pb_ledger.specs.Streams.{AtLast}
 use Rattle.pb_ledger.specs.Collecting.{Collects, CollectsButOne, CollectsStream, CollectsUntil, Leads}
-use Rattle.pb_ledger.proofs.Changes.{from_to}
+use Rattle.pb_ledger.specs.Change.{from_to}
 use Rattle.pb_ledger.specs.Collector.{SameLent, CollectsLine, answered, unkept, with_answer}
 use Rattle.pb_ledger.specs.Journaling.{CollectsUnkept, Gains, JournalsUntil}
 use Rattle.pb_ledger.specs.declared.collector.Collector.{Collector}

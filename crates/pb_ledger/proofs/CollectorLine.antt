@@ -21,7 +21,7 @@ use Rattle.pb_ledger.specs.Collecting.{Leads}
 use Rattle.pb_ledger.specs.Collector.{CollectsLine, answered, with_answer}
 use Rattle.pb_ledger.specs.Journaling.{Gains, Unkept}
 use Rattle.pb_ledger.specs.declared.collector.Collector.{Collector}
-use Rattle.pb_ledger.proofs.Changes.{from_to}
+use Rattle.pb_ledger.specs.Change.{from_to}
 use Rattle.pb_ledger.proofs.Failures.{writes_not}
 use Rattle.pb_ledger.proofs.Gaining.{Brings, Gains-kept, Gains-one, brought, unchanged}
 use Rattle.pb_ledger.proofs.Answering.{Leads-one, step_by}

@@ -14,7 +14,7 @@ use Rattle.pb_accepted.proofs.Steps.{refusal_step, step_to}
 use Rattle.pb_ledger.specs.Journal.{GameLines}
 use Rattle.pb_accepted.specs.Ledger.{LedgerState}
 use Rattle.pb_ledger.specs.Journaling.{Gains}
-use Rattle.pb_ledger.proofs.Changes.{from_to}
+use Rattle.pb_ledger.specs.Change.{from_to}
 
 -- ---- the lines of games
 

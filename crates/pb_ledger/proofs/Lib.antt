@@ -1,7 +1,6 @@
 mod Answering
 pub mod Booked
 mod Broken
-pub mod Changes
 mod Collected
 mod CollectorLine
 pub mod Continued

@@ -35,7 +35,7 @@ use Rattle.pb_ledger.specs.Making.{Makes, Wants}
 use Rattle.pb_ledger.specs.Loading.{Breaks, Loads, LoadsUntil, has_header, is_header, submission_lines}
 use Rattle.pb_ledger.proofs.Answering.{step_by}
 use Rattle.pb_ledger.proofs.Broken.{not_both, submission_push, unbroken}
-use Rattle.pb_ledger.proofs.Changes.{from_to}
+use Rattle.pb_ledger.specs.Change.{from_to}
 
 -- ---- one line
 

@@ -19,7 +19,7 @@ use Rattle.pb_io.specs.declared.source.Failed.{Failed}
 use Rattle.pb_io.proofs.FlushLemmas.{AwaitsFlush-put, AwaitsFlush-trans, not_flushed}
 use Rattle.pb_ledger.specs.Streams.{AllCame, Puts}
 use Rattle.pb_ledger.specs.Games.{PicksAll, PicksButOne, PicksUntil, games_text, has_shape, text_of_games}
-use Rattle.pb_ledger.proofs.Changes.{from_to}
+use Rattle.pb_ledger.specs.Change.{from_to}
 use Rattle.pb_ledger.specs.Picker.{PicksLine, passed, put, torn}
 use Rattle.pb_ledger.specs.declared.games.Picker.{Picker}
 use Rattle.pb_ledger.proofs.Torn.{noted}

@@ -26,7 +26,7 @@ use Rattle.pb_ledger.specs.declared.replaying.Replayer.{Replayer}
 use Rattle.pb_ledger.specs.Replayer.{ReplaysLine, Stops, submits, torn}
 use Rattle.pb_ledger.specs.Replaying.{HoldsAll, ReplaysAll, ReplaysUntil}
 use Rattle.pb_ledger.proofs.Answering.{step_by}
-use Rattle.pb_ledger.proofs.Changes.{from_to}
+use Rattle.pb_ledger.specs.Change.{from_to}
 use Rattle.pb_ledger.proofs.Failures.{writes_so}
 use Rattle.pb_ledger.proofs.Loaded.{SameLedger-refl, SameLedger-then}
 use Rattle.pb_ledger.proofs.Torn.{noted}

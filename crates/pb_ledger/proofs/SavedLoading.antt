@@ -25,7 +25,7 @@ use Rattle.pb_accepted.proofs.Steps.{step_to}
 use Rattle.pb_ledger.specs.Saving.{Saved, header}
 use Rattle.pb_ledger.specs.Making.{Makes}
 use Rattle.pb_ledger.specs.Loading.{Breaks, Loads, LoadsUntil, is_header}
-use Rattle.pb_ledger.proofs.Changes.{from_to}
+use Rattle.pb_ledger.specs.Change.{from_to}
 use Rattle.pb_ledger.specs.declared.loading.LoadError.{LoadError}
 use Rattle.pb_ledger.specs.declared.loading.LoadError.TheVariants.{Line, Read, Endless, Memory}
 

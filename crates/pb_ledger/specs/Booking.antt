@@ -4,8 +4,8 @@ use Rattle.std.specs.Result.{result_map_both}
 use Rattle.pb_io.specs.Sink.{AwaitsFlush, Lasts, SinkState}
 use Rattle.pb_io.specs.Writes.{Writes}
 use Rattle.pb_poly.specs.Book.{BookBytes}
-use Rattle.pb_poly.specs.declared.entry.Entry.{Entry}
-use Rattle.pb_accepted.specs.Counting.{IsBook, counted}
+use Rattle.pb_poly.specs.declared.book.Entry.{Entry}
+use Rattle.pb_accepted.specs.Counting.{IsBookOf}
 use Rattle.pb_accepted.specs.Ledger.{LedgerState}
 use Rattle.pb_ledger.specs.Change.{Change, across}
 use Rattle.pb_ledger.specs.Streams.{Puts}
@@ -16,7 +16,7 @@ use Rattle.pb_export.specs.declared.exporting.ExportFault.TheVariants as fault
 -- or 2 ^ 64 - 1 where it has more
 abbrev pub BookText : LedgerState → List ℕ → ℕ → Type 0
 BookText ledger bytes count = (book : List Entry)
-    × IsBook (counted ledger.basis ledger.accepted) ledger.basis.rules.least book
+    × IsBookOf ledger.basis ledger.accepted book
     × BookBytes book bytes × (count ≡ min (length book) (2 ^ 64 - 1))
 
 -- These bytes were put, and nothing was handed on.

@@ -6,6 +6,9 @@ pub record Change (X : Type 0) : Type 0 where
   pub old : X
   pub new : X
 
+abbrev pub from_to : {X : Type 0} → X → X → Change X
+from_to old new = record { old = old; new = new }
+
 abbrev pub between : {X Y : Type 0} → (X → Y) → X → X → Change Y
 between state old new = record { old = state old; new = state new }
 

@@ -7,7 +7,7 @@ use Rattle.pb_io.specs.declared.fault.Fault.{Fault}
 use Rattle.pb_io.specs.declared.fault.Fault.TheVariants.{Write}
 use Rattle.pb_accepted.specs.Accepting.{Answer}
 use Rattle.pb_accepted.specs.Replies.{reply_line}
-use Rattle.pb_ledger.specs.Change.{between}
+use Rattle.pb_ledger.specs.Change.{between, from_to}
 use Rattle.pb_ledger.specs.Collecting.{Leads}
 use Rattle.pb_ledger.specs.Journaling.{Gains, Unkept}
 use Rattle.pb_ledger.specs.declared.collector.Collector.{Collector}
@@ -39,7 +39,7 @@ pub record Answered {T K J W : Type 0} (state : K → SinkState) (kept : J → S
       (nat_lt (length s.ledger.now.accepted) (length t.ledger.now.accepted))
   pub put : Put (state s.sink.now) (state t.sink.now) result (reply_line line answer)
   pub gains : Gains (between kept s.journal.now t.journal.now)
-      (record { old = s.ledger.now; new = t.ledger.now })
+      (from_to s.ledger.now t.ledger.now)
 
 -- the line was answered, and stops the collector where its reply couldn't be put; or the journal
 -- didn't take its game, and no reply was put
@@ -49,5 +49,5 @@ pub data CollectsLine {T K J W : Type 0} (state : K → SinkState) (kept : J →
   answered : Answered state kept s line result t → IfErr result (λ fault. fault ≡ Write)
       → SameLent s t → CollectsLine state kept s line result t
   unkept : Unkept (between kept s.journal.now t.journal.now)
-      (record { old = s.ledger.now; new = t.ledger.now }) line → result ≡ Err Write
+      (from_to s.ledger.now t.ledger.now) line → result ≡ Err Write
       → t.sink ≡ s.sink → SameLent s t → CollectsLine state kept s line result t

@@ -1,7 +1,7 @@
 //! Submissions in, new games to a journal, replies out.
 
 ghost use Rattle.std.specs.Prelude.{IfErr, IfOk};
-ghost use Rattle.pb_ledger.specs.Change.{between};
+ghost use Rattle.pb_ledger.specs.Change.{between, from_to};
 ghost use Rattle.pb_ledger.specs.Collecting.{CollectsStream, CollectsUntil};
 ghost use Rattle.pb_ledger.specs.Journaling.{Gains, JournalsUntil};
 
@@ -30,9 +30,9 @@ pub fn collect<T: Tally, In: Source, Out: Sink>(
     fills: u32,
 ) -> Result<Totals, CollectFault>
     ensures ok { IfOk result (CollectsStream fills (between In.state source.old source.new)
-        (between Out.state sink.old sink.new) (record { old = ledger.old; new = ledger.new })) }
+        (between Out.state sink.old sink.new) (from_to ledger.old ledger.new)) }
     ensures fault { IfErr result (CollectsUntil fills (between In.state source.old source.new)
-        (between Out.state sink.old sink.new) (record { old = ledger.old; new = ledger.new })) }
+        (between Out.state sink.old sink.new) (from_to ledger.old ledger.new)) }
 {
     let mut no_journal = NullSink::default();
     collect_journaled(alloc, source, sink, &mut no_journal, ledger, &mut (), fills)
@@ -57,12 +57,12 @@ pub fn collect_journaled<T: Tally, In: Source, Out: Sink, Journal: Sink, Watch: 
 ) -> Result<Totals, CollectFault>
     ensures ok { IfOk result (λ totals. CollectsStream fills
         (between In.state source.old source.new) (between Out.state sink.old sink.new)
-        (record { old = ledger.old; new = ledger.new }) totals
+        (from_to ledger.old ledger.new) totals
         × Gains (between Journal.state journal.old journal.new)
-        (record { old = ledger.old; new = ledger.new })) }
+        (from_to ledger.old ledger.new)) }
     ensures fault { IfErr result (JournalsUntil fills (between In.state source.old source.new)
         (between Out.state sink.old sink.new) (between Journal.state journal.old journal.new)
-        (record { old = ledger.old; new = ledger.new })) }
+        (from_to ledger.old ledger.new)) }
 {
     let mut collector = Collector {
         ledger,

@@ -1,16 +1,20 @@
 //! Laws of ledgers, of their exports and saved forms, of journals and of the lines of games, and of
 //! equality (`==`), as contracts of functions that do nothing.
 
-ghost use Rattle.std.specs.Bool.{Decides};
+ghost use Rattle.pb_board.specs.Equality.{IsEquality};
 ghost use Rattle.std.specs.Prelude.{◌≡◌, ◌≢◌, ◌++◌, ◌≤◌, ◌⊎◌, ◌∷◌, ◌↔◌, [], ℕ, List, All, take};
 ghost use Rattle.std.specs.Prelude.{length};
 ghost use Rattle.pb_board.specs.LineEnd.{with_end};
 ghost use Rattle.pb_io.specs.Lines.{line_feed, lines};
-ghost use Rattle.pb_io.specs.LineTask.{AtEnd};
+ghost use Rattle.pb_io.specs.LineTask.{AtEnd, AtFault, AtNoEnd};
+ghost use Rattle.pb_io.specs.Sink.{AwaitsFlush, SinkState};
 ghost use Rattle.pb_io.specs.Source.{SourceState};
+ghost use Rattle.pb_io.specs.declared.fault.Fault.TheVariants as fault;
+ghost use Rattle.pb_ledger.specs.Collecting.{CollectsStream, CollectsUntil};
+ghost use Rattle.pb_ledger.specs.Streams.{HandsOn};
 ghost use Rattle.pb_poly.specs.Book.{BookBytes};
 ghost use Rattle.pb_poly.specs.Reading.{Tells};
-ghost use Rattle.pb_poly.specs.declared.entry.Entry.{Entry};
+ghost use Rattle.pb_poly.specs.declared.book.Entry.{Entry};
 ghost use Rattle.pb_games.specs.Submissions.{Submission, IsSubmission, submission_text};
 ghost use Rattle.pb_accepted.specs.Basis.{Basis};
 ghost use Rattle.pb_accepted.specs.Counting.{IsBook, counted};
@@ -21,14 +25,13 @@ ghost use Rattle.pb_accepted.specs.Accepting.{Answer, OneGame, Run, Taken};
 ghost use Rattle.pb_accepted.specs.Replies.{replies as replies_to};
 ghost use Rattle.pb_export.specs.Exporting.{ExportText};
 ghost use Rattle.pb_ledger.specs.declared.loading.LoadError.{LoadError};
-ghost use Rattle.pb_ledger.specs.declared.totals.Totals.{Totals};
 ghost use Rattle.pb_ledger.specs.Games.{games_text};
 ghost use Rattle.pb_ledger.specs.Journal.{Journals, GameLines, mending};
 ghost use Rattle.pb_ledger.specs.Saving.{Saved};
 ghost use Rattle.pb_ledger.specs.Loading.{Loads, LoadsUntil};
-ghost use Rattle.pb_ledger.specs.Change.{Change, across};
+ghost use Rattle.pb_ledger.specs.Change.{Change, IsSame, across};
 ghost use Rattle.pb_ledger.specs.Making.{Makes};
-ghost use Rattle.pb_ledger.specs.declared.loading.LoadError.TheVariants.{Memory};
+ghost use Rattle.pb_ledger.specs.declared.loading.LoadError.TheVariants.{Endless, Memory, Read};
 
 use crate::loading::LoadError;
 use crate::totals::Totals;
@@ -49,6 +52,29 @@ pub fn same_submissions()
         → ((least : ℕ) (E F : List Entry) (a b : List ℕ) → IsBook (counted T A) least E
         → IsBook (counted T B) least F → BookBytes E a → BookBytes F b → a ≡ b)
         × ((a b : List ℕ) → ExportText T A a → ExportText T B b → a ≡ b) }
+{}
+
+/// How a stream of submissions ends: its replies are handed on once; at a fault of reading they
+/// wait; and where memory was wanting no line was taken.
+pub fn collected()
+    ensures handed_on { (fills : ℕ) (source : Change SourceState) (sink : Change SinkState)
+        (ledger : Change LedgerState) (totals : Totals)
+        → CollectsStream fills source sink ledger totals → HandsOn sink }
+    ensures read { (fills : ℕ) (source : Change SourceState) (sink : Change SinkState)
+        (ledger : Change LedgerState) → CollectsUntil fills source sink ledger fault.Read
+        → across AwaitsFlush sink }
+    ensures memory { (fills : ℕ) (source : Change SourceState) (sink : Change SinkState)
+        (ledger : Change LedgerState) → CollectsUntil fills source sink ledger fault.Memory
+        → IsSame source × IsSame sink × IsSame ledger }
+{}
+
+/// Where a saved ledger can't be read to its end, the games of the lines that an LF ended are held.
+pub fn loaded()
+    ensures read { (fills : ℕ) (source : Change SourceState) (ledger : Change LedgerState)
+        → LoadsUntil fills source ledger Read → across (AtFault fills) source (Makes Loads ledger) }
+    ensures endless { (fills : ℕ) (source : Change SourceState) (ledger : Change LedgerState)
+        → LoadsUntil fills source ledger Endless
+        → across (AtNoEnd fills) source (Makes Loads ledger) }
 {}
 
 /// What is saved of games loads as these games and as no others, where there is room. So `load`
@@ -108,6 +134,6 @@ pub fn picked()
 
 /// Totals and errors of loading are equal exactly where they are one value.
 pub fn equal_values()
-    ensures totals { (a b : Totals) → Decides (⟦<Totals as PartialEq>⟧.eq a b) (a ≡ b) }
-    ensures load { (e f : LoadError) → Decides (⟦<LoadError as PartialEq>⟧.eq e f) (e ≡ f) }
+    ensures totals { IsEquality ⟦<Totals as PartialEq>⟧.eq }
+    ensures load { IsEquality ⟦<LoadError as PartialEq>⟧.eq }
 {}

@@ -2,7 +2,7 @@
 
 ghost use Rattle.std.specs.Prelude.{◌≡◌, [], IfErr, IfOk, length};
 ghost use Rattle.pb_io.specs.LineTask.{AtEnd};
-ghost use Rattle.pb_ledger.specs.Change.{across, between};
+ghost use Rattle.pb_ledger.specs.Change.{across, between, from_to};
 ghost use Rattle.pb_ledger.specs.Loader.{load_error};
 ghost use Rattle.pb_ledger.specs.Loading.{Loads, LoadsUntil};
 ghost use Rattle.pb_ledger.specs.Making.{Makes};
@@ -93,10 +93,10 @@ pub fn load<T: Tally, S: Source>(
 ) -> Result<u32, LoadError>
     requires { ledger.old.accepted ≡ [] }
     ensures ok { IfOk result (λ n. across (AtEnd fills) (between S.state source.old source.new)
-        (Makes Loads (record { old = ledger.old; new = ledger.new }))
+        (Makes Loads (from_to ledger.old ledger.new))
         × (n ≡ length ledger.new.accepted)) }
     ensures fault { IfErr result (LoadsUntil fills (between S.state source.old source.new)
-        (record { old = ledger.old; new = ledger.new })) }
+        (from_to ledger.old ledger.new)) }
     ensures basis { ledger.new.basis ≡ ledger.old.basis }
     ensures cap { ledger.new.cap ≡ ledger.old.cap }
 {

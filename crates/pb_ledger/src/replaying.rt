@@ -1,7 +1,7 @@
 //! A ledger from the lines of a journal.
 
 ghost use Rattle.std.specs.Prelude.{◌≡◌, [], IfErr, OnOk};
-ghost use Rattle.pb_ledger.specs.Change.{between};
+ghost use Rattle.pb_ledger.specs.Change.{between, from_to};
 ghost use Rattle.pb_ledger.specs.Replaying.{ReplaysAll, ReplaysUntil};
 
 use crate::submitting::submit;
@@ -70,10 +70,10 @@ pub fn replay<T: Tally, In: Source, Journal: Sink, Watch: Watcher>(
     requires { ledger.old.accepted ≡ [] }
     ensures ok { OnOk result (ReplaysAll fills (between In.state source.old source.new)
         (between Journal.state journal.old journal.new)
-        (record { old = ledger.old; new = ledger.new })) }
+        (from_to ledger.old ledger.new)) }
     ensures fault { IfErr result (ReplaysUntil fills (between In.state source.old source.new)
         (between Journal.state journal.old journal.new)
-        (record { old = ledger.old; new = ledger.new })) }
+        (from_to ledger.old ledger.new)) }
     ensures basis { ledger.new.basis ≡ ledger.old.basis }
     ensures cap { ledger.new.cap ≡ ledger.old.cap }
 {

@@ -1,5 +1,7 @@
 //! Who watches a run.
 
+ghost use Rattle.std.specs.Prelude.{◌≡◌, ◌-◌, ◌∷◌, [], drop, length};
+
 use crate::saving::HEADER;
 use pb_accepted::Refusal;
 use pb_board::without_return;
@@ -24,7 +26,10 @@ impl Watcher for () {
 }
 
 /// Tells the number of a skipped line that is neither sealed nor the header of a saved ledger.
-pub(crate) fn tell_skipped<W: Watcher>(watcher: &mut W, number: u64, line: &[u8]) {
+pub(crate) fn tell_skipped<W: Watcher>(watcher: &mut W, number: u64, line: &[u8])
+    ensures { drop (length line.now - 4) line.now ≡ 9 ∷ 9 ∷ 9 ∷ 9 ∷ []
+        → watcher.new ≡ watcher.old }
+{
     let is_header = number == 1 && without_return(line) == HEADER;
     if !is_header && !line.ends_with(SEALED) {
         watcher.skipped(number);

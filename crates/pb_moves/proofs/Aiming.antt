@@ -8,7 +8,7 @@ use Rattle.pb_board.specs.Board.{Board, Holds, IsForward}
 use Rattle.pb_board.specs.Piece.{opponent, piece_of}
 use Rattle.pb_moves.specs.Attackers.{In}
 use Rattle.pb_moves.specs.Attacks.{Pattern, files_apart, ranks_apart}
-use Rattle.pb_moves.specs.Candidate.{MayTarget, Points}
+use Rattle.pb_moves.specs.Candidate.{MayTarget, Aims}
 use Rattle.pb_moves.proofs.Seen.{takes_told}
 use Rattle.pb_moves.proofs.Sets.{in_and, in_both, in_first, in_or, in_second}
 
@@ -28,7 +28,7 @@ back_forward White n a b h = h
 back_forward Black n a b h = h
 
 -- what a pawn of the other side takes from the square
-pub pawn_back : (side : Colour) (square a : ℕ) → (MayTarget (opponent side) Pawn square a × Pattern Bishop (files_apart square a) (ranks_apart square a)) ↔ Points side Pawn a square
+pub pawn_back : (side : Colour) (square a : ℕ) → (MayTarget (opponent side) Pawn square a × Pattern Bishop (files_apart square a) (ranks_apart square a)) ↔ Aims side Pawn a square
 pawn_back side square a =
     let told = takes_told (opponent side) square a in (
       λ h. (let points = told.0 h in (back Pawn square a points.0, λ e. forward_back side 1 a square (points.1 e))),
@@ -39,20 +39,20 @@ pawn_back side square a =
 abbrev Is : Board → ℕ → Kind → ℕ → Type 0
 Is board a kind set = In set a ↔ ((colour : Colour) × Holds board a (piece_of colour kind))
 
-abbrev Aims : ℕ → ℕ → Kind → ℕ → Type 0
-Aims square a kind set = In set a ↔ Pattern kind (files_apart square a) (ranks_apart square a)
+abbrev IsPattern : ℕ → ℕ → Kind → ℕ → Type 0
+IsPattern square a kind set = In set a ↔ Pattern kind (files_apart square a) (ranks_apart square a)
 
 abbrev Some : Board → Colour → ℕ → ℕ → Type 0
-Some board by square a = (colour : Colour) × (kind : Kind) × Holds board a (piece_of colour kind) × Points by kind a square
+Some board by square a = (colour : Colour) × (kind : Kind) × Holds board a (piece_of colour kind) × Aims by kind a square
 
-one_to : (board : Board) (by : Colour) (square a : ℕ) (kind : Kind) (aims is : ℕ) → kind ≢ Pawn → Aims square a kind aims → Is board a kind is → In (bit_and aims is) a → Some board by square a
+one_to : (board : Board) (by : Colour) (square a : ℕ) (kind : Kind) (aims is : ℕ) → kind ≢ Pawn → IsPattern square a kind aims → Is board a kind is → In (bit_and aims is) a → Some board by square a
 one_to board by square a kind aims is no_pawn pattern tells h =
     let w = in_and aims is a h in
     let stands = tells.0 w.1 in
     (stands.0, kind, stands.1, (back kind square a (pattern.0 w.0), λ pawn. absurd (no_pawn pawn)))
 
-one_from : (board : Board) (by : Colour) (square a : ℕ) (kind : Kind) (aims is : ℕ) (colour : Colour) → Aims square a kind aims → Is board a kind is
-    → Holds board a (piece_of colour kind) → Points by kind a square → In (bit_and aims is) a
+one_from : (board : Board) (by : Colour) (square a : ℕ) (kind : Kind) (aims is : ℕ) (colour : Colour) → IsPattern square a kind aims → Is board a kind is
+    → Holds board a (piece_of colour kind) → Aims by kind a square → In (bit_and aims is) a
 one_from board by square a kind aims is colour pattern tells stands points = in_both aims is a (pattern.1 (back kind a square points.0)) (tells.1 (colour, stands))
 
 -- queens point as bishops and rooks do
@@ -67,7 +67,7 @@ queen_either f r (inl same, some) = inl (same, omega arith)
 queen_either f r (inr none, some) = inr (none, some)
 
 slider_to : (board : Board) (by : Colour) (square a : ℕ) (kind : Kind) (aims is queens : ℕ) → kind ≢ Pawn → ((f r : ℕ) → Pattern kind f r → Pattern Queen f r)
-    → Aims square a kind aims → Is board a kind is → Is board a Queen queens → In (bit_and aims (bit_or is queens)) a → Some board by square a
+    → IsPattern square a kind aims → Is board a kind is → Is board a Queen queens → In (bit_and aims (bit_or is queens)) a → Some board by square a
 slider_to board by square a kind aims is queens no_pawn queen pattern tells queens_tell h =
     let w = in_and aims (bit_or is queens) a h in
     let points = pattern.0 w.0 in
@@ -78,15 +78,15 @@ slider_to board by square a kind aims is queens no_pawn queen pattern tells quee
 
 -- the sets of each kind and of where it points from the square
 pub record Sets (board : Board) (by : Colour) (square a p P n N b B r R k K Q : ℕ) : Type 0 where
-  pub at_pawns : In p a ↔ Points by Pawn a square
+  pub at_pawns : In p a ↔ Aims by Pawn a square
   pub pawns : Is board a Pawn P
-  pub at_knights : Aims square a Knight n
+  pub at_knights : IsPattern square a Knight n
   pub knights : Is board a Knight N
-  pub at_bishops : Aims square a Bishop b
+  pub at_bishops : IsPattern square a Bishop b
   pub bishops : Is board a Bishop B
-  pub at_rooks : Aims square a Rook r
+  pub at_rooks : IsPattern square a Rook r
   pub rooks : Is board a Rook R
-  pub at_kings : Aims square a King k
+  pub at_kings : IsPattern square a King k
   pub kings : Is board a King K
   pub queens : Is board a Queen Q
 
@@ -115,7 +115,7 @@ module _ (board : Board) (by : Colour) (square a p P n N b B r R k K Q : ℕ) (s
     ]
   ]
 
-  pub some_from : (colour : Colour) (kind : Kind) → Holds board a (piece_of colour kind) → Points by kind a square → In (bit_or four (bit_and k K)) a
+  pub some_from : (colour : Colour) (kind : Kind) → Holds board a (piece_of colour kind) → Aims by kind a square → In (bit_or four (bit_and k K)) a
   some_from colour Pawn stands points =
       in_first four (bit_and k K) a (in_first three (bit_and r (bit_or R Q)) a (in_first two (bit_and b (bit_or B Q)) a (in_first (bit_and p P) (bit_and n N) a
       (in_both p P a (sets.at_pawns.1 points) (sets.pawns.1 (colour, stands))))))

@@ -8,7 +8,7 @@ use Rattle.pb_board.specs.Piece.{opponent}
 use Rattle.pb_board.specs.Board.{Board, Holds}
 use Rattle.pb_board.specs.MovedPiece.{with_moved, with_pieces_moved}
 use Rattle.pb_board.specs.Position.{Position, IsSetup, IsOnlyKing}
-use Rattle.pb_moves.specs.declared.attackers.Sight.{Sight}
+use Rattle.pb_moves.specs.declared.check.Sight.{Sight}
 use Rattle.pb_moves.specs.Moved.{Moved}
 use Rattle.pb_moves.specs.MovedPieces.{CanArrive, Fits, LeadsTo}
 use Rattle.pb_moves.specs.Attacks.{InCheck, IsAttacked}

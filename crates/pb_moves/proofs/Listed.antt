@@ -1,4 +1,4 @@
--- A list of legal moves in order, one place at a time.
+-- A list of legal moves in order, one order_of at a time.
 use Rattle.std.proofs.Common.{◌≡◌, ℕ, ◌+◌, ◌*◌, ◌<◌, ◌≤◌, refl, arith, inl, inr, sym, ap, subst, ◌∙◌, Option, Some, None, List, [], ◌∷◌, ◌++◌, Contains, w64, ◌^◌, ◌≢◌}
 use Rattle.std.proofs.lemmas.Bool.{cases_lt}
 use Rattle.std.proofs.lemmas.List.Elements.{All-push, All-weaker, All-get_or, Contains-push, Contains-append_left}
@@ -25,40 +25,40 @@ use Rattle.pb_moves.proofs.Rising.{low_bits, zeros_bound, zeros_rise, without, w
 use Rattle.pb_moves.specs.Moved.{Moved, IsMove, IsPromotion, promotion_number}
 use Rattle.pb_moves.specs.Packed.{promotion_small}
 use Rattle.pb_board.specs.Castling.{castling_row}
-use Rattle.pb_moves.specs.Listing.{place, ListsLegal}
+use Rattle.pb_moves.specs.Listing.{order_of, ListsLegal}
 use Rattle.pb_moves.specs.Candidate.{IsOwn, MayReach, MayPromote, ListsBelow}
 
 -- a stretch of places with no legal move
 pub lists_skip : (s : Position) (ms : List Moved) (n k : ℕ) → n ≤ k → ListsBelow s ms n
-    → ((m : Moved) → Legal s m → n ≤ place m → place m < k → ⊥) → ListsBelow s ms k
+    → ((m : Moved) → Legal s m → n ≤ order_of m → order_of m < k → ⊥) → ListsBelow s ms k
 lists_skip s ms n k le lists none = record {
-  legal = All-weaker (λ m. Legal s m × (place m < n)) (λ m. Legal s m × (place m < k)) (λ m h. (h.0, omega (arith, h.1))) ms lists.legal;
-  every = λ m legal below. elim (cases_lt (place m) n) [ inl l ↦ lists.every m legal l | inr g ↦ absurd (none m legal g below) ];
+  legal = All-weaker (λ m. Legal s m × (order_of m < n)) (λ m. Legal s m × (order_of m < k)) (λ m h. (h.0, omega (arith, h.1))) ms lists.legal;
+  every = λ m legal below. elim (cases_lt (order_of m) n) [ inl l ↦ lists.every m legal l | inr g ↦ absurd (none m legal g below) ];
   ordered = lists.ordered;
 }
 
--- the next place has this legal move, and no other
-pub lists_push : (s : Position) (ms : List Moved) (n : ℕ) (m : Moved) → ListsBelow s ms n → Legal s m → place m ≡ n
-    → ((q : Moved) → IsMove q → place q ≡ n → q ≡ m) → ListsBelow s (ms ++ m ∷ []) (n + 1)
+-- the next order_of has this legal move, and no other
+pub lists_push : (s : Position) (ms : List Moved) (n : ℕ) (m : Moved) → ListsBelow s ms n → Legal s m → order_of m ≡ n
+    → ((q : Moved) → IsMove q → order_of q ≡ n → q ≡ m) → ListsBelow s (ms ++ m ∷ []) (n + 1)
 lists_push s ms n m lists legal here only = record {
-  legal = All-push (λ q. Legal s q × (place q < n + 1)) ms m (All-weaker (λ q. Legal s q × (place q < n)) (λ q. Legal s q × (place q < n + 1)) (λ q h. (h.0, omega (arith, h.1))) ms lists.legal) (legal, omega arith);
-  every = λ q legalq below. elim (cases_lt (place q) n) [
+  legal = All-push (λ q. Legal s q × (order_of q < n + 1)) ms m (All-weaker (λ q. Legal s q × (order_of q < n)) (λ q. Legal s q × (order_of q < n + 1)) (λ q h. (h.0, omega (arith, h.1))) ms lists.legal) (legal, omega arith);
+  every = λ q legalq below. elim (cases_lt (order_of q) n) [
     | inl l ↦ Contains-append_left ms (m ∷ []) q (lists.every q legalq l)
     | inr g ↦
         (let P : Moved → Type 0 = λ x. Contains (ms ++ m ∷ []) x in
-        let at_n : place q ≡ n = omega arith in
+        let at_n : order_of q ≡ n = omega arith in
         subst P (sym (only q legalq.moves.is_move at_n)) (Contains-push ms m))
   ];
-  ordered = all_pairs_push (λ a b. place a < place b) ms m lists.ordered
-      (λ k d lt. let h = All-get_or (λ q. Legal s q × (place q < n)) ms k d lt lists.legal in omega (arith, h.1));
+  ordered = all_pairs_push (λ a b. order_of a < order_of b) ms m lists.ordered
+      (λ k d lt. let h = All-get_or (λ q. Legal s q × (order_of q < n)) ms k d lt lists.legal in omega (arith, h.1));
 }
 
-pub place_below : (m : Moved) → IsMove m → place m < 20480
+pub place_below : (m : Moved) → IsMove m → order_of m < 20480
 place_below m ok = let a = ok.from_on_board in let b = ok.to_on_board in let c = promotion_small m.promo in omega arith
 
 pub lists_all : (s : Position) (ms : List Moved) → ListsBelow s ms 20480 → ListsLegal s ms
 lists_all s ms lists = record {
-  legal = All-weaker (λ m. Legal s m × (place m < 20480)) (Legal s) (λ m h. h.0) ms lists.legal;
+  legal = All-weaker (λ m. Legal s m × (order_of m < 20480)) (Legal s) (λ m h. h.0) ms lists.legal;
   every = λ m legal. lists.every m legal (place_below m legal.moves.is_move);
   ordered = lists.ordered;
 }
@@ -77,9 +77,9 @@ promotion_one o (Some Pawn) h g e = absurd ((g Pawn refl).0 refl)
 promotion_one o (Some King) h g e = absurd ((g King refl).1 refl)
 promotion_one o p h g e = absurd (omega arith)
 
--- a move is told by its place
+-- a move is told by its order_of
 pub move_at : (from to : ℕ) (promo : Option Kind) (q : Moved) → from < 64 → to < 64 → ((k : Kind) → promo ≡ Some k → IsPromotion k) → IsMove q
-    → place q ≡ 320 * from + 5 * to + promotion_number promo → q ≡ record { from = from; to = to; promo = promo }
+    → order_of q ≡ 320 * from + 5 * to + promotion_number promo → q ≡ record { from = from; to = to; promo = promo }
 move_at from to promo q on_from on_to lawful ok here =
     let a = ok.from_on_board in
     let b = ok.to_on_board in
@@ -93,14 +93,14 @@ move_at from to promo q on_from on_to lawful ok here =
     let H : Option Kind → Moved = λ x. record { from = from; to = to; promo = x } in
     ap F same_from ∙ ap G same_to ∙ ap H (promotion_one q.promo promo ok.promotes lawful same_place)
 
--- one place where no legal move is
+-- one order_of where no legal move is
 pub lists_pass : (s : Position) (ms : List Moved) (from to : ℕ) (promo : Option Kind) → from < 64 → to < 64 → ((k : Kind) → promo ≡ Some k → IsPromotion k)
     → (let m : Moved = record { from = from; to = to; promo = promo } in Legal s m → ⊥)
     → ListsBelow s ms (320 * from + 5 * to + promotion_number promo) → ListsBelow s ms (320 * from + 5 * to + promotion_number promo + 1)
 lists_pass s ms from to promo on_from on_to lawful none lists =
     let n = 320 * from + 5 * to + promotion_number promo in
     lists_skip s ms n (n + 1) (omega arith) lists (λ q legal lo hi.
-    let here : place q ≡ 320 * from + 5 * to + promotion_number promo = omega arith in
+    let here : order_of q ≡ 320 * from + 5 * to + promotion_number promo = omega arith in
     let same = move_at from to promo q on_from on_to lawful legal.moves.is_move here in
     none (subst (Legal s) same legal))
 

@@ -4,7 +4,7 @@ use Rattle.pb_board.specs.declared.piece.Colour.{Colour}
 use Rattle.pb_board.specs.declared.piece.Kind.{Kind}
 use Rattle.pb_board.specs.declared.piece.Kind.TheVariants.{Pawn, Bishop, Rook}
 use Rattle.pb_board.specs.Board.{Board, IsEmpty}
-use Rattle.pb_moves.specs.Attackers.{IsTaken}
+use Rattle.pb_moves.specs.Attackers.{IsOccupied}
 use Rattle.pb_moves.specs.Attacks.{Attacks, Clear, Pattern, files_apart, ranks_apart}
 use Rattle.pb_moves.specs.Candidate.{MayTarget, Steps}
 use Rattle.pb_moves.proofs.Seen.{Open, attack_of, clear_if_open, open_if_clear, points_of, steps_told, takes_told}
@@ -23,7 +23,7 @@ Goes side kind board a b =
 not_true : IsTrue false → ⊥
 not_true e = cc
 
-pawn_told : (side : Colour) (board : Board) (a b occ : ℕ) (empty : Bool) → IsTaken occ board → (IsTrue empty ↔ IsEmpty board b)
+pawn_told : (side : Colour) (board : Board) (a b occ : ℕ) (empty : Bool) → IsOccupied occ board → (IsTrue empty ↔ IsEmpty board b)
     → Found side Pawn occ empty a b ↔ Goes side Pawn board a b
 pawn_told side board a b occ true taken is = (
   λ h.
@@ -47,7 +47,7 @@ pawn_told side board a b occ false taken is = (
   ],
 )
 
-piece_told : (side : Colour) (kind : Kind) (board : Board) (a b occ : ℕ) (empty : Bool) → kind ≢ Pawn → IsTaken occ board
+piece_told : (side : Colour) (kind : Kind) (board : Board) (a b occ : ℕ) (empty : Bool) → kind ≢ Pawn → IsOccupied occ board
     → Found side kind occ empty a b ↔ Goes side kind board a b
 piece_told side kind board a b occ empty no_pawn taken = (
   λ h.
@@ -62,7 +62,7 @@ piece_told side kind board a b occ empty no_pawn taken = (
   ],
 )
 
-pub goes_told : (side : Colour) (kind : Kind) (board : Board) (a b occ : ℕ) (empty : Bool) → IsTaken occ board → (IsTrue empty ↔ IsEmpty board b)
+pub goes_told : (side : Colour) (kind : Kind) (board : Board) (a b occ : ℕ) (empty : Bool) → IsOccupied occ board → (IsTrue empty ↔ IsEmpty board b)
     → Found side kind occ empty a b ↔ Goes side kind board a b
 goes_told side Pawn board a b occ empty taken is = pawn_told side board a b occ empty taken is
 goes_told side kind board a b occ empty taken is = piece_told side kind board a b occ empty (λ e. cc) taken

@@ -14,10 +14,10 @@ use mir.Val.{bits}
 use Rattle.std.proofs.lemmas.Bool.{cases_lt}
 use Rattle.std.proofs.lemmas.Nat.{and_le_r}
 use Rattle.std.proofs.lemmas.Nat.Bits.{bit_at_set_same, bit_at_set_other}
-use Rattle.pb_moves.specs.declared.attackers.Sight.{Sight}
-use Rattle.pb_moves.specs.Attackers.{IsSight, IsTaken, In}
+use Rattle.pb_moves.specs.declared.check.Sight.{Sight}
+use Rattle.pb_moves.specs.Attackers.{IsSight, IsOccupied, In}
 use Rattle.pb_moves.specs.Attacks.{Attacks, Clear, IsAttacked, IsBetween, Pattern, files_apart, ranks_apart}
-use Rattle.pb_moves.specs.Candidate.{MayTarget, Points, Steps}
+use Rattle.pb_moves.specs.Candidate.{MayTarget, Aims, Steps}
 use Rattle.pb_moves.specs.Successor.{Differs}
 use Rattle.pb_moves.proofs.Differing.{All-two, each_place, holds_on_board, same_or_not}
 use Rattle.pb_moves.proofs.Kings.{holds_one}
@@ -56,14 +56,14 @@ open_told occ set a b small has = (
   ],
 )
 
-pub clear_if_open : (board : Board) (occ a b : ℕ) → IsTaken occ board → Open occ a b → OnLine a b → Clear board a b
+pub clear_if_open : (board : Board) (occ a b : ℕ) → IsOccupied occ board → Open occ a b → OnLine a b → Clear board a b
 clear_if_open board occ a b taken way line q on between =
     elim (empty_or_not (at board q)) [
       | inl e ↦ e
       | inr stands ↦ absurd (way line q on between ((taken q on).1 stands))
     ]
 
-pub open_if_clear : (board : Board) (occ a b : ℕ) → IsTaken occ board → Clear board a b → Open occ a b
+pub open_if_clear : (board : Board) (occ a b : ℕ) → IsOccupied occ board → Clear board a b → Open occ a b
 open_if_clear board occ a b taken clear line q on between inside = (taken q on).0 inside (clear q on between)
 
 -- nothing lies in the way of a piece that jumps
@@ -76,13 +76,13 @@ clear_by Queen board a b h way = way h
 clear_by King board a b h way = no_near board a b (inl (omega (arith, h), omega (arith, h)))
 
 -- a piece that points at a square attacks it where the way is clear, as it is for a pawn
-pub points_of : (side : Colour) (kind : Kind) (board : Board) (a b : ℕ) → Attacks side kind board a b → Points side kind a b
+pub points_of : (side : Colour) (kind : Kind) (board : Board) (a b : ℕ) → Attacks side kind board a b → Aims side kind a b
 points_of _ _ board a b h = (h.0, h.1)
 
-pub attack_of : (side : Colour) (kind : Kind) (board : Board) (a b : ℕ) → Points side kind a b → (OnLine a b → Clear board a b) → Attacks side kind board a b
+pub attack_of : (side : Colour) (kind : Kind) (board : Board) (a b : ℕ) → Aims side kind a b → (OnLine a b → Clear board a b) → Attacks side kind board a b
 attack_of side kind board a b h way = (h.0, h.1, clear_by kind board a b h.0 way)
 
-pub pawn_attack : (side : Colour) (board : Board) (a b : ℕ) → Points side Pawn a b → Attacks side Pawn board a b
+pub pawn_attack : (side : Colour) (board : Board) (a b : ℕ) → Aims side Pawn a b → Attacks side Pawn board a b
 pawn_attack side board a b h = (h.0, h.1, no_near board a b (inl (omega (arith, h.0.0), omega (arith, h.0.1))))
 
 stepped : (side : Colour) (a b : ℕ) → IsForward side 1 a b ⊎ ((rank_for side a ≡ 1) × IsForward side 2 a b) → 0 < ranks_apart a b
@@ -92,7 +92,7 @@ stepped Black a b (inl h) = omega (arith, h)
 stepped Black a b (inr h) = omega (arith, h.1)
 
 -- the rows of pawns, told by what they take and step to
-pub takes_told : (side : Colour) (a b : ℕ) → (MayTarget side Pawn a b × Pattern Bishop (files_apart a b) (ranks_apart a b)) ↔ Points side Pawn a b
+pub takes_told : (side : Colour) (a b : ℕ) → (MayTarget side Pawn a b × Pattern Bishop (files_apart a b) (ranks_apart a b)) ↔ Aims side Pawn a b
 takes_told side a b = (
   λ h. elim h.0 [ inl points ↦ points | inr steps ↦ (let same = steps.1.0 in let slant = h.1 in absurd (omega arith)) ],
   λ points. (inl points, (omega (arith, points.0.0, points.0.1), omega (arith, points.0.0))),
@@ -116,7 +116,7 @@ goes_as side kind a b (inr steps) = (Rook, ((steps_told side a b).1 steps.1).1)
 
 -- the set has the squares of pieces that point at the square
 abbrev pub HasPieces : ℕ → Board → Colour → ℕ → Type 0
-HasPieces set board by square = (a : ℕ) → a < 64 → (In set a ↔ ((colour : Colour) × (kind : Kind) × Holds board a (piece_of colour kind) × Points by kind a square))
+HasPieces set board by square = (a : ℕ) → a < 64 → (In set a ↔ ((colour : Colour) × (kind : Kind) × Holds board a (piece_of colour kind) × Aims by kind a square))
 
 -- a piece in the set points at the square by the pattern of its kind
 pub points_at : (first : Board) (by : Colour) (sight : Sight) (set square a : ℕ) → HasPieces set first by square → a < 64 → In (bit_and set sight.attackers) a
@@ -130,7 +130,7 @@ attacks_if_open first board by sight set square a sees has on inside way =
     let points = (has a on).0 both.0 in
     let stands = (sees.attackers a on).0 both.1 in
     let same = holds_one first a (piece_of points.0 points.1) (piece_of by stands.0) points.2 (sees.stood a stands.0 stands.1) in
-    let aims = subst (λ (kind : Kind). Points by kind a square) (ap (λ (p : Piece). p.kind) same) points.3 in
+    let aims = subst (λ (kind : Kind). Aims by kind a square) (ap (λ (p : Piece). p.kind) same) points.3 in
     (a, stands.0, stands.1, attack_of by stands.0 board a square aims (clear_if_open board sight.occupied a square sees.occupied way))
 
 pub open_if_attacks : (first board : Board) (by : Colour) (sight : Sight) (set square : ℕ) → IsSight first board by sight → HasPieces set first by square → IsAttacked board by square
@@ -212,8 +212,8 @@ tells_carried bitboard old new F by from to piece own none side tells moved othe
     ))
 
 -- the same of what is taken
-taken_carried : (bitboard : ℕ) (old new : Board) (from to : ℕ) (piece : Piece) → IsTaken bitboard old → Differs old new ((from, None) ∷ (to, Some piece) ∷ [])
-    → from < 64 → to < 64 → from ≢ to → IsTaken (bit_or (without bitboard from) (1 * 2 ^ to % 2 ^ bits w64)) new
+taken_carried : (bitboard : ℕ) (old new : Board) (from to : ℕ) (piece : Piece) → IsOccupied bitboard old → Differs old new ((from, None) ∷ (to, Some piece) ∷ [])
+    → from < 64 → to < 64 → from ≢ to → IsOccupied (bit_or (without bitboard from) (1 * 2 ^ to % 2 ^ bits w64)) new
 taken_carried bitboard old new from to piece taken moved on_from on ne =
     let set = bit_or (without bitboard from) (1 * 2 ^ to % 2 ^ bits w64) in
     let T : ℕ → Option Piece → Type 0 = λ q place. q < 64 → (In set q → ¬ (place ≡ None)) × (¬ (place ≡ None) → In set q) in
@@ -263,7 +263,7 @@ tells_lifted bitboard old new F by from own none side tells gone stands enemy =
     (λ q off. tells q)
 
 -- the same of what is taken, without the square
-taken_lifted : (bitboard : ℕ) (old new : Board) (from : ℕ) → IsTaken bitboard old → Differs old new ((from, None) ∷ []) → from < 64 → IsTaken (without bitboard from) new
+taken_lifted : (bitboard : ℕ) (old new : Board) (from : ℕ) → IsOccupied bitboard old → Differs old new ((from, None) ∷ []) → from < 64 → IsOccupied (without bitboard from) new
 taken_lifted bitboard old new from taken gone on_from =
     let T : ℕ → Option Piece → Type 0 = λ q place. q < 64 → (In (without bitboard from) q → ¬ (place ≡ None)) × (¬ (place ≡ None) → In (without bitboard from) q) in
     let C : ℕ × Option Piece → Type 0 = λ c. T c.0 c.1 in

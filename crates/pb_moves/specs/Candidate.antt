@@ -11,7 +11,7 @@ use Rattle.pb_board.specs.Position.{Position}
 use Rattle.pb_moves.specs.Attacks.{Attacks, Clear, Pattern, files_apart, ranks_apart}
 use Rattle.pb_moves.specs.Legal.{Castles, IsCapturable, Legal}
 use Rattle.pb_moves.specs.Moved.{Moved}
-use Rattle.pb_moves.specs.Listing.{place}
+use Rattle.pb_moves.specs.Listing.{order_of}
 use Rattle.pb_moves.specs.Attackers.{In}
 
 -- this piece of the side to move stands there
@@ -24,8 +24,8 @@ abbrev pub AreOwn : ℕ → Position → Type 0
 AreOwn own s = (q : ℕ) → q < 64 → In own q ↔ ((piece : Piece) × IsOwn s q piece)
 
 -- a piece of this side and kind on a attacks b, if nothing stands between
-abbrev pub Points : Colour → Kind → ℕ → ℕ → Type 0
-Points side kind a b =
+abbrev pub Aims : Colour → Kind → ℕ → ℕ → Type 0
+Aims side kind a b =
     Pattern kind (files_apart a b) (ranks_apart a b) × (kind ≡ Pawn → IsForward side 1 a b)
 
 -- a pawn of this side on a steps to b, if nothing stands there or between
@@ -35,7 +35,7 @@ Steps side a b = (file b ≡ file a)
 
 -- the piece may go from a to b on some board, castling apart
 abbrev pub MayTarget : Colour → Kind → ℕ → ℕ → Type 0
-MayTarget side kind a b = Points side kind a b ⊎ ((kind ≡ Pawn) × Steps side a b)
+MayTarget side kind a b = Aims side kind a b ⊎ ((kind ≡ Pawn) × Steps side a b)
 
 -- its row in the table of these squares: the number of its kind, but for black pawns
 abbrev pub target_row : Kind → Colour → ℕ
@@ -75,8 +75,8 @@ Promotes side m kind = IsSome m.promo ↔ ((kind ≡ Pawn) × (rank_for side m.t
 abbrev pub MayPromote : Kind → ℕ → Type 0
 MayPromote kind to = (kind ≡ Pawn) × ((rank to ≡ 0) ⊎ (rank to ≡ 7))
 
--- the legal moves whose place is below n, each once, in order
+-- the legal moves that come before n in the order, each once, in order
 pub record ListsBelow (s : Position) (ms : List Moved) (n : ℕ) : Type 0 where
-  pub legal : All (λ m. Legal s m × (place m < n)) ms
-  pub every : (m : Moved) → Legal s m → place m < n → Contains ms m
-  pub ordered : AllPairs (λ a b. place a < place b) ms
+  pub legal : All (λ m. Legal s m × (order_of m < n)) ms
+  pub every : (m : Moved) → Legal s m → order_of m < n → Contains ms m
+  pub ordered : AllPairs (λ a b. order_of a < order_of b) ms

@@ -4,13 +4,13 @@ use Rattle.pb_board.specs.Position.{Position}
 use Rattle.pb_moves.specs.Legal.{Legal}
 use Rattle.pb_moves.specs.Moved.{Moved, promotion_number}
 
--- a move's place in the order: by `from`, then by `to`, 64 squares each, then by promotion, five
+-- where a move comes in the order: by `from`, then by `to`, 64 squares each, then by promotion, five
 -- kinds
-abbrev pub place : Moved → ℕ
-place m = 320 * m.from + 5 * m.to + promotion_number m.promo
+abbrev pub order_of : Moved → ℕ
+order_of m = 320 * m.from + 5 * m.to + promotion_number m.promo
 
 -- all legal moves, each once, in order
 pub record ListsLegal (s : Position) (ms : List Moved) : Type 0 where
   pub legal : All (Legal s) ms
   pub every : (m : Moved) → Legal s m → Contains ms m
-  pub ordered : AllPairs (λ a b. place a < place b) ms
+  pub ordered : AllPairs (λ a b. order_of a < order_of b) ms

@@ -4,7 +4,7 @@ ghost use Rattle.std.specs.Prelude.{◌≡◌, ◌↔◌, IsTrue, MatchOption};
 ghost use Rattle.pb_moves.specs.Effect.{IsEffect};
 ghost use Rattle.pb_moves.specs.Legal.{Legal, PseudoLegal};
 
-use crate::legal::{change_of, is_safe, own_piece};
+use crate::legal::{is_safe, moved_by, own_piece};
 use crate::moves::Move;
 use crate::state_after::{en_passant_after, rights_after};
 use pb_board::{MovedPiece, Piece, Rights, Setup, Square};
@@ -34,7 +34,7 @@ pub fn effect_of(setup: &Setup, m: Move) -> Option<Effect>
     ensures { MatchOption result (¬ PseudoLegal setup.now m) (IsEffect setup.now m) }
 {
     let piece = own_piece(setup, m.from())?;
-    let (first, second) = change_of(setup, m, piece)?;
+    let (first, second) = moved_by(setup, m, piece)?;
     Some(Effect {
         piece,
         first,

@@ -1,7 +1,7 @@
 //! Laws of moves, each proved as the contract of a function that does nothing.
 
-ghost use Rattle.std.specs.Prelude.{◌≡◌, ◌↔◌, ℕ, List, [], ◌∷◌, codes, map};
-ghost use Rattle.std.specs.Bool.{Decides};
+ghost use Rattle.std.specs.Prelude.{◌≡◌, ◌↔◌, List, [], ◌∷◌, codes, map};
+ghost use Rattle.pb_board.specs.Equality.{IsEquality, IsEqualityWhere};
 ghost use Rattle.pb_board.specs.Initial.{initial};
 ghost use Rattle.pb_board.specs.Position.{IsSetup, Position, Record, record_of};
 ghost use Rattle.pb_board.specs.Text.{fen_text};
@@ -12,12 +12,10 @@ ghost use Rattle.pb_moves.specs.Moved.{Moved, IsMove};
 ghost use Rattle.pb_moves.specs.Played.{AreLegal, Plays};
 ghost use Rattle.pb_moves.specs.Spelling.{spelling};
 ghost use Rattle.pb_moves.specs.Successor.{IsAfter, after};
-ghost use Rattle.pb_moves.specs.declared.effect.Effect.{Effect};
 ghost use Rattle.pb_moves.specs.Worked.{e2e4, fools_mate, pawn_run, two_knights};
 
 use crate::effect::Effect;
-use crate::moves::Move;
-use crate::text::MoveText;
+use crate::moves::{Move, MoveText};
 
 /// The setup after a legal move of a setup meets the rules for setups.
 pub fn after_is_setup()
@@ -38,10 +36,9 @@ pub fn one_list()
 
 /// Moves are equal (`==`) exactly where they are one value, and their texts where the bytes are.
 pub fn equal_moves()
-    ensures moves { (a b : Moved) → IsMove a → IsMove b
-        → Decides (⟦<Move as PartialEq>⟧.eq a b) (a ≡ b) }
-    ensures effects { (d e : Effect) → Decides (⟦<Effect as PartialEq>⟧.eq d e) (d ≡ e) }
-    ensures texts { (t u : List ℕ) → Decides (⟦<MoveText as PartialEq>⟧.eq t u) (t ≡ u) }
+    ensures moves { IsEqualityWhere IsMove ⟦<Move as PartialEq>⟧.eq }
+    ensures effects { IsEquality ⟦<Effect as PartialEq>⟧.eq }
+    ensures texts { IsEquality ⟦<MoveText as PartialEq>⟧.eq }
 {}
 
 /// In the initial array e2e4 and the moves of Fool's mate are legal. A double step, castling,

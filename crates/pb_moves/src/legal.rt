@@ -14,10 +14,10 @@ ghost use Rattle.pb_moves.specs.Successor.{after};
 ghost use Rattle.pb_moves.specs.Attackers.{IsSight};
 ghost use Rattle.pb_moves.specs.Unpinned.{IsUnpinned};
 
-use crate::attackers::{Sight, is_attacked, sight_of};
 use crate::board::{has, own_squares};
 use crate::cases::{en_passant, usual_move};
 use crate::castling::castles;
+use crate::check::{Sight, is_attacked, sight_of};
 use crate::effect::MovedPieces;
 use crate::moves::Move;
 use pb_board::{Kind, MovedPiece, Piece, Setup, Square};
@@ -49,7 +49,7 @@ fn unusual_move(setup: &Setup, m: Move, piece: Piece) -> Option<MovedPieces>
 }
 
 #[inline(always)]
-pub(crate) fn change_of(setup: &Setup, m: Move, piece: Piece) -> Option<MovedPieces>
+pub(crate) fn moved_by(setup: &Setup, m: Move, piece: Piece) -> Option<MovedPieces>
     requires own { IsOwn setup.now m.from piece }
     ensures { Finds (PseudoLegal setup.now m) setup.now m result }
 {
@@ -127,7 +127,7 @@ pub(crate) fn is_legal_for(setup: &Setup, m: Move, piece: Piece, unpinned: bool)
     requires unpinned { IsTrue unpinned → IsUnpinned setup.now m.from piece }
     ensures { IsTrue result ↔ Legal setup.now m }
 {
-    match change_of(setup, m, piece) {
+    match moved_by(setup, m, piece) {
         Some((_, None)) if unpinned => true,
         Some(moved) => is_safe(setup, m, piece, moved),
         None => false,

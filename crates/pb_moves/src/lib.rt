@@ -8,30 +8,22 @@
 #![tactic(auto)]
 
 mod attack;
-mod attackers;
 mod board;
 mod cases;
 mod castling;
 mod check;
-mod clocks;
 mod effect;
 pub mod laws;
 mod legal;
 mod listing;
 mod moves;
 mod playing;
-mod promotion;
-mod spelling;
 mod state_after;
 mod target_tables;
-mod text;
 
 pub use check::{attacked, in_check, playable};
-pub use clocks::advance;
 pub use effect::{Effect, effect_of, is_legal, legal_effect};
 pub use listing::legal_moves;
-pub use moves::Move;
-pub use playing::{play, try_play};
-pub use promotion::promotion_of;
-pub use spelling::{read_move, read_plain};
-pub use text::MoveText;
+pub use moves::{Move, MoveText, promotion_of, read_move, read_plain};
+pub use playing::{advance, play, try_play};
+pub use state_after::touches_home;

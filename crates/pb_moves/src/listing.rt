@@ -10,8 +10,8 @@ ghost use Rattle.pb_moves.specs.Attackers.{IsSight};
 ghost use Rattle.pb_moves.specs.Candidate.{AreOwn, IsOwn, MayPromote, ListsBelow};
 
 use crate::attack::candidates;
-use crate::attackers::{Sight, sight_of};
 use crate::board::{has, own_squares, square_at};
+use crate::check::{Sight, sight_of};
 use crate::legal::{is_legal_for, is_unpinned, own_piece};
 use crate::moves::Move;
 use pb_board::{Kind, Piece, Setup, Square};

@@ -1,10 +1,12 @@
-//! Moves: two squares and a promotion.
+//! Moves: two squares and a promotion, as a value, a number and a text.
 
-ghost use Rattle.std.specs.Prelude.{◌≡◌, ◌≢◌, ℕ, ◌<◌};
+ghost use Rattle.std.specs.Prelude.{◌≡◌, ◌≢◌, ℕ, ◌<◌, ◌/◌, ◌%◌, ◌↔◌, IsTrue, MatchOption};
 ghost use Rattle.std.specs.Option.{SomeIff, ForSome};
+ghost use Rattle.pb_moves.specs.Moved.{promotion_of as promotion_by, Moved, IsMove};
+ghost use Rattle.pb_moves.specs.Spelling.{spelling};
+ghost use Rattle.pb_board.specs.Text.{square_text};
 
-use crate::promotion::promotion_of;
-use pb_board::{Kind, Square};
+use pb_board::{Kind, Square, Text};
 use std::marker::Model;
 
 /// A move from one square to another, with the piece that a pawn becomes on the last rank.
@@ -101,5 +103,89 @@ impl Move {
         ensures { result ≡ self.promo }
     {
         promotion_of(self.bits / 4096)
+    }
+}
+
+/// Gives the promotion of this number, or none where it is 0 or above 4.
+#[inline]
+pub fn promotion_of(number: u16) -> Option<Kind>
+    ensures { result ≡ promotion_by number }
+{
+    match number {
+        1 => Some(Kind::Knight),
+        2 => Some(Kind::Bishop),
+        3 => Some(Kind::Rook),
+        4 => Some(Kind::Queen),
+        _ => None,
+    }
+}
+
+/// The text of a move, four or five bytes of ASCII.
+pub type MoveText = Text<5>;
+
+impl Move {
+    /// Spells the move: its two squares and the small letter of a promotion, as e2e4, e1g1 or
+    /// e7e8q.
+    pub fn text(self) -> MoveText
+        ensures { result ≡ spelling self }
+    {
+        let (from, to) = (self.from(), self.to());
+        let mut text = Text::new();
+        text.push(b'a' + from.file());
+        text.push(b'1' + from.rank());
+        text.push(b'a' + to.file());
+        text.push(b'1' + to.rank());
+        if let Some(kind) = self.promo() {
+            text.push(kind.letter());
+        }
+        text
+    }
+}
+
+/// The bytes `a1a1`, little-endian.
+const A1_A1: u32 = 0x3161_3161;
+
+#[inline(always)]
+fn are_below_8(bytes: u32) -> bool
+    ensures { IsTrue result ↔ (bytes % 256 < 8) × (bytes / 256 % 256 < 8)
+        × (bytes / 65536 % 256 < 8) × (bytes / 16777216 < 8) }
+{
+    // All bits of each byte but its three lowest.
+    bytes & 0xF8F8_F8F8 == 0
+}
+
+/// Reads four bytes as a move without a promotion. Gives none exactly where they spell no move.
+#[inline(always)]
+pub fn read_plain(bytes: [u8; 4]) -> Option<Move>
+    ensures { MatchOption result
+        ((m : Moved) → IsMove m → bytes ≢ spelling m)
+        (λ m. IsMove m × (bytes ≡ spelling m)) }
+{
+    // File and rank left, file and rank reached, in a byte each. A letter or digit that names none
+    // leaves a byte of 8 or more.
+    let coordinates = u32::from_le_bytes(bytes).wrapping_sub(A1_A1);
+    if !are_below_8(coordinates) {
+        return None;
+    }
+    // A rank stands in the byte after its file's: this adds eight times the rank to the file.
+    let squares = coordinates + coordinates / 32;
+    Move::plain((squares % 64) as u8, (squares / 65536 % 64) as u8)
+}
+
+/// Reads a move in UCI notation: two squares and, for a promotion, a small n, b, r or q. Gives none
+/// exactly where the bytes spell no move.
+pub fn read_move(text: &[u8]) -> Option<Move>
+    ensures { MatchOption result
+        ((m : Moved) → IsMove m → text.now ≢ spelling m)
+        (λ m. IsMove m × (text.now ≡ spelling m)) }
+{
+    match text {
+        [a, b, c, d] => read_plain([*a, *b, *c, *d]),
+        [a, b, c, d, e] => {
+            let plain = read_plain([*a, *b, *c, *d])?;
+            let promotion = Kind::of_letter(*e)?;
+            Move::new(plain.from(), plain.to(), Some(promotion))
+        }
+        _ => None,
     }
 }

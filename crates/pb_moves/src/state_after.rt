@@ -1,6 +1,7 @@
 //! The castling rights and the en passant square after a move.
 
-ghost use Rattle.std.specs.Prelude.{◌≡◌};
+ghost use Rattle.std.specs.Prelude.{◌≡◌, IsTrue};
+ghost use Rattle.pb_board.specs.declared.setup.Rights.{Rights};
 ghost use Rattle.pb_moves.specs.Successor.{en_passant_after as en_passant_by, touches};
 ghost use Rattle.pb_moves.specs.Successor.{rights_after as rights_by};
 
@@ -32,16 +33,25 @@ fn rights_left(rights: Rights, m: Move) -> Rights
     }
 }
 
+/// Tells whether the move leaves or reaches a square on which a king or a rook begins that may
+/// castle. The others change no rights.
+#[inline(always)]
+pub fn touches_home(m: Move) -> bool
+    ensures { ¬ IsTrue result → (r : Rights) → rights_by r m ≡ r }
+{
+    // Most moves touch none of these squares, so one branch is made of both tests.
+    has(HOMES, m.from()) | has(HOMES, m.to())
+}
+
 #[inline(always)]
 pub(crate) fn rights_after(rights: Rights, m: Move) -> Rights
     ensures { result ≡ rights_by rights m }
 {
-    // Most moves touch none of these squares, so one branch is made of both tests.
-    let touched = has(HOMES, m.from()) | has(HOMES, m.to());
-    if !touched {
-        return rights;
+    if touches_home(m) {
+        rights_left(rights, m)
+    } else {
+        rights
     }
-    rights_left(rights, m)
 }
 
 #[inline(always)]

@@ -29,7 +29,7 @@ module _ {T : Type 0} (content : T → Content) (parts : List T) where
   no_parts first k c none = stretch_none (parts_content content parts) first None k c (parts_past k c (omega (arith, none)))
 
   -- what a part holds of a stretch is what all hold of it, as far as the part goes
-  pub parted : (first : ℕ) (next end : Option ℕ) (part : T) → HoldsOwn content parts → length parts ≡ 512 → slice_get parts (part_of first) ≡ Some part
+  pub parted : (first : ℕ) (next end : Option ℕ) (part : T) → HoldsOwn content parts → length parts ≡ 256 → slice_get parts (part_of first) ≡ Some part
       → ((k : ℕ) → k < 2 ^ 64 → is_within first end k ≡ (is_within first next k && (part_of k == part_of first)))
       → (k c : ℕ) → stretch_of first next (content part) k c ≡ stretch_of first end (parts_content content parts) k c
   parted first next end part own many here keys k c = elim (cases_eq (part_of k) (part_of first)) [
@@ -40,7 +40,7 @@ module _ {T : Type 0} (content : T → Content) (parts : List T) where
     | inr other ↦ stretch_none (content part) first next k c (own_none other (content part k c) refl) ∙ sym (outside other)
   ]
     where
-      few : part_of first < 512
+      few : part_of first < 256
       few = omega (arith, slice_get_within parts (part_of first) part here, many)
 
       fits : part_of k ≡ part_of first → k < 2 ^ 64

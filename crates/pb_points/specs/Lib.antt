@@ -2,6 +2,7 @@ pub mod Bag
 pub mod Blocks
 pub mod Group
 pub mod ListTally
+pub mod NarrowKey
 pub mod NarrowTally
 pub mod PartTally
 pub mod Rows

@@ -3,9 +3,9 @@ use Rattle.std.specs.Prelude.{◌≡◌, ℕ, ◌/◌, ◌^◌, Option, None, So
 use Rattle.std.specs.Option.{option_and_then}
 use Rattle.pb_points.specs.Tally.{Content, Held}
 
--- the part of a key, by its upper nine bits
+-- the part of a key, by its upper eight bits
 abbrev pub part_of : ℕ → ℕ
-part_of k = k / 2 ^ 55
+part_of k = k / 2 ^ 56
 
 -- what the part of a key holds, where `content` says what a part holds
 abbrev pub parts_content : {T : Type 0} → (T → Content) → List T → ℕ → ℕ → Option Held

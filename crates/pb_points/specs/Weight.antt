@@ -1,6 +1,6 @@
 -- Weights of moves, and the order in which a book has them.
 use Rattle.std.specs.Prelude.{◌≡◌, ℕ, ◌*◌, ◌/◌, ◌<◌, ◌⊎◌, if◌then◌else◌, nat_le}
-use Rattle.pb_poly.specs.declared.entry.Entry.{Entry}
+use Rattle.pb_poly.specs.declared.book.Entry.{Entry}
 
 -- a count scaled to 16 bits, where M is the greatest count under its key
 abbrev pub scaled : ℕ → ℕ → ℕ

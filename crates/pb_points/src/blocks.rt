@@ -9,7 +9,7 @@ use crate::narrow::NarrowRow;
 use std::alloc::{AllocError, Global};
 use std::mem;
 
-pub(crate) const BLOCK: usize = 64;
+pub(crate) const BLOCK: usize = 128;
 
 /// The full blocks, and beside their list the last one, so that adding a row reads no block before.
 #[derive(Drop)]
@@ -59,7 +59,7 @@ pub(crate) fn push_row(alloc: Global, blocks: &mut Blocks, row: NarrowRow) -> Re
 }
 
 /// Counts the rows, as if each block but the last were full.
-fn room_of(blocks: &Blocks) -> usize {
+fn most_rows(blocks: &Blocks) -> usize {
     blocks
         .full
         .len()
@@ -70,7 +70,7 @@ fn room_of(blocks: &Blocks) -> usize {
 pub(crate) fn listed(alloc: Global, blocks: &Blocks) -> Result<Vec<NarrowRow>, AllocError>
     ensures { IfOk result (λ v. v.items ≡ rows_of blocks.now) }
 {
-    let mut rows = Vec::with_capacity(alloc, room_of(blocks))?;
+    let mut rows = Vec::with_capacity(alloc, most_rows(blocks))?;
     for block in &blocks.full {
         rows.extend_from_slice(block)?;
     }

@@ -1,7 +1,7 @@
 //! Laws of rows, and of the room for a ply.
 
 ghost use Rattle.std.specs.Prelude.{◌≡◌, ◌≤◌, ◌+◌, ◌^◌, ℕ};
-ghost use Rattle.std.specs.Bool.{Decides};
+ghost use Rattle.pb_board.specs.Equality.{IsEquality};
 ghost use Rattle.pb_points.specs.Tally.{HasRoomFor, Held};
 
 use crate::row::Row;
@@ -13,6 +13,6 @@ pub fn room()
 
 /// Says that `==` of rows is equality, and that the clone of a row is that row.
 pub fn equal_rows()
-    ensures equal { (r s : Row) → Decides (⟦<Row as PartialEq>⟧.eq r s) (r ≡ s) }
+    ensures equal { IsEquality ⟦<Row as PartialEq>⟧.eq }
     ensures clone { (r s : Row) → ⟦<Row as Clone>⟧.is_clone r s → s ≡ r }
 {}

@@ -18,7 +18,6 @@ mod narrow_tally;
 mod part_tally;
 mod row;
 mod spread;
-mod sums;
 mod tally;
 mod wide;
 

@@ -97,17 +97,13 @@ impl Tally for ListTally {
         }
     }
 
-    fn points(&self, key: u64, code: u16) -> u64 {
-        find_held(&self.rows, key, code).0
-    }
-
-    fn times(&self, key: u64, code: u16) -> u64 {
-        find_held(&self.rows, key, code).1
+    fn held(&self, key: u64, code: u16) -> (u64, u64) {
+        find_held(&self.rows, key, code)
     }
 
     fn rows(&self, alloc: Global) -> Result<Vec<Row>, AllocError> {
         let mut rows = Vec::from_slice(alloc, &self.rows)?;
-        sort_rows(&mut rows);
+        sort_rows(&mut rows)?;
         Ok(rows)
     }
 }

@@ -9,23 +9,41 @@ use crate::row::Row;
 use std::alloc::AllocError;
 use std::marker::Model;
 
-/// A row of few points and plies, as nearly all are: 16 bytes, not 32.
+/// A row of few points and plies, as nearly all are: 12 bytes, not 32.
 #[derive(Clone, Copy)]
 pub(crate) struct NarrowRow {
-    key: u64,
+    key: [u8; 8],
     code: u16,
-    points: u16,
-    times: u32,
+    points: u8,
+    times: u8,
 }
 
 impl Model for NarrowRow {
+    ghost use Rattle.std.specs.Prelude.{◌≡◌, ℕ, ◌<◌, get_or, length};
+    ghost use Rattle.std.specs.Int.{from_le_bytes, to_le_bytes, w64};
+    ghost use Rattle.pb_points.specs.NarrowKey.{narrow-back};
     ghost use Rattle.pb_points.specs.declared.row.Row.{Row};
 
     ghost Value = { Row };
 
-    ghost view = { λ r. record { key = r.key; code = r.code; points = r.points; times = r.times } };
+    ghost view = { λ r. record {
+      key = from_le_bytes w64 r.key;
+      code = r.code;
+      points = r.points;
+      times = r.times;
+    } };
 
-    ghost inverse = { λ r. record { key = r.key; code = r.code; points = r.points; times = r.times } };
+    ghost invariant = { λ r. (length r.key ≡ 8) × ((i : ℕ) → get_or r.key i 0 < 256) };
+
+    ghost inverse = { λ r. record {
+      key = to_le_bytes w64 r.key;
+      code = r.code;
+      points = r.points;
+      times = r.times;
+    } };
+
+    ghost inverse_ok = { λ r h. narrow-back
+        (λ k. record { key = k; code = r.code; points = r.points; times = r.times }) r.key h };
 }
 
 impl NarrowRow {
@@ -34,7 +52,7 @@ impl NarrowRow {
         ensures { result ≡ record { key = key; code = code; points = 0; times = 0 } }
     {
         NarrowRow {
-            key,
+            key: key.to_le_bytes(),
             code,
             points: 0,
             times: 0,
@@ -42,13 +60,13 @@ impl NarrowRow {
     }
 
     pub(crate) fn of(row: &Row) -> Option<NarrowRow>
-        ensures { MatchOption result ((2 ^ 16 ≤ row.now.points) ⊎ (2 ^ 32 ≤ row.now.times))
+        ensures { MatchOption result ((2 ^ 8 ≤ row.now.points) ⊎ (2 ^ 8 ≤ row.now.times))
             (λ narrow. narrow ≡ row.now) }
     {
-        let points = u16::try_from(row.points).ok()?;
-        let times = u32::try_from(row.times).ok()?;
+        let points = u8::try_from(row.points).ok()?;
+        let times = u8::try_from(row.times).ok()?;
         Some(NarrowRow {
-            key: row.key,
+            key: row.key.to_le_bytes(),
             code: row.code,
             points,
             times,
@@ -60,7 +78,7 @@ impl NarrowRow {
         ensures { result ≡ self.now }
     {
         Row {
-            key: self.key,
+            key: u64::from_le_bytes(self.key),
             code: self.code,
             points: u64::from(self.points),
             times: u64::from(self.times),
@@ -71,19 +89,19 @@ impl NarrowRow {
     pub(crate) fn is_of(&self, key: u64, code: u16) -> bool
         ensures { result ≡ is_row key code self.now }
     {
-        self.key == key && self.code == code
+        u64::from_le_bytes(self.key) == key && self.code == code
     }
 
     #[inline(always)]
     pub(crate) fn add(&mut self, points: u64) -> bool
         ensures room { result
-            ≡ (nat_lt (self.old.points + points) (2 ^ 16) && nat_lt (self.old.times + 1) (2 ^ 32)) }
+            ≡ (nat_lt (self.old.points + points) (2 ^ 8) && nat_lt (self.old.times + 1) (2 ^ 8)) }
         ensures added { self.new ≡ (if result then with_more points self.old else self.old) }
     {
-        if points > u64::from(u16::MAX - self.points) || self.times == u32::MAX {
+        if points > u64::from(u8::MAX - self.points) || self.times == u8::MAX {
             return false;
         }
-        self.points += points as u16;
+        self.points += points as u8;
         self.times += 1;
         true
     }

@@ -7,22 +7,21 @@ ghost use Rattle.pb_points.specs.Bag.{HoldsSame, IsAddedUp, SumsFit, bag_content
 ghost use Rattle.pb_points.specs.Blocks.{rows_of};
 ghost use Rattle.pb_points.specs.NarrowTally.{AreNarrowed, AreSound, all_of};
 ghost use Rattle.pb_points.specs.Rows.{IsBelow};
-ghost use Rattle.pb_points.specs.Tally.{MakesRow, held};
+ghost use Rattle.pb_points.specs.Tally.{MakesRow};
 
 use crate::blocks::{
     BLOCK, Blocks, add_ply, held_in_blocks, listed, no_blocks, push_row, put_block,
 };
 use crate::list_tally::find_held;
 use crate::narrow::{NarrowRow, add_rows};
-use crate::row::{Row, sort_rows};
+use crate::row::{Row, add_up, sort_rows};
 use crate::spread::order_rows;
-use crate::sums::add_up;
 use crate::tally::Tally;
 use crate::wide::{add_wide, reserve_wide};
 use std::alloc::{AllocError, Global};
 
 /// From how many blocks on a full list of them is added up before it grows.
-const MANY: usize = 128;
+const FULL_LIST: usize = 128;
 
 /// A tally whose `ensure` puts a narrow row at the end and looks for none, and whose `add` looks
 /// from the end. A full list of blocks is added up before it grows, so that memory goes by keys and
@@ -79,19 +78,10 @@ impl NarrowTally {
         add_rows(&mut rows, &narrow)?;
         if !self.wide.is_empty() {
             rows.extend_from_slice(&self.wide)?;
-            sort_rows(&mut rows);
+            sort_rows(&mut rows)?;
         }
         add_up(&mut rows);
         Ok(rows)
-    }
-
-    fn held(&self, key: u64, code: u16) -> (u64, u64)
-        ensures { held (bag_content (all_of self.now.rows self.now.wide)) key code
-            ≡ record { points = result.0; times = result.1 } }
-    {
-        let (points, times) = held_in_blocks(&self.rows, key, code);
-        let (more_points, more_times) = find_held(&self.wide, key, code);
-        (points + more_points, times + more_times)
     }
 
     #[inline(always)]
@@ -144,7 +134,7 @@ impl NarrowTally {
             (all_of self.new.rows self.new.wide) }
         ensures room { OnOk result (vec_len self.new.rows.last < vec_capacity self.new.rows.last) }
     {
-        if self.rows.full.len() >= MANY.max(self.rows.full.capacity()) {
+        if self.rows.full.len() >= FULL_LIST.max(self.rows.full.capacity()) {
             self.add_up()?;
         }
         self.begin_block()
@@ -177,12 +167,10 @@ impl Tally for NarrowTally {
         }
     }
 
-    fn points(&self, key: u64, code: u16) -> u64 {
-        self.held(key, code).0
-    }
-
-    fn times(&self, key: u64, code: u16) -> u64 {
-        self.held(key, code).1
+    fn held(&self, key: u64, code: u16) -> (u64, u64) {
+        let (points, times) = held_in_blocks(&self.rows, key, code);
+        let (more_points, more_times) = find_held(&self.wide, key, code);
+        (points + more_points, times + more_times)
     }
 
     fn rows(&self, alloc: Global) -> Result<Vec<Row>, AllocError> {

@@ -10,16 +10,16 @@ use crate::tally::Tally;
 use pb_poly::Entry;
 use std::alloc::{AllocError, Global};
 
-/// One part for each value of the upper nine bits of a key.
-const PARTS: usize = 512;
+/// One part for each value of the upper eight bits of a key.
+const PARTS: usize = 256;
 
-/// A tally for each value of the upper nine bits of a key, so that what is worked on is small and
+/// A tally for each value of the upper eight bits of a key, so that what is worked on is small and
 /// near. The parts are made when the first row is.
 #[derive(Drop)]
 pub struct PartTally<T: Tally> {
     alloc: Global,
     parts: Vec<T>,
-    ghost whole: { 0 < length parts.items → length parts.items ≡ 512 },
+    ghost whole: { 0 < length parts.items → length parts.items ≡ 256 },
     ghost own: { HoldsOwn T.content parts.items },
 }
 
@@ -30,7 +30,7 @@ pub type MapTally = PartTally<NarrowTally>;
 fn part_of(key: u64) -> usize
     ensures { result ≡ part key }
 {
-    (key >> 55) as usize
+    (key >> 56) as usize
 }
 
 /// Says where the next stretch of keys begins, where none goes beyond the part of its first key.
@@ -43,12 +43,12 @@ fn within_part(first: u64, next: Option<u64>) -> Option<u64>
     let part = part_of(first);
     match next {
         Some(next) if part_of(next) == part => Some(next),
-        _ => (part as u64 + 1).checked_mul(1 << 55),
+        _ => (part as u64 + 1).checked_mul(1 << 56),
     }
 }
 
-fn no_rows<T: Tally>(alloc: Global) -> Result<Vec<T>, AllocError>
-    ensures whole { IfOk result (λ v. length v.items ≡ 512) }
+fn empty_parts<T: Tally>(alloc: Global) -> Result<Vec<T>, AllocError>
+    ensures whole { IfOk result (λ v. length v.items ≡ 256) }
     ensures nothing { IfOk result (λ v. HoldNothing T.content v.items) }
 {
     let mut parts = Vec::with_capacity(alloc, PARTS)?;
@@ -70,7 +70,7 @@ impl<T: Tally> Tally for PartTally<T> {
 
     fn ensure(&mut self, key: u64, code: u16) -> Result<(), AllocError> {
         if self.parts.is_empty() {
-            self.parts = no_rows(self.alloc)?;
+            self.parts = empty_parts(self.alloc)?;
         }
         self.parts[part_of(key)].ensure(key, code)
     }
@@ -81,17 +81,10 @@ impl<T: Tally> Tally for PartTally<T> {
         }
     }
 
-    fn points(&self, key: u64, code: u16) -> u64 {
+    fn held(&self, key: u64, code: u16) -> (u64, u64) {
         match self.parts.get(part_of(key)) {
-            Some(part) => part.points(key, code),
-            None => 0,
-        }
-    }
-
-    fn times(&self, key: u64, code: u16) -> u64 {
-        match self.parts.get(part_of(key)) {
-            Some(part) => part.times(key, code),
-            None => 0,
+            Some(part) => part.held(key, code),
+            None => (0, 0),
         }
     }
 

@@ -39,13 +39,25 @@ pub trait Tally: Drop {
         requires fits { HasRoomFor (held (content self.old) key code) points }
         ensures { AddsPly (content self.old) (content self.new) key code points };
 
+    /// Reads the points of a key and a code, and counts their plies: 0 of both where there is no
+    /// row. It takes no memory.
+    fn held(&self, key: u64, code: u16) -> (u64, u64)
+        ensures { held (content self.now) key code
+            ≡ record { points = result.0; times = result.1 } };
+
     /// Reads the points of a key and a code, 0 where there is no row. It takes no memory.
     fn points(&self, key: u64, code: u16) -> u64
-        ensures { result ≡ (held (content self.now) key code).points };
+        ensures { result ≡ (held (content self.now) key code).points }
+    {
+        self.held(key, code).0
+    }
 
     /// Counts the plies of a key and a code, 0 where there is no row. It takes no memory.
     fn times(&self, key: u64, code: u16) -> u64
-        ensures { result ≡ (held (content self.now) key code).times };
+        ensures { result ≡ (held (content self.now) key code).times }
+    {
+        self.held(key, code).1
+    }
 
     /// Lists each row once, by key and then code rising.
     ///

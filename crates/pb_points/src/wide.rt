@@ -43,10 +43,9 @@ pub(crate) fn reserve_wide(
     if room <= wide.capacity() {
         return Ok(());
     }
-    if wide.is_empty() {
-        // Made anew: a list that grows copies all the room it had, and so uses its pages.
-        *wide = Vec::with_capacity(alloc, room.saturating_mul(2).max(LEAST))?;
-        return Ok(());
-    }
-    wide.reserve(room - wide.len())
+    // Made anew: a list that grows copies all the room it had, and so uses its pages.
+    let mut anew = Vec::with_capacity(alloc, room.saturating_mul(2).max(LEAST))?;
+    anew.extend_from_slice(wide)?;
+    *wide = anew;
+    Ok(())
 }

@@ -4,7 +4,7 @@ use Rattle.std.proofs.lemmas.List.{append-nil, drop_more, map-append}
 use Rattle.std.proofs.lemmas.List.Elements.{All-append, All-cons, All-nil}
 use Rattle.pb_board.specs.Refusal.{BreaksAt}
 use Rattle.pb_board.proofs.Breaks.{breaks_after}
-use Rattle.pb_poly.specs.declared.entry.Entry.{Entry}
+use Rattle.pb_poly.specs.declared.book.Entry.{Entry}
 use Rattle.pb_poly.specs.Entry.{IsEntry, entry_bytes}
 use Rattle.pb_poly.specs.Ordered.{IsOrdered, last_from, last_key}
 use Rattle.pb_poly.specs.Book.{NeverFall, NeverFallsFrom, book_bytes, keys_of}

@@ -6,7 +6,7 @@ use Rattle.std.proofs.lemmas.List.Elements.{All-head, All-tail}
 use Rattle.std.proofs.lemmas.Nat.{from_be_bytes-to_be_bytes_2, from_be_bytes-to_be_bytes_4, from_be_bytes-to_be_bytes_8}
 use Rattle.pb_board.specs.Refusal.{BreaksAt}
 use Rattle.pb_board.proofs.Breaks.{unbroken}
-use Rattle.pb_poly.specs.declared.entry.Entry.{Entry}
+use Rattle.pb_poly.specs.declared.book.Entry.{Entry}
 use Rattle.pb_poly.specs.Entry.{IsEntry, entry_bytes}
 use Rattle.pb_poly.specs.Book.{BookBytes, NeverFall, NeverFallsFrom, book_bytes, keys_of}
 

@@ -7,7 +7,7 @@ use Rattle.std.proofs.lemmas.List.{take_more}
 use Rattle.std.proofs.lemmas.List.Elements.{filter_passes}
 use Rattle.pb_board.specs.Position.{IsSetup, Position}
 use Rattle.pb_moves.specs.Moved.{Moved}
-use Rattle.pb_poly.specs.declared.entry.Entry.{Entry}
+use Rattle.pb_poly.specs.declared.book.Entry.{Entry}
 use Rattle.pb_poly.specs.Key.{key}
 use Rattle.pb_poly.specs.Found.{Found, IsFor}
 use Rattle.pb_poly.proofs.Codes.{code_is_one}

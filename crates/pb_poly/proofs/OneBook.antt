@@ -3,7 +3,7 @@ use Rattle.std.proofs.Common.{◌≡◌, ◌∙◌, ℕ, ◌+◌, ◌*◌, ◌�
 use Rattle.std.proofs.lemmas.Bool.{cases_lt}
 use Rattle.pb_board.specs.Refusal.{BreaksAt}
 use Rattle.pb_board.proofs.Breaks.{breaks_more, one_break}
-use Rattle.pb_poly.specs.declared.entry.Entry.{Entry}
+use Rattle.pb_poly.specs.declared.book.Entry.{Entry}
 use Rattle.pb_poly.specs.Entry.{IsEntry}
 use Rattle.pb_poly.specs.Book.{IsBookFile, NeverFall, book_bytes}
 use Rattle.pb_poly.specs.Reading.{AsBook, BookIs, Splits}

@@ -6,8 +6,8 @@ use Rattle.pb_poly.proofs.Tables.{only_memory, randoms_are_one}
 use Rattle.pb_poly.specs.Table.{IsRandomLine}
 use Rattle.pb_poly.specs.TableReading.{AsTable}
 use Rattle.pb_poly.specs.declared.table.TableError.TheVariants as poly
-use Rattle.pb_poly.specs.declared.table_file.TableFault.{TableFault}
-use Rattle.pb_poly.specs.declared.table_file.TableFault.TheVariants as table_fault
+use Rattle.pb_poly.specs.declared.table.TableFault.{TableFault}
+use Rattle.pb_poly.specs.declared.table.TableFault.TheVariants as table_fault
 
 pub one_table : (bytes : List ℕ) (r x : Result (List ℕ) TableFault) → AsTable bytes r → AsTable bytes x → r ≡ x
 one_table bytes (Ok words) (Ok others) h k = ap (λ ws. Ok ws) (randoms_are_one (lines bytes) words others h.1.1 k.1.1)

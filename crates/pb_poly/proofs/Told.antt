@@ -9,11 +9,11 @@ use Rattle.pb_poly.specs.Reading.{AsBook, BookIs, ReadsBook, Tells}
 use Rattle.pb_poly.specs.Streams.{at_end, at_fault, at_no_end, just_so_far, so_far}
 use Rattle.pb_poly.specs.Table.{IsTableFile, table_limit}
 use Rattle.pb_poly.specs.TableReading.{AsTable, ReadsTable, TableIs}
-use Rattle.pb_poly.specs.declared.entry.Entry.{Entry}
+use Rattle.pb_poly.specs.declared.book.Entry.{Entry}
 use Rattle.pb_poly.specs.declared.reading.BookError.{BookError}
 use Rattle.pb_poly.specs.declared.reading.BookError.TheVariants.{Unsorted, Cut, Read, Endless, Memory}
-use Rattle.pb_poly.specs.declared.table_file.TableFault.{TableFault}
-use Rattle.pb_poly.specs.declared.table_file.TableFault.TheVariants.{Long, Line, Count, Fault}
+use Rattle.pb_poly.specs.declared.table.TableFault.{TableFault}
+use Rattle.pb_poly.specs.declared.table.TableFault.TheVariants.{Long, Line, Count, Fault}
 use Rattle.pb_poly.proofs.OneBook.{one_book}
 use Rattle.pb_poly.proofs.OneTable.{one_table}
 use Rattle.pb_poly.proofs.ToldReads.{all_came, came_first, long_enough}

@@ -1,7 +1,7 @@
 -- Books: entries whose keys never fall, and their bytes.
 use Rattle.std.specs.Prelude.{◌≡◌, ℕ, ◌≤◌, List, [], ◌∷◌, All, map}
 use Rattle.std.specs.List.{flat_map}
-use Rattle.pb_poly.specs.declared.entry.Entry.{Entry}
+use Rattle.pb_poly.specs.declared.book.Entry.{Entry}
 use Rattle.pb_poly.specs.Entry.{IsEntry, entry_bytes}
 
 abbrev pub keys_of : List Entry → List ℕ

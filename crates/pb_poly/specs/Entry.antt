@@ -1,7 +1,7 @@
 -- An entry of a book: its ranges and its 16 bytes.
 use Rattle.std.specs.Prelude.{ℕ, ◌^◌, ◌<◌, List, ◌++◌}
 use Rattle.std.specs.Int.{w16, w32, w64, to_be_bytes}
-use Rattle.pb_poly.specs.declared.entry.Entry.{Entry}
+use Rattle.pb_poly.specs.declared.book.Entry.{Entry}
 
 -- each field is in the range of its bytes
 pub record IsEntry (e : Entry) : Type 0 where

@@ -2,7 +2,7 @@
 use Rattle.std.specs.Prelude.{◌≡◌, ℕ, ◌⊎◌, List, [], ◌∷◌}
 use Rattle.pb_board.specs.Position.{Position}
 use Rattle.pb_moves.specs.Moved.{Moved}
-use Rattle.pb_poly.specs.declared.entry.Entry.{Entry}
+use Rattle.pb_poly.specs.declared.book.Entry.{Entry}
 use Rattle.pb_poly.specs.Code.{HasCode}
 use Rattle.pb_poly.specs.Key.{key}
 

@@ -5,8 +5,8 @@ use Rattle.pb_io.specs.declared.fault.ReadFault.TheVariants.{Read, Endless, Memo
 use Rattle.pb_poly.specs.Streams.{ReadsTo, Extent, at_end, at_fault, at_no_end, just_so_far}
 use Rattle.pb_poly.specs.Table.{IsDueTable, IsTableFile, table_limit}
 use Rattle.pb_poly.specs.declared.table.TableError.TheVariants as poly
-use Rattle.pb_poly.specs.declared.table_file.TableFault.{TableFault}
-use Rattle.pb_poly.specs.declared.table_file.TableFault.TheVariants.{Long, Line, Count, Fault}
+use Rattle.pb_poly.specs.declared.table.TableFault.{TableFault}
+use Rattle.pb_poly.specs.declared.table.TableFault.TheVariants.{Long, Line, Count, Fault}
 
 -- the bytes of a table file, read in this way, come to these random numbers or to this fault; where
 -- they are too many, just one too many was read

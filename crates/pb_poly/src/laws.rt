@@ -1,6 +1,6 @@
 //! Laws, each the contract of a function that does nothing.
 
-ghost use Rattle.std.specs.Bool.{Decides};
+ghost use Rattle.pb_board.specs.Equality.{IsEquality};
 ghost use Rattle.std.specs.Prelude.{◌≡◌, ◌<◌, ℕ, List, Result, Some, false, length};
 ghost use Rattle.pb_io.specs.Source.{SourceState};
 ghost use Rattle.pb_board.specs.Position.{IsSetup, Position};
@@ -12,16 +12,14 @@ ghost use Rattle.pb_poly.specs.Key.{IsKey, key};
 ghost use Rattle.pb_poly.specs.Table.{IsTable};
 ghost use Rattle.pb_poly.specs.TableReading.{AsTable};
 ghost use Rattle.pb_poly.specs.Reading.{AsBook, Tells};
-ghost use Rattle.pb_poly.specs.declared.entry.Entry.{Entry};
-ghost use Rattle.pb_poly.specs.declared.entry.TheConstants.{ENTRIES_AT_ONCE};
+ghost use Rattle.pb_poly.specs.declared.book.Entry.{Entry};
+ghost use Rattle.pb_poly.specs.declared.book.TheConstants.{ENTRIES_AT_ONCE};
 ghost use Rattle.pb_poly.specs.declared.reading.BookError.{BookError};
-ghost use Rattle.pb_poly.specs.declared.table.TableError.{TableError};
-ghost use Rattle.pb_poly.specs.declared.table_file.TableFault.{TableFault};
+ghost use Rattle.pb_poly.specs.declared.table.TableFault.{TableFault};
 
-use crate::entry::Entry;
+use crate::book::Entry;
 use crate::reading::BookError;
-use crate::table::TableError;
-use crate::table_file::TableFault;
+use crate::table::{TableError, TableFault};
 pub use pb_io::laws::{lines_begin, lines_few, pieces_join};
 
 /// The limit is the number that `write_entries` asks for.
@@ -61,10 +59,10 @@ pub fn book_is_one()
 
 /// `==` holds exactly where two values are one.
 pub fn equal_values()
-    ensures entry { (e f : Entry) → Decides (⟦<Entry as PartialEq>⟧.eq e f) (e ≡ f) }
-    ensures book { (e f : BookError) → Decides (⟦<BookError as PartialEq>⟧.eq e f) (e ≡ f) }
-    ensures table { (e f : TableError) → Decides (⟦<TableError as PartialEq>⟧.eq e f) (e ≡ f) }
-    ensures fault { (e f : TableFault) → Decides (⟦<TableFault as PartialEq>⟧.eq e f) (e ≡ f) }
+    ensures entry { IsEquality ⟦<Entry as PartialEq>⟧.eq }
+    ensures book { IsEquality ⟦<BookError as PartialEq>⟧.eq }
+    ensures table { IsEquality ⟦<TableError as PartialEq>⟧.eq }
+    ensures fault { IsEquality ⟦<TableFault as PartialEq>⟧.eq }
 {}
 
 /// A book holds one list of moves and weights for a setup.

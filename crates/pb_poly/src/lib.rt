@@ -10,25 +10,17 @@
 
 mod book;
 mod code;
-mod entry;
 mod key;
-mod key_change;
 pub mod laws;
-mod probing;
 mod reading;
 mod table;
-mod table_file;
 
-pub use book::{Book, write_book};
+pub use book::{Book, ENTRIES_AT_ONCE, Entry, probe, write_book, write_entries, write_entry};
 pub use code::{code_by, code_of, move_of};
-pub use entry::{ENTRIES_AT_ONCE, Entry, write_entries, write_entry};
-pub use key::key_of;
-pub use key_change::{key_after, key_next};
+pub use key::{key_after, key_next, key_of};
 pub use pb_io::{
     Failed, FromRead, FuseSink, FuseSource, LINE_LIMIT, LineTask, MemSink, MemSource, NeverSource,
     ReadFault, Sink, Source, ToWrite, take_lines,
 };
-pub use probing::probe;
 pub use reading::{BookError, read_book};
-pub use table::{Table, TableError, read_table};
-pub use table_file::{TableFault, take_table};
+pub use table::{Table, TableError, TableFault, read_table, take_table};

@@ -8,10 +8,9 @@ ghost use Rattle.pb_poly.specs.Entry.{IsEntry, entry_bytes};
 ghost use Rattle.pb_poly.specs.Reading.{BookIs, FailsWithin, ReadsBook, Splits, Tells};
 ghost use Rattle.pb_poly.specs.Streams.{at_end, so_far};
 ghost use Rattle.pb_poly.specs.declared.reading.BookError.TheVariants.{Memory};
-ghost use Rattle.pb_poly.specs.declared.entry.Entry.{Entry};
+ghost use Rattle.pb_poly.specs.declared.book.Entry.{Entry};
 
-use crate::book::Book;
-use crate::entry::{ENTRY_LEN, Entry};
+use crate::book::{Book, ENTRY_LEN, Entry};
 use pb_io::{CHUNK_LEN, Source};
 use std::alloc::Global;
 use std::marker::Model;
@@ -46,7 +45,7 @@ struct Reading {
 
 impl Model for Reading {
     ghost use Rattle.std.specs.Prelude.{◌≤◌, ℕ, List, take};
-    ghost use Rattle.pb_poly.specs.declared.entry.Entry.{Entry};
+    ghost use Rattle.pb_poly.specs.declared.book.Entry.{Entry};
     ghost use Rattle.pb_poly.specs.Ordered.{IsOrdered};
 
     ghost Value = { List Entry × List ℕ };
@@ -146,7 +145,9 @@ impl Reading {
         if self.len > 0 {
             return Err(BookError::Cut(self.len));
         }
-        Ok(Book::of_ordered(self.entries))
+        Ok(Book {
+            entries: self.entries,
+        })
     }
 
     fn drain<S: Source>(

@@ -10,7 +10,7 @@ _pbook() {
     local word=${COMP_WORDS[COMP_CWORD]} last=${COMP_WORDS[COMP_CWORD - 1]}
     COMPREPLY=()
     if [ "$COMP_CWORD" -eq 1 ]; then
-        COMPREPLY=($(compgen -W 'collect check export games show probe lookup tree fen epd help --help --version' -- "$word"))
+        COMPREPLY=($(compgen -W 'collect export check games show probe lookup tree fen epd help --help --version' -- "$word"))
         return
     fi
     # Bash has the `=` of `--ledger=FILE`, and the `<` of `<FILE`, as a word of its own.
@@ -53,7 +53,7 @@ _pbook() {
         show | export) files=1 ;;
         probe | lookup | tree | collect) files=2 ;;
         games) files=$COMP_CWORD ;;
-        help) COMPREPLY=($(compgen -W 'collect check export games show probe lookup tree fen epd' -- "$word")) ;;
+        help) COMPREPLY=($(compgen -W 'collect export check games show probe lookup tree fen epd' -- "$word")) ;;
     esac
     if [ "$before" -lt "$files" ]; then
         _pbook_files "$word"

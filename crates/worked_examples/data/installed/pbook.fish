@@ -1,14 +1,14 @@
 # Completions of pbook for fish: its commands and their options, then files where a command takes one.
 
-set -l commands collect check export games show probe lookup tree fen epd
+set -l commands collect export check games show probe lookup tree fen epd
 set -l first "not __fish_seen_subcommand_from $commands help"
 
 complete -c pbook -f
 complete -c pbook -s h -l help -d 'Say how it is used'
 complete -c pbook -n $first -s V -l version -d 'Print the version'
 complete -c pbook -n $first -a collect -d 'Make a book of the games on standard input'
-complete -c pbook -n $first -a check -d 'Judge the games on standard input, and make no book'
 complete -c pbook -n $first -a export -d 'Print the book of the games on standard input as EPD lines'
+complete -c pbook -n $first -a check -d 'Judge the games on standard input, and make no book'
 complete -c pbook -n $first -a games -d 'Print the submission lines of journals, saved ledgers and lists'
 complete -c pbook -n $first -a show -d 'Print the entries of a book'
 complete -c pbook -n $first -a probe -d 'Print the moves that a book has for a FEN record'

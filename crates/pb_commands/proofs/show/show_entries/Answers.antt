@@ -1,7 +1,7 @@
 use Rattle.std.proofs.Common.{[], refl}
 use Rattle.std.proofs.KnownBytes.{Appends-nil}
 use Rattle.std.proofs.lemmas.Result.{err_from_is_err_and}
-use Rattle.pb_poly.specs.declared.entry.Entry.{Entry}
+use Rattle.pb_poly.specs.declared.book.Entry.{Entry}
 use Rattle.pb_commands.specs.BookShown.{entry_line}
 use Rattle.pb_commands.proofs.PutsInTurn.{PutsLines-more, flush_fails, line_fails, lines_shown}
 use Rattle.pb_commands.proofs.show.show_entries.Goals as goal

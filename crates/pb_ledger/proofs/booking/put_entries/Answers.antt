@@ -3,7 +3,7 @@ use Rattle.std.specs.Slice.Iter.{chunks_rest}
 use Rattle.std.proofs.lemmas.Result.{err_from_is_err_and}
 use Rattle.pb_poly.specs.Book.{book_bytes}
 use Rattle.pb_poly.proofs.Entries.{book_bytes-append}
-use Rattle.pb_ledger.proofs.Changes.{from_to}
+use Rattle.pb_ledger.specs.Change.{from_to}
 use Rattle.pb_ledger.specs.Booking.{PutsOn}
 use Rattle.pb_ledger.proofs.Booked.{cut_at, puts_none, puts_one, puts_stopped, puts_then}
 use Rattle.pb_ledger.proofs.booking.put_entries.Goals as goal

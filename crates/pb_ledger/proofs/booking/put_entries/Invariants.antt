@@ -1,7 +1,7 @@
 use Rattle.std.proofs.Common.{◌≡◌, List, ◌++◌}
 use Rattle.std.specs.Slice.Iter.{chunks_rest, chunks_size}
 use Rattle.pb_poly.specs.Book.{book_bytes}
-use Rattle.pb_poly.specs.declared.entry.Entry.{Entry}
+use Rattle.pb_poly.specs.declared.book.Entry.{Entry}
 use Rattle.pb_ledger.specs.Change.{between}
 use Rattle.pb_ledger.specs.Booking.{PutsOn}
 use Rattle.pb_ledger.proofs.booking.put_entries.Given as goal

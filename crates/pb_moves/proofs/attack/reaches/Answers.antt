@@ -1,6 +1,6 @@
 use Rattle.std.proofs.Common.{◌≡◌, ◌↔◌, arith, bit_and}
 use Rattle.std.proofs.lemmas.Bool.{and_parts, eq-eqb, eqb-true}
-use Rattle.pb_moves.specs.Attackers.{IsTaken}
+use Rattle.pb_moves.specs.Attackers.{IsOccupied}
 use Rattle.pb_moves.specs.Candidate.{MayTarget}
 use Rattle.pb_moves.proofs.Reached.{goes_told}
 use Rattle.pb_moves.proofs.Seen.{Open, goes_as, open_told}
@@ -14,7 +14,7 @@ returns c =
     let from = c.args.from in
     let to = c.args.to in
     let on = c.has.ensures.on_board in
-    let taken : IsTaken c.occupied.result board = λ q in_q. c.occupied.ensures.squares q in
+    let taken : IsOccupied c.occupied.result board = λ q in_q. c.occupied.ensures.squares q in
     let way : MayTarget c.args.piece.colour c.args.piece.kind from to → (bit_and c.between.result c.occupied.result ≡ 0) ↔ Open c.occupied.result from to = λ target.
     (let goes = goes_as c.args.piece.colour c.args.piece.kind from to target in
     open_told c.occupied.result c.between.result from to (omega arith) (c.between.ensures goes.0 goes.1)) in

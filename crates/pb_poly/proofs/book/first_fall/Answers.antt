@@ -1,6 +1,6 @@
 use Rattle.std.proofs.Common.{◌+◌, get_or, refl, rules, take}
 use Rattle.std.proofs.lemmas.List.{take_more}
-use Rattle.pb_poly.specs.declared.entry.Entry.{Entry}
+use Rattle.pb_poly.specs.declared.book.Entry.{Entry}
 use Rattle.pb_poly.specs.Entry.{IsEntry}
 use Rattle.pb_poly.proofs.Entries.{IsOrdered-push, first_fall_at}
 use Rattle.pb_poly.proofs.book.first_fall.Goals as goal

@@ -5,7 +5,7 @@ use Rattle.std.proofs.lemmas.List.{take_all, take_more}
 use Rattle.std.proofs.lemmas.Result.{err_from_is_err_and}
 use Rattle.pb_io.proofs.PutLemmas.{Lasts-trans}
 use Rattle.pb_io.proofs.WritesLemmas.{Writes-flushed}
-use Rattle.pb_poly.specs.declared.entry.Entry.{Entry}
+use Rattle.pb_poly.specs.declared.book.Entry.{Entry}
 use Rattle.pb_poly.specs.Book.{book_bytes}
 use Rattle.pb_poly.proofs.Entries.{book_bytes-push, front_of_book}
 use Rattle.pb_poly.proofs.book.write_book.Goals as goal

@@ -1,6 +1,6 @@
 use Rattle.std.proofs.Common.{◌≡◌, ◌++◌, ◌∙◌, List}
 use Rattle.std.proofs.lemmas.Result.{IfOk-weaker}
-use Rattle.pb_poly.specs.declared.entry.Entry.{Entry}
+use Rattle.pb_poly.specs.declared.book.Entry.{Entry}
 use Rattle.pb_points.specs.TallyBook.{AddsBookOf, stretch_of}
 use Rattle.pb_accepted.specs.Basis.{Basis}
 use Rattle.pb_accepted.specs.Counting.{IsBook, counted, stretch}

@@ -1,15 +1,7 @@
-use Rattle.std.proofs.Common.{ap}
 use Rattle.std.proofs.lemmas.Result.{err_from_is_err_and}
-use Rattle.pb_accepted.specs.Accepting.{answer_of}
 use Rattle.pb_accepted.proofs.ledger.Ledger.submit.Goals as goal
 
 pub returns-in_err-submit_full-clause-step : goal.returns-in_err-submit_full-clause-step
 returns-in_err-submit_full-clause-step g c =
     let e = err_from_is_err_and c.from_residual.result c.from_residual.ensures.1 in
     rw (e.1, e.2) c.in_err-submit_full.ensures.step
-
-pub returns-in_err-submit_full-clause-held : goal.returns-in_err-submit_full-clause-held
-returns-in_err-submit_full-clause-held g c = λ s n lawful at. absurd (let no = c.in_err-submit_full.ensures.held s n lawful at in cc)
-
-pub returns-clause-held : goal.returns-clause-held
-returns-clause-held g c = λ s n lawful at. ap answer_of (c.in_ok-submit_full.ensures.held s n lawful at)

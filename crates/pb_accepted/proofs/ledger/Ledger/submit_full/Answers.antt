@@ -1,27 +1,21 @@
 use Rattle.std.proofs.Common.{◌≡◌, ◌+◌, Ok, Err, Some, ap, refl, sym, subst, ◌∙◌, rules}
 use Rattle.std.specs.List.{All}
 use Rattle.std.proofs.lemmas.Result.{err_from_is_err_and}
-use Rattle.pb_games.specs.declared.refusal.Refusal.TheVariants.{Conflict}
 use Rattle.pb_games.specs.Repeat.{AreFieldsOf}
 use Rattle.pb_games.specs.Submissions.{IsSubmission}
 use Rattle.pb_accepted.specs.Accepting as steps
-use Rattle.pb_accepted.specs.Accepting.{Step, answer_of, says_new}
-use Rattle.pb_accepted.specs.Holding.{HaveOwnIds}
+use Rattle.pb_accepted.specs.Accepting.{answer_of}
 use Rattle.pb_accepted.specs.Ledger.{LedgerState}
 use Rattle.pb_accepted.specs.Replying.{IsNewId, IsNumber}
-use Rattle.pb_games.proofs.Refused.{unlawful}
 use Rattle.pb_accepted.proofs.Arrivals.{another, comes_again, is_new, submission_at}
 use Rattle.pb_accepted.proofs.Places.{IsNewId-absent, key_found}
-use Rattle.pb_accepted.proofs.Steps.{held_step, new_grows, not_held}
+use Rattle.pb_accepted.proofs.Steps.{new_grows}
 use Rattle.pb_accepted.proofs.ledger.Ledger.submit_full.Goals as goal
 
 pub returns-in_err-fields-clause-step : goal.returns-in_err-fields-clause-step
 returns-in_err-fields-clause-step g c =
     let e = err_from_is_err_and c.from_residual.result c.from_residual.ensures.1 in
     steps.refused _ c.in_err-fields.ensures.refused (ap answer_of (e.1 ∙ ap (λ x. Err x) e.2)) refl
-
-pub returns-in_err-fields-clause-held : goal.returns-in_err-fields-clause-held
-returns-in_err-fields-clause-held g c = λ s n lawful at. absurd (unlawful _ _ s c.in_err-fields.ensures.refused lawful)
 
 pub repeats-requires : goal.repeats-requires
 repeats-requires g c =
@@ -46,13 +40,6 @@ returns-then-not-repeats-clause-step g c =
     let other = another _ _ _ c.in_ok-fields.ensures.cut (found.index + 1) (found.game.now, stands, differs) checked.field-0 lawful in
     steps.conflict checked.field-0 other.0 (found.index + 1) lawful other.1 other.2 refl refl
 
-pub returns-then-not-repeats-clause-held : goal.returns-then-not-repeats-clause-held
-returns-then-not-repeats-clause-held g c = λ s n lawful at.
-    let holds = ap (λ (l : LedgerState). l.accepted) c.self.view_is in
-    let ids = subst HaveOwnIds holds c.self.invariant.rules.ids in
-    let no : Err (Conflict (c.in-Some.index + 1)) ≡ Ok n = held_step c.args.self.now.cap c.args.self.now.accepted c.args.line.now s n (Err (Conflict (c.in-Some.index + 1))) c.args.self.now.accepted ids lawful at (returns-then-not-repeats-clause-step g c) in
-    cc
-
 pub returns-in-Some-clause-step : goal.returns-in-Some-clause-step
 returns-in-Some-clause-step g c =
     let entries = c.self.inside.games.entries in
@@ -63,13 +50,6 @@ returns-in-Some-clause-step g c =
     let same : AreFieldsOf found.game.now c.in_ok-fields.fields = search rules in
     let arrives = comes_again _ _ _ c.in_ok-fields.ensures.cut (subst (All IsSubmission) holds c.self.invariant.rules.games) (found.index + 1) (found.game.now, stands, same) in
     steps.repeat arrives.0 (found.index + 1) arrives.1 arrives.2 refl refl
-
-pub returns-in-Some-clause-held : goal.returns-in-Some-clause-held
-returns-in-Some-clause-held g c = λ s n lawful at.
-    let holds = ap (λ (l : LedgerState). l.accepted) c.self.view_is in
-    let ids = subst HaveOwnIds holds c.self.invariant.rules.ids in
-    let same : Ok (c.in-Some.index + 1) ≡ Ok n = held_step c.args.self.now.cap c.args.self.now.accepted c.args.line.now s n (Ok (c.in-Some.index + 1)) c.args.self.now.accepted ids lawful at (returns-in-Some-clause-step g c) in
-    cc
 
 pub take-requires-clause-new : goal.take-requires-clause-new
 take-requires-clause-new g c =
@@ -82,13 +62,6 @@ returns-in_err-take-clause-step g c =
     let e = err_from_is_err_and c.from_residual-in_err-take.result c.from_residual-in_err-take.ensures.1 in
     rw (e.1, e.2) (c.in_err-take.ensures.step c.args.line.now c.in_ok-fields.ensures.cut)
 
-pub returns-in_err-take-clause-held : goal.returns-in_err-take-clause-held
-returns-in_err-take-clause-held g c = λ s n lawful at.
-    let entries = c.self.inside.games.entries in
-    let holds = ap (λ (l : LedgerState). l.accepted) c.self.view_is in
-    let fresh = subst (IsNewId c.in_ok-fields.fields.id.now) holds (subst (λ x. IsNewId x entries) c.id-id.ensures (IsNewId-absent entries c.id-id.result (sym c.in_default.ensures.value))) in
-    absurd (not_held c.args.self.now.accepted n s (is_new _ _ _ c.in_ok-fields.ensures.cut fresh s lawful) at)
-
 pub returns-clause-step : goal.returns-clause-step
 returns-clause-step g c = c.in_ok-take.ensures.step c.args.line.now c.in_ok-fields.ensures.cut
 
@@ -98,10 +71,3 @@ returns-clause-new g c =
     let holds = ap (λ (l : LedgerState). l.accepted) c.self.view_is in
     let fresh = subst (IsNewId c.in_ok-fields.fields.id.now) holds (subst (λ x. IsNewId x entries) c.id-id.ensures (IsNewId-absent entries c.id-id.result (sym c.in_default.ensures.value))) in
     new_grows _ _ _ _ _ (is_new _ _ _ c.in_ok-fields.ensures.cut fresh) (c.in_ok-take.ensures.step c.args.line.now c.in_ok-fields.ensures.cut)
-
-pub returns-clause-held : goal.returns-clause-held
-returns-clause-held g c = λ s n lawful at.
-    let entries = c.self.inside.games.entries in
-    let holds = ap (λ (l : LedgerState). l.accepted) c.self.view_is in
-    let fresh = subst (IsNewId c.in_ok-fields.fields.id.now) holds (subst (λ x. IsNewId x entries) c.id-id.ensures (IsNewId-absent entries c.id-id.result (sym c.in_default.ensures.value))) in
-    absurd (not_held c.args.self.now.accepted n s (is_new _ _ _ c.in_ok-fields.ensures.cut fresh s lawful) at)

@@ -1,7 +1,7 @@
 use Rattle.std.proofs.Common.{◌≡◌, ◌+◌, ◌-◌, ◌*◌, ◌/◌, ◌^◌, ◌<◌, ltb, List, arith, ap, subst, sym, ◌∙◌, length, drop, take}
 use Rattle.std.specs.Prelude.{take_while}
 use Rattle.std.proofs.lemmas.List.{get_or_read, length-drop, take_all}
-use Rattle.pb_poly.specs.declared.entry.Entry.{Entry}
+use Rattle.pb_poly.specs.declared.book.Entry.{Entry}
 use Rattle.pb_export.specs.Indexing.{IsBefore, IsFirstUnder}
 use Rattle.pb_export.proofs.Indexes.{partition_point, first_within}
 use Rattle.pb_export.proofs.indexed_book.IndexedBook.first_under.Goals as goal

@@ -5,7 +5,7 @@ use Rattle.pb_games.specs.Submissions.{Submission}
 use Rattle.pb_accepted.specs.Replying.{IsNumber}
 use Rattle.pb_accepted.proofs.Places.{game_there}
 use Rattle.pb_moves.specs.Moved.{Moved}
-use Rattle.pb_poly.specs.declared.entry.Entry.{Entry}
+use Rattle.pb_poly.specs.declared.book.Entry.{Entry}
 use Rattle.pb_export.specs.declared.setups.ListedSetup.{ListedSetup}
 use Rattle.pb_export.specs.Setups.{ListsSetups, all_setups}
 use Rattle.pb_export.proofs.ListedSetups.{all_setups-more, each_once, none_listed, numbered_game, setups_fit}

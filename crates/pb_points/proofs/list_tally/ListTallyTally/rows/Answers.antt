@@ -12,4 +12,4 @@ pub returns-clause-order : goal.returns-clause-order
 returns-clause-order c =
     rise_apart c.self.inside.rows.items c.sort_rows.new.rows.items c.self.invariant
     (subst (λ rows. IsPermutation rows c.sort_rows.new.rows.items) (c.in_ok-rows.ensures.items ∙ c.deref.ensures.value) c.sort_rows.ensures.permutation)
-    c.sort_rows.ensures.sorted
+    c.in_ok-sort_rows.ensures.sorted

@@ -8,7 +8,7 @@ use Rattle.pb_points.specs.Blocks.{rows_of}
 use Rattle.pb_points.specs.NarrowTally.{all_of}
 use Rattle.pb_points.proofs.BagRows.{fit_same, same_permuted}
 use Rattle.pb_points.proofs.narrow_tally.NarrowTally.sums.Goals as goal
-use Rattle.pb_points.proofs.narrow_tally.NarrowTally.sums.Goals.{then-not-is_empty+in_ok-extend_from_slice, else-not-is_empty}
+use Rattle.pb_points.proofs.narrow_tally.NarrowTally.sums.Goals.{then-not-is_empty+in_ok-extend_from_slice+in_ok-sort_rows, else-not-is_empty}
 
 -- narrow rows in order, with wide ones behind them that are then sorted among them
 beside : (rows ordered wide listed sorted : List Row) → IsPermutation rows ordered → listed ≡ ordered ++ wide → IsPermutation listed sorted → IsPermutation (rows ++ wide) sorted
@@ -23,7 +23,7 @@ pub add_up-requires-clause-ordered : goal.add_up-requires-clause-ordered
 add_up-requires-clause-ordered c =
     let narrow : c.add_rows.new.rows.items ≡ c.order_rows.new.rows.items = c.in_ok-add_rows.ensures ∙ ap (λ l. l ++ c.deref.result.now) c.in_ok-rows.ensures.items ∙ c.deref.ensures.value in
     elim c.if-not-is_empty.branch [
-      | then-not-is_empty+in_ok-extend_from_slice w ↦ rw w.rows-is w.sort_rows.ensures.sorted
+      | then-not-is_empty+in_ok-extend_from_slice+in_ok-sort_rows w ↦ rw w.rows-is w.in_ok-sort_rows.ensures.sorted
       | else-not-is_empty w ↦ rw (w.rows-is, narrow) c.in_ok-order_rows.ensures.sorted
     ]
 
@@ -35,7 +35,7 @@ add_up-requires-clause-fit c =
     let narrow : c.add_rows.new.rows.items ≡ c.order_rows.new.rows.items = c.in_ok-add_rows.ensures ∙ ap (λ l. l ++ c.deref.result.now) c.in_ok-rows.ensures.items ∙ c.deref.ensures.value in
     let ordered : IsPermutation (rows_of was.rows) c.order_rows.new.rows.items = subst (λ l. IsPermutation l c.order_rows.new.rows.items) c.in_ok-narrow.ensures c.order_rows.ensures.permutation in
     let permuted : IsPermutation all rows = elim c.if-not-is_empty.branch [
-      | then-not-is_empty+in_ok-extend_from_slice w ↦ rw w.rows-is
+      | then-not-is_empty+in_ok-extend_from_slice+in_ok-sort_rows w ↦ rw w.rows-is
           (beside (rows_of was.rows) c.order_rows.new.rows.items was.wide.items w.extend_from_slice.new.self.items w.sort_rows.new.rows.items ordered
           (w.in_ok-extend_from_slice.ensures.items ∙ ap (λ l. l ++ w.deref-then-not-is_empty.result.now) narrow ∙ ap (λ l. c.order_rows.new.rows.items ++ l) w.deref-then-not-is_empty.ensures.value)
           w.sort_rows.ensures.permutation)
@@ -52,7 +52,7 @@ returns c =
     let narrow : c.add_rows.new.rows.items ≡ c.order_rows.new.rows.items = c.in_ok-add_rows.ensures ∙ ap (λ l. l ++ c.deref.result.now) c.in_ok-rows.ensures.items ∙ c.deref.ensures.value in
     let ordered : IsPermutation (rows_of was.rows) c.order_rows.new.rows.items = subst (λ l. IsPermutation l c.order_rows.new.rows.items) c.in_ok-narrow.ensures c.order_rows.ensures.permutation in
     let permuted : IsPermutation all rows = elim c.if-not-is_empty.branch [
-      | then-not-is_empty+in_ok-extend_from_slice w ↦ rw w.rows-is
+      | then-not-is_empty+in_ok-extend_from_slice+in_ok-sort_rows w ↦ rw w.rows-is
           (beside (rows_of was.rows) c.order_rows.new.rows.items was.wide.items w.extend_from_slice.new.self.items w.sort_rows.new.rows.items ordered
           (w.in_ok-extend_from_slice.ensures.items ∙ ap (λ l. l ++ w.deref-then-not-is_empty.result.now) narrow ∙ ap (λ l. c.order_rows.new.rows.items ++ l) w.deref-then-not-is_empty.ensures.value)
           w.sort_rows.ensures.permutation)

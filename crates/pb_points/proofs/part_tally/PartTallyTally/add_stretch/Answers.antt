@@ -21,7 +21,7 @@ pub returns-clause-ok : goal.returns-clause-ok
 returns-clause-ok g c =
     let parts = c.args.self.now.parts.items in
     let lt : c.part_of.result < length parts = omega (arith, c.in-Some.ensures.lookup.3.0, ap length c.deref.ensures.value) in
-    let many : length parts ≡ 512 = c.args.self.now.whole (omega (arith, lt)) in
+    let many : length parts ≡ 256 = c.args.self.now.whole (omega (arith, lt)) in
     let here : slice_get parts (part_of c.args.first) ≡ Some c.in-Some.part.now =
     ap (slice_get parts) (sym c.part_of.ensures) ∙ ap (λ l. slice_get l c.part_of.result) (sym c.deref.ensures.value)
     ∙ slice_get_read c.deref.result.now (length c.deref.result.now) c.part_of.result c.in-Some.part.now refl c.in-Some.ensures.lookup.3.0 c.in-Some.ensures.lookup.1 in

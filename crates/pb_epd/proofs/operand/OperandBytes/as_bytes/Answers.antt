@@ -1,5 +1,0 @@
-use Rattle.std.proofs.Common.{rules}
-use Rattle.pb_epd.proofs.operand.OperandBytes.as_bytes.Goals as goal
-
-pub returns : goal.returns
-returns c = search rules

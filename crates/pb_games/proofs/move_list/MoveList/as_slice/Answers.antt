@@ -1,5 +1,0 @@
-use Rattle.std.proofs.Common.{rules}
-use Rattle.pb_games.proofs.move_list.MoveList.as_slice.Goals as goal
-
-pub returns : goal.returns
-returns c = search rules

@@ -1,5 +1,0 @@
-use Rattle.std.proofs.Common.{rules}
-use Rattle.pb_io.proofs.fuse_source.FuseSource.new.Goals as goal
-
-pub returns-clause-state : goal.returns-clause-state
-returns-clause-state c = search rules

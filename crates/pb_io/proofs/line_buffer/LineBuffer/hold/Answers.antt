@@ -1,6 +1,0 @@
-use Rattle.std.proofs.Common.{arith}
-use Rattle.std.proofs.lemmas.Grind.{common_steps}
-use Rattle.pb_io.proofs.line_buffer.LineBuffer.hold.Goals as goal
-
-pub returns-then-bytes-len : goal.returns-then-bytes-len
-returns-then-bytes-len c = grind (arith, common_steps)

@@ -1,5 +1,0 @@
-use Rattle.std.proofs.Common.{rules}
-use Rattle.pb_moves.proofs.promotion.promotion_of.Goals as goal
-
-pub returns-in-4 : goal.returns-in-4
-returns-in-4 c = search rules

@@ -1,7 +1,0 @@
-use Rattle.std.proofs.Common.{◌≡◌, length}
-use Rattle.std.specs.Prelude.{vec_capacity}
-use Rattle.pb_points.specs.PartTally.{HoldNothing}
-use Rattle.pb_points.proofs.part_tally.no_rows.Given as goal
-
-abbrev pub invariant-loop : goal.invariant-loop
-invariant-loop g l = record { count : length l.parts.items ≡ l.counter; room : vec_capacity l.parts ≡ 512; nothing : HoldNothing g.T.Tally.content l.parts.items }

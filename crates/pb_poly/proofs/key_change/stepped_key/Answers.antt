@@ -1,5 +1,0 @@
-use Rattle.std.proofs.Common.{rules}
-use Rattle.pb_poly.proofs.key_change.stepped_key.Goals as goal
-
-pub returns : goal.returns
-returns c = search rules
