@@ -74,10 +74,16 @@ impl<'a> Draft<'a> {
         Ok(Some(claimed))
     }
 
-    /// Gives what was opened as the draft, or tells that it can't be.
+    /// Gives what was opened as the draft, or tells that it can't be: by the file's name where the
+    /// folder of both isn't there.
     fn opened<T>(&self, answer: io::Result<T>) -> Result<T, StoreError> {
-        let (messages, draft) = (self.named.messages, self.draft.as_str());
-        opened(Named::new(messages, draft), answer)
+        let Named { messages, name } = self.named;
+        match answer {
+            Err(error) if error.kind() != NotFound => {
+                opened(Named::new(messages, self.draft.as_str()), Err(error))
+            }
+            answer => opened(Named::new(messages, name), answer),
+        }
     }
 
     /// Makes the draft, in the place of one that a run has left that was killed: owner, permissions
