@@ -162,14 +162,14 @@ unmakable() {
     for name in folder "$(printf '%0256d' 0)"; do cannot_make "$name" "$name"; done
     long=$(printf '%0249d' 0)
     cannot_make ".$long.pbook" "$long"
-    cannot_make missing/.book.bin.pbook missing/book.bin
+    cannot_make missing/book.bin missing/book.bin
     holds not test -e missing -o -e nothing
-    cannot_make missing/.book.bin.pbook missing/book.bin -q
+    cannot_make missing/book.bin missing/book.bin -q
     : > kept
-    cannot_make missing/.book.bin.pbook missing/book.bin --journal kept
+    cannot_make missing/book.bin missing/book.bin --journal kept
     holds test "$(cat kept)" = "$(games_of 1)"
     : > kept
-    cannot_make missing/.book.bin.pbook missing/book.bin --ledger kept
+    cannot_make missing/book.bin missing/book.bin --ledger kept
     holds test "$(wc -l < kept)" -eq 2
     # What has the draft's name is none: a run that took the pipe for one would wait for its reader.
     with_old

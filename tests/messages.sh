@@ -435,7 +435,7 @@ told_yet() { grep -qxF "pbook: $1" told; }
 told_at_once() {
     rm games
     begin "$PROGRAM" collect table.txt missing/book.bin
-    holds awaits told_yet 'missing/.book.bin.pbook: no such file or directory'
+    holds awaits told_yet 'missing/book.bin: no such file or directory'
     echo '[Event "one game"]' >&3
     holds awaits told_yet 'standard input looks like PGN, not like submissions'
     holds end 3
