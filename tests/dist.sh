@@ -187,10 +187,10 @@ guide() {
 
 # figures: what README says of the time beside PolyGlot stands in PERFORMANCE
 figures() {
-    sed -n 's/^| one PGN file //p' README.md | grep -o '[0-9][0-9.]*' | grep -vx 24 > "$work/due"
+    sed -n 's/^| one PGN file //p' README.md | grep -o '[0-9.]* s\>' > "$work/due"
     holds test "$(wc -l < "$work/due")" -eq 4
     awk '/^## / { is_due = /PolyGlot/ } is_due' docs/PERFORMANCE.md > "$work/found"
-    while read -r number; do holds grep -qw -e "$number" "$work/found"; done < "$work/due"
+    while read -r time; do holds grep -qw -e "$time" "$work/found"; done < "$work/due"
 }
 
 # shared: each of tools/ is packed twice, also where `make install` puts it, and what is to be run
