@@ -2,7 +2,7 @@
 
 ghost use Rattle.std.specs.Prelude.{◌≡◌};
 ghost use Rattle.pb_accepted.specs.Accepting.{Answer, Step};
-ghost use Rattle.pb_accepted.specs.Replies.{reply_line};
+ghost use Rattle.pb_accepted.specs.Accepting.{reply_line};
 
 use pb_ledger::laws::one_line;
 use pb_ledger::{Ledger, Reply, Tally};

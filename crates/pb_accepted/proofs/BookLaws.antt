@@ -7,9 +7,9 @@ use Rattle.std.proofs.lemmas.List.Sums.{sum_by-append, sum_by-cons}
 use Rattle.pb_poly.specs.declared.book.Entry.{Entry}
 use Rattle.pb_games.specs.Submissions.{Submission}
 use Rattle.pb_points.specs.Weight.{scaled, Before}
-use Rattle.pb_accepted.specs.Basis.{Basis}
+use Rattle.pb_accepted.specs.Rules.{Basis}
 use Rattle.pb_accepted.specs.Counting.{count, counted, times, IsGreatest, IsBook}
-use Rattle.pb_accepted.specs.Laws.{NoRepeats, SameMembers}
+use Rattle.pb_accepted.specs.Accepting.{NoRepeats, SameMembers}
 use Rattle.pb_accepted.specs.declared.ply_points.PlyPoints.{PlyPoints}
 use Rattle.pb_accepted.proofs.GivenPoints.{counted_of, one, share}
 use Rattle.pb_accepted.proofs.Members.{permutation_from_members}

@@ -15,7 +15,7 @@ use Rattle.pb_board.proofs.Elements.{contains_filter, within_filter}
 use Rattle.pb_points.proofs.Groups.{AllPairs-append}
 use Rattle.pb_points.proofs.Stretches.{above, before, held_within, in_either, in_first, in_second, none_within, stretched}
 use Rattle.pb_accepted.specs.Counting.{IsBook, stretch}
-use Rattle.pb_accepted.specs.Holding.{Tallies}
+use Rattle.pb_accepted.specs.Ledger.{Tallies}
 use Rattle.pb_accepted.specs.declared.ply_points.PlyPoints.{PlyPoints}
 use Rattle.pb_accepted.proofs.BookLaws.{before_both, before_itself}
 use Rattle.pb_accepted.proofs.Books.{IsBookWithin, book_within}

@@ -7,7 +7,7 @@ use Rattle.pb_points.specs.Rows.{IsTop, Gives, IsBookOfRows}
 use Rattle.pb_points.specs.Tally.{Content, Held, held_of, nothing}
 use Rattle.pb_points.specs.Weight.{Before, scaled}
 use Rattle.pb_accepted.specs.Counting.{count, times, IsGreatest, IsBook}
-use Rattle.pb_accepted.specs.Holding.{Tallies}
+use Rattle.pb_accepted.specs.Ledger.{Tallies}
 use Rattle.pb_accepted.specs.declared.ply_points.PlyPoints.{PlyPoints}
 
 -- the entries are those of the book whose keys are these

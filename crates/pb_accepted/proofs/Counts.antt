@@ -7,8 +7,7 @@ use Rattle.pb_games.specs.Submissions.{Submission, IsSubmission}
 use Rattle.pb_points.specs.Tally.{Content, Held, held}
 use Rattle.pb_accepted.specs.Replying.{IsNewId}
 use Rattle.pb_accepted.specs.Counting.{count, counted, times}
-use Rattle.pb_accepted.specs.Holding.{HoldsCounts, is_lost, lost, rowed, with_ply_points}
-use Rattle.pb_accepted.specs.Ledger.{LedgerState}
+use Rattle.pb_accepted.specs.Ledger.{HoldsCounts, is_lost, lost, rowed, with_ply_points, LedgerState}
 use Rattle.pb_accepted.specs.declared.ply_points.PlyPoints.{PlyPoints}
 use Rattle.pb_accepted.proofs.GivenPoints.{count-append, count-le, count_parts, counted_more, length-counted, small_ply_points, times-append, times-le, times_parts}
 

@@ -10,9 +10,8 @@ use Rattle.pb_games.specs.declared.refusal.Refusal.TheVariants.{Conflict, Full, 
 use Rattle.pb_games.specs.Submissions.{Submission, Submits}
 use Rattle.pb_games.specs.Refusing.{Refuses}
 use Rattle.pb_games.proofs.Refused as refused
-use Rattle.pb_accepted.specs.Accepting.{Answer, Adds, Taken, OneGame}
+use Rattle.pb_accepted.specs.Accepting.{Answer, Adds, Taken, OneGame, NoRepeats}
 use Rattle.pb_accepted.specs.Replying.{IsNumber, IsNewId}
-use Rattle.pb_accepted.specs.Laws.{NoRepeats}
 use Rattle.pb_accepted.proofs.Allowing.{Accepted, Allowed, AllowedRun, Answers, Takes}
 use Rattle.pb_accepted.proofs.Replies.{Answered, answered, held, new, other, full, id_of, game_of, one_submission, Adds-unique, Takes-unique, room-Takes}
 use Rattle.pb_accepted.proofs.Runs.{Along-keeps, Along-unique}
@@ -37,7 +36,7 @@ NoRepeats-Adds : (A : List Submission) (line : List ℕ) (r : Answer) (M : List 
 NoRepeats-Adds A line r M (inl h) once = subst NoRepeats (sym h.4) (all_pairs_push (λ s t. s ≢ t) A h.0 once (absent_differs A h.0 h.2))
 NoRepeats-Adds A line r M (inr h) once = subst NoRepeats (sym h.1) once
 
-NoRepeats-nil : NoRepeats []
+NoRepeats-nil : NoRepeats {X = Submission} []
 NoRepeats-nil i j d lt within = absurd (omega (arith, within))
 
 pub no_repeats : (L : List (List ℕ)) (R : List Answer) (S : List Submission) → Taken [] L R S → NoRepeats S

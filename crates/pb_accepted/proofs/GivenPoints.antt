@@ -5,8 +5,7 @@ use Rattle.std.proofs.lemmas.Bool.{cases_lt}
 use Rattle.std.proofs.lemmas.Grind.{flat_map-append}
 use Rattle.std.proofs.lemmas.List.{append_assoc, append-nil, get_or_default, length-append, length-map, length-take, take-map}
 use Rattle.std.proofs.lemmas.List.Concat.{length-flat_map}
-use Rattle.std.proofs.lemmas.List.Elements.{All-append, All-map}
-use Rattle.std.proofs.lemmas.List.Elements.{filter_more}
+use Rattle.std.proofs.lemmas.List.Elements.{All-append, All-map, filter_more}
 use Rattle.std.proofs.lemmas.List.Filters.{sum_by-filter_both}
 use Rattle.std.proofs.lemmas.List.Sums.{count_by_more_yes, length-filter, sum_by-append, sum_by-cons, sum_by_more_le, sum_by-le, sum_by-take-le}
 use Rattle.pb_board.specs.declared.piece.Colour.{Colour}
@@ -23,9 +22,9 @@ use Rattle.pb_games.specs.Submissions.{IsSubmission, Submission, plies}
 use Rattle.pb_points.proofs.Pairs.{is_pair_itself}
 use Rattle.pb_points.specs.Tally.{AddsPly, Content, HasRoomFor, Held, MakesRow, held, is_pair, more, nothing}
 use Rattle.pb_accepted.specs.declared.ply_points.PlyPoints.{PlyPoints}
-use Rattle.pb_accepted.specs.Basis.{Basis}
+use Rattle.pb_accepted.specs.Rules.{Basis}
 use Rattle.pb_accepted.specs.Counting.{count, counted, given_by, points_for, times}
-use Rattle.pb_accepted.specs.Holding.{is_lost, lost, rowed, with_ply_points}
+use Rattle.pb_accepted.specs.Ledger.{is_lost, lost, rowed, with_ply_points}
 
 -- ---- the plies of a game
 

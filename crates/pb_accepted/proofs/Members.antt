@@ -1,19 +1,15 @@
 -- Lists with the same members.
-use Rattle.std.proofs.Common.{◌≡◌, ◌≢◌, ℕ, ◌+◌, ◌<◌, ◌⊎◌, List, [], ◌∷◌, ◌++◌, append-nil, length, get_or, Contains, AllPairs, IsPermutation, refl, sym, ap, subst, ◌∙◌, inl, inr, arith}
+use Rattle.std.proofs.Common.{◌≡◌, ◌≢◌, ℕ, ◌+◌, ◌<◌, List, [], ◌∷◌, length, get_or, Contains, IsPermutation, sym, subst, ◌∙◌, inl, inr, arith}
 use Rattle.std.specs.List.{remove}
 use Rattle.std.proofs.lemmas.Bool.{cases_lt}
-use Rattle.std.proofs.lemmas.List.{length-append}
 use Rattle.std.proofs.lemmas.List.Edits.{length-remove, get_or-remove_below, get_or-remove_above}
 use Rattle.std.proofs.lemmas.List.Quantifiers.{all_pairs_remove}
 use Rattle.std.proofs.lemmas.List.Sorted.{IsPermutation-refl, IsPermutation-sym, IsPermutation-trans, IsPermutation-cons, IsPermutation-remove, Contains-permutation}
 use Rattle.pb_board.proofs.Elements.{contains_cases, contains_head, contains_tail, pairs_head, pairs_tail}
-use Rattle.pb_board.proofs.InOrder.{none_in_nil, same_in_order}
+use Rattle.pb_accepted.specs.Accepting.{NoRepeats}
+use Rattle.pb_board.proofs.InOrder.{none_in_nil}
 
 module _ {X : Type 0} where
-  -- no member stands twice
-  abbrev pub NoRepeats : List X → Type 0
-  NoRepeats xs = AllPairs (λ x y. x ≢ y) xs
-
   -- a member that was taken out is gone
   gone : (ys : List X) (k : ℕ) (x : X) → k < length ys → get_or ys k x ≡ x → NoRepeats ys → Contains (remove ys k) x → ⊥
   gone ys k x lt here once c =

@@ -10,8 +10,7 @@ use Rattle.pb_games.specs.Refusing.{Refuses}
 use Rattle.pb_games.specs.Submissions.{Submits, Submission}
 use Rattle.pb_games.proofs.Dues.{none_before, order}
 use Rattle.pb_games.proofs.Texts.{fields_back}
-use Rattle.pb_accepted.specs.Accepting.{Answer}
-use Rattle.pb_accepted.specs.Replies.{named}
+use Rattle.pb_accepted.specs.Accepting.{Answer, named}
 use Rattle.pb_accepted.proofs.Allowing.{Allowed}
 
 abbrev IsNamedShort : List ℕ → Answer → Type 0

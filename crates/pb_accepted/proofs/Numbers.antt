@@ -5,7 +5,7 @@ use Rattle.pb_games.specs.Submissions.{Submission, Submits}
 use Rattle.pb_games.proofs.Refused as refused
 use Rattle.pb_accepted.specs.Accepting.{Answer}
 use Rattle.pb_accepted.specs.Replying.{IsNumber}
-use Rattle.pb_accepted.specs.Holding.{HaveOwnIds}
+use Rattle.pb_accepted.specs.Replying.{HaveOwnIds}
 use Rattle.pb_accepted.proofs.Allowing.{Accepted, Allowed, AllowedRun, Answers, Takes}
 use Rattle.pb_accepted.proofs.Replies.{one_submission, allowed_held, new_is_next, HaveOwnIds-Takes, Takes-unique}
 use Rattle.pb_accepted.proofs.Runs.{Along-keeps, HaveOwnIds-nil}

@@ -14,7 +14,7 @@ use Rattle.pb_games.specs.Cuts.{fields_of}
 use Rattle.pb_games.specs.Refusing.{Refuses}
 use Rattle.pb_games.proofs.Dues.{IsDue, first_position, none_before, order}
 use Rattle.pb_accepted.specs.Refusals.{IsFirst, IsRefused, reasons}
-use Rattle.pb_accepted.specs.Replies.{named, reason}
+use Rattle.pb_accepted.specs.Accepting.{named, reason}
 
 -- what the reply says after `refused `
 abbrev pub why_of : List ℕ → Refusal → List ℕ

@@ -14,7 +14,7 @@ use Rattle.pb_games.proofs.OneRefused as refusals
 use Rattle.pb_games.proofs.Refused as refused
 use Rattle.pb_accepted.specs.Accepting.{Answer, HasRoom, Adds}
 use Rattle.pb_accepted.specs.Replying.{IsNumber, IsNewId}
-use Rattle.pb_accepted.specs.Holding.{HaveOwnIds}
+use Rattle.pb_accepted.specs.Replying.{HaveOwnIds}
 use Rattle.pb_accepted.proofs.Allowing.{Allowed, Answers, Reply, Takes}
 
 -- the id, and the game, of a submission

@@ -10,13 +10,11 @@ use Rattle.pb_games.specs.declared.refusal.Refusal.TheVariants.{Conflict, Full, 
 use Rattle.pb_games.specs.Cuts.{fields_of}
 use Rattle.pb_games.specs.Submissions.{Submits, Submission}
 use Rattle.pb_games.proofs.Texts.{fields_back}
-use Rattle.pb_accepted.specs.Accepting.{Answer, Run, Step}
+use Rattle.pb_accepted.specs.Accepting.{Answer, Run, Step, replies, reply, reply_text, reply_texts}
 use Rattle.pb_accepted.specs.Accepting as step
 use Rattle.pb_accepted.specs.Refusals.{IsRefused}
-use Rattle.pb_accepted.specs.Replies.{replies, reply, reply_text, reply_texts}
 use Rattle.pb_accepted.specs.Replying as replied
-use Rattle.pb_accepted.specs.Replying.{most_games}
-use Rattle.pb_accepted.specs.Replying.{AreNumbered, Arrives, IsNumber, Replies, Reply, ok, refused}
+use Rattle.pb_accepted.specs.Replying.{most_games, AreNumbered, Arrives, IsNumber, Replies, Reply, ok, refused}
 use Rattle.pb_accepted.proofs.Decimals.{same_number}
 use Rattle.pb_accepted.proofs.Held.{has_room}
 use Rattle.pb_accepted.proofs.RefusedTexts.{refused_to}

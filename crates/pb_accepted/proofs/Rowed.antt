@@ -9,7 +9,7 @@ use Rattle.pb_points.specs.Tally.{is_pair}
 use Rattle.pb_points.specs.Weight.{scaled}
 use Rattle.pb_points.proofs.Scaled.{scaled_some}
 use Rattle.pb_accepted.specs.Counting.{IsBook, IsGreatest, count, times}
-use Rattle.pb_accepted.specs.Holding.{is_lost, lost, rowed}
+use Rattle.pb_accepted.specs.Ledger.{is_lost, lost, rowed}
 use Rattle.pb_accepted.specs.declared.ply_points.PlyPoints.{PlyPoints}
 use Rattle.pb_accepted.proofs.GivenPoints.{count_parts, one, share, share-le, times_parts}
 

@@ -2,7 +2,7 @@
 use Rattle.std.proofs.Common.{◌≡◌, ℕ, List, [], ◌∷◌, ◌++◌, sym, subst, ◌∙◌, arith}
 use Rattle.pb_games.specs.Submissions.{Submission}
 use Rattle.pb_accepted.specs.Accepting.{Answer, Along}
-use Rattle.pb_accepted.specs.Holding.{HaveOwnIds}
+use Rattle.pb_accepted.specs.Replying.{HaveOwnIds}
 use Rattle.pb_accepted.proofs.Allowing.{Accepted, AllowedRun, Takes}
 use Rattle.pb_accepted.proofs.Replies.{Takes-unique, HaveOwnIds-Takes}
 

@@ -28,10 +28,9 @@ use Rattle.pb_points.specs.Weight.{scaled}
 use Rattle.pb_board.proofs.Elements.{all_of, contains_cases, contains_head, contains_tail}
 use Rattle.pb_points.proofs.Pairs.{is_pair_same}
 use Rattle.pb_points.proofs.SomeBooks.{some_book}
-use Rattle.pb_accepted.specs.Basis.{Basis}
+use Rattle.pb_accepted.specs.Rules.{Basis}
 use Rattle.pb_accepted.specs.Counting.{IsBook, count, counted, given_by, times}
-use Rattle.pb_accepted.specs.Holding.{IsLedger}
-use Rattle.pb_accepted.specs.Ledger.{LedgerState}
+use Rattle.pb_accepted.specs.Ledger.{IsLedger, LedgerState}
 use Rattle.pb_accepted.specs.declared.ply_points.PlyPoints.{PlyPoints}
 use Rattle.pb_accepted.proofs.Books.{IsBook-rows}
 use Rattle.pb_accepted.proofs.Frequent.{frequent_rows}

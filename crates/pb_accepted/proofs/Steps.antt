@@ -9,10 +9,10 @@ use Rattle.pb_games.specs.declared.refusal.Refusal.TheVariants.{Conflict, Full, 
 use Rattle.pb_games.specs.Submissions.{Submission, Submits}
 use Rattle.pb_games.specs.declared.refusal.Refusal.{Refusal}
 use Rattle.pb_accepted.specs.Accepting as steps
-use Rattle.pb_accepted.specs.Accepting.{Answer, Run, Step, OneGame, Taken}
+use Rattle.pb_accepted.specs.Accepting.{Answer, Run, Step, OneGame, Taken, named, NoRepeats, SameMembers}
 use Rattle.pb_accepted.specs.Replying.{Arrives, IsNewId, IsNumber, AreNumbered}
 use Rattle.pb_accepted.specs.Counting.{counted, IsBook}
-use Rattle.pb_accepted.specs.Holding.{HaveOwnIds}
+use Rattle.pb_accepted.specs.Replying.{HaveOwnIds}
 use Rattle.pb_accepted.proofs.Allowing.{Accepted, Allowed, AllowedRun, Reply, Takes}
 use Rattle.pb_accepted.proofs.BookLaws.{one_book, same_book}
 use Rattle.pb_accepted.proofs.Distinct.{accepts_the_taken, lawful_arrives, no_conflict}
@@ -20,9 +20,7 @@ use Rattle.pb_accepted.proofs.Naming.{named_short}
 use Rattle.pb_accepted.proofs.Numbers.{numbers_given, repeats_keep}
 use Rattle.pb_accepted.proofs.Replies.{id_of, Answered, answered, held, new, other, full, allowed_held, one_reply, Allowed-full, Allowed-new, Allowed-memory, Allowed-refused, Takes-held, Takes-new, Takes-refused, Takes-refusal, Takes-full, Takes-memory, Takes-unique}
 use Rattle.pb_accepted.proofs.Runs.{Accepted-append, Accepted-unique, Run-append, own_ids}
-use Rattle.pb_accepted.specs.Replies.{named}
-use Rattle.pb_accepted.specs.Laws.{NoRepeats, SameMembers}
-use Rattle.pb_accepted.specs.Basis.{Basis}
+use Rattle.pb_accepted.specs.Rules.{Basis}
 use Rattle.pb_poly.specs.declared.book.Entry.{Entry}
 
 -- ---- from a step

@@ -9,8 +9,8 @@
 --   repeat      a game that is held under its id    ok, its number         stays
 --   conflict    another game under an id held       conflict               stays
 --   refused     no legal game                       why not                stays
-use Rattle.std.specs.Prelude.{◌≡◌, ◌≢◌, ℕ, ◌+◌, ◌<◌, ◌≤◌, ◌⊎◌, List, [], ◌∷◌, ◌++◌}
-use Rattle.std.specs.Prelude.{Bool, false, length, Contains, Result, Ok, Err}
+use Rattle.std.specs.Prelude.{◌≡◌, ◌≢◌, ℕ, ◌+◌, ◌<◌, ◌≤◌, ◌⊎◌, List, [], ◌∷◌, ◌++◌, Bool, false}
+use Rattle.std.specs.Prelude.{length, Contains, Result, Ok, Err, codes, decimal, ◌↔◌, AllPairs}
 use Rattle.std.specs.Result.{result_map_both}
 use Rattle.pb_games.specs.declared.game.Game.{Game}
 use Rattle.pb_games.specs.declared.refusal.Refusal.{Refusal}
@@ -19,6 +19,10 @@ use Rattle.pb_games.specs.Submissions.{Submission, Submits}
 use Rattle.pb_accepted.specs.Replying.{IsNewId, IsNumber}
 use Rattle.pb_accepted.specs.declared.ledger.Accepted.{Accepted}
 use Rattle.pb_games.specs.Refusing.{Refuses}
+use Rattle.std.specs.Str.Lines.{strip_carriage_return}
+use Rattle.pb_board.specs.Fields.{field, fields, tab}
+use Rattle.pb_board.specs.LineEnd.{with_end}
+use Rattle.pb_games.specs.declared.refusal.Refusal.TheVariants as refusal
 
 -- what a line is answered: a game's number, or why it is refused
 abbrev pub Answer : Type 0
@@ -82,3 +86,59 @@ Taken = Along (Adds (λ A s. ¬ Contains A s))
 abbrev pub OneGame : List (List ℕ) → Type 0
 OneGame L = (b c : List ℕ) (s t : Submission) → Contains L b → Contains L c → Submits b s
     → Submits c t → s.0 ≡ t.0 → s ≡ t
+
+-- ---- the replies, as texts and, with an LF each, as lines
+
+-- why a line is refused
+abbrev pub reason : Refusal → List ℕ
+reason refusal.Long = codes "long"
+reason refusal.Shape = codes "shape"
+reason refusal.Id = codes "id"
+reason refusal.Result = codes "result"
+reason (refusal.Fen e) = codes "fen"
+reason refusal.Start = codes "start"
+reason (refusal.Spelling n) = codes "spelling " ++ decimal n
+reason refusal.Plies = codes "plies"
+reason (refusal.Illegal n) = codes "illegal " ++ decimal n
+reason (refusal.Conflict n) = codes "conflict " ++ decimal n
+reason refusal.Full = codes "full"
+reason refusal.Memory = codes "memory"
+
+-- the id that a reply names: the line's first field, or a - where that isn't known to be an id
+abbrev pub named : List ℕ → Answer → List ℕ
+named line (Err refusal.Long) = codes "-"
+named line (Err refusal.Shape) = codes "-"
+named line (Err refusal.Id) = codes "-"
+named line r = field (fields tab (strip_carriage_return line)) 0
+
+-- what the reply says of the line with this id
+abbrev pub reply_text : List ℕ → Answer → List ℕ
+reply_text id (Ok n) = codes "ok " ++ id ++ 32 ∷ decimal n
+reply_text id (Err e) = codes "refused " ++ id ++ 32 ∷ reason e
+
+-- the text of the reply to a line with this answer
+abbrev pub reply : List ℕ → Answer → List ℕ
+reply line r = reply_text (named line r) r
+
+-- and its line
+abbrev pub reply_line : List ℕ → Answer → List ℕ
+reply_line line r = with_end (reply line r)
+
+-- the texts of the replies to these lines with these answers
+abbrev pub reply_texts : List (List ℕ) → List Answer → List (List ℕ)
+reply_texts (line ∷ L) (r ∷ R) = reply line r ∷ reply_texts L R
+reply_texts L R = []
+
+-- and their lines, one after the other
+abbrev pub replies : List (List ℕ) → List Answer → List ℕ
+replies (line ∷ L) (r ∷ R) = reply_line line r ++ replies L R
+replies L R = []
+
+-- ---- lists of submissions with the same members
+
+-- no member stands twice
+abbrev pub NoRepeats : {X : Type 0} → List X → Type 0
+NoRepeats xs = AllPairs (λ x y. x ≢ y) xs
+
+abbrev pub SameMembers : List Submission → List Submission → Type 0
+SameMembers S U = (s : Submission) → Contains S s ↔ Contains U s

@@ -14,7 +14,7 @@ use Rattle.pb_games.specs.declared.game.Outcome.TheVariants.{White, Black, Draw}
 use Rattle.pb_games.specs.Submissions.{Submission, plies}
 use Rattle.pb_points.specs.TallyBook.{is_within}
 use Rattle.pb_points.specs.Weight.{scaled, Before}
-use Rattle.pb_accepted.specs.Basis.{Basis}
+use Rattle.pb_accepted.specs.Rules.{Basis}
 use Rattle.pb_accepted.specs.declared.ply_points.PlyPoints.{PlyPoints}
 
 -- the points of a ply, by the result and the side that moved: 2 where it won, 1 for a draw, 0 where

@@ -1,11 +1,6 @@
 pub mod Accepting
-pub mod Basis
 pub mod Counting
-pub mod Holding
-pub mod Laws
 pub mod Ledger
-pub mod Noting
-pub mod Replies
 pub mod Refusals
 pub mod Replying
 pub mod Rules

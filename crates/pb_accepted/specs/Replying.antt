@@ -25,6 +25,10 @@ IsNumber A n s = (k : ℕ) × (n ≡ k + 1) × (slice_get A k ≡ Some s)
 abbrev pub IsNewId : List ℕ → List Submission → Type 0
 IsNewId id A = All (λ s. s.0 ≢ id) A
 
+-- no id stands twice
+abbrev pub HaveOwnIds : List Submission → Type 0
+HaveOwnIds A = AllPairs (λ s t. s.0 ≢ t.0) A
+
 -- the reply that submission s has the number n
 abbrev pub ok : Submission → ℕ → List ℕ
 ok s n = codes "ok " ++ s.0 ++ 32 ∷ decimal n
@@ -82,7 +86,7 @@ pub record AreNumbered {X : Type 0} (say : Submission → ℕ → X) (L : List (
     (A : List Submission) : Type 0 where
   -- its members are those that were accepted, at their numbers, and no two have one id
   pub are : (n : ℕ) (s : Submission) → IsNumber A n s ↔ ((i : ℕ) × IsAccepted say L R i s n)
-  pub ids : AllPairs (λ s t. s.0 ≢ t.0) A
+  pub ids : HaveOwnIds A
   -- one that comes again gets the same number
   pub repeats : (i j n : ℕ) (s : Submission) → i < j → IsAccepted say L R i s n → Arrives L j s
       → slice_get R j ≡ Some (say s n)

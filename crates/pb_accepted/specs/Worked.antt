@@ -2,8 +2,7 @@
 use Rattle.std.specs.Prelude.{ℕ, ◌*◌, List, [], ◌∷◌, map}
 use Rattle.std.specs.List.{range_with_len}
 use Rattle.pb_poly.specs.declared.book.Entry.{Entry}
-use Rattle.pb_accepted.specs.Basis.{Basis}
-use Rattle.pb_accepted.specs.Rules.{all_plies}
+use Rattle.pb_accepted.specs.Rules.{Basis, all_plies}
 
 -- the squares of the numbers from 0 to 780 stand for the random ones
 abbrev pub worked_basis : Basis

@@ -1,10 +1,11 @@
 //! The ledger.
 
 ghost use Rattle.std.specs.Prelude.{◌≡◌, ◌<◌, ◌≤◌, ◌+◌, ◌*◌, ◌^◌, ◌++◌, ◌∷◌, [], ℕ, All, List};
-ghost use Rattle.std.specs.Prelude.{IfOk, IfSome, MatchOption, OnErr, OnOk, Ok, false, length};
+ghost use Rattle.std.specs.Prelude.{Err, IfOk, IfSome, MatchOption, OnErr, OnOk, Ok, false, length};
 ghost use Rattle.std.specs.Prelude.{◌↔◌, IsTrue, nat_lt};
 ghost use Rattle.pb_games.specs.Cuts.{IsCut};
-ghost use Rattle.pb_games.specs.Submissions.{IsSubmission, Submission};
+ghost use Rattle.pb_games.specs.Submissions.{Submission};
+ghost use Rattle.pb_games.specs.declared.refusal.Refusal.TheVariants.{Long};
 ghost use Rattle.pb_points.specs.Tally.{held};
 ghost use Rattle.pb_points.specs.TallyBook.{AddsSome};
 ghost use Rattle.pb_poly.specs.Entry.{IsEntry};
@@ -12,12 +13,11 @@ ghost use Rattle.pb_poly.specs.declared.book.Entry.{Entry};
 ghost use Rattle.pb_accepted.specs.Accepting.{Step, answer_of, says_new};
 ghost use Rattle.pb_accepted.specs.Replying.{IsNewId, IsNumber, most_games};
 ghost use Rattle.pb_accepted.specs.Counting.{IsBookOf, count, counted as counted_by, stretch, times};
-ghost use Rattle.pb_accepted.specs.Holding.{IsLedger, lost as lost_of, rowed, with_ply_points};
-ghost use Rattle.pb_accepted.specs.Ledger.{new_ledger};
+ghost use Rattle.pb_accepted.specs.Ledger.{IsLedger, KeepsRest, lost as lost_of, new_ledger, rowed};
+ghost use Rattle.pb_accepted.specs.Ledger.{with_ply_points};
 ghost use Rattle.pb_accepted.specs.Rules.{AreRules, all_plies};
 
-use crate::lost_ply::{LostPly, lost_times};
-use crate::ply_points::{PlyPoints, add_ply_points, make_room};
+use crate::ply_points::{LostPly, PlyPoints, add_ply_points, lost_times, make_room};
 use crate::recorder::Recorder;
 use crate::rules::Rules;
 use indexmap::IndexMap;
@@ -55,8 +55,7 @@ pub struct Ledger<T: Tally> {
 }
 
 impl<T: Tally> Model for Ledger<T> {
-    ghost use Rattle.pb_accepted.specs.Ledger.{LedgerState};
-    ghost use Rattle.pb_accepted.specs.Holding.{HoldsCounts};
+    ghost use Rattle.pb_accepted.specs.Ledger.{LedgerState, HoldsCounts};
 
     ghost Value = { LedgerState };
 
@@ -121,21 +120,24 @@ impl<T: Tally> Ledger<T> {
     /// is new and there was no memory for it. Nothing has changed then.
     pub fn submit(&mut self, line: &[u8]) -> Result<u32, Refusal>
         ensures step { Step self.old.cap self.old.accepted line.now result self.new.accepted }
-        ensures basis { self.new.basis ≡ self.old.basis }
-        ensures cap { self.new.cap ≡ self.old.cap }
+        ensures rest { KeepsRest self.old self.new }
     {
-        Ok(self.submit_full(line)?.number)
+        Ok(self.submit_full(Some(line))?.number)
     }
 
-    /// Takes a line as `submit` does, and answers also whether its game is new.
-    pub fn submit_full(&mut self, line: &[u8]) -> Result<Accepted, Refusal>
-        ensures step { Step self.old.cap self.old.accepted line.now (answer_of result)
-            self.new.accepted }
+    /// Takes a line as `submit` does, or one of which nothing is known since it is too long, and
+    /// answers also whether its game is new.
+    pub fn submit_full(&mut self, line: Option<&[u8]>) -> Result<Accepted, Refusal>
+        ensures step { MatchOption line.entry ((result ≡ Err Long) × (self.new ≡ self.old))
+            (λ bytes. Step self.old.cap self.old.accepted bytes.now (answer_of result)
+            self.new.accepted) }
         ensures new { says_new result ≡ nat_lt (length self.old.accepted)
             (length self.new.accepted) }
-        ensures basis { self.new.basis ≡ self.old.basis }
-        ensures cap { self.new.cap ≡ self.old.cap }
+        ensures rest { KeepsRest self.old self.new }
     {
+        let Some(line) = line else {
+            return Err(Refusal::Long);
+        };
         let fields = cut_line(line)?;
         let id = fields.id();
         // A game that is held is known to be legal, so nothing is played.
@@ -162,8 +164,7 @@ impl<T: Tally> Ledger<T> {
         requires new { IsNewId fields.id.now self.old.accepted }
         ensures step { (line : List ℕ) → IsCut line fields.entry
             → Step self.old.cap self.old.accepted line result self.new.accepted }
-        ensures basis { self.new.basis ≡ self.old.basis }
-        ensures cap { self.new.cap ≡ self.old.cap }
+        ensures rest { KeepsRest self.old self.new }
     {
         let read = judge_fields(fields, &mut self.recorder)?;
         if self.games.len() == self.cap as usize {

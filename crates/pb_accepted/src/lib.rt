@@ -10,7 +10,6 @@
 
 pub mod laws;
 mod ledger;
-mod lost_ply;
 mod ply_points;
 mod recorder;
 mod reply;

@@ -1,16 +1,16 @@
 //! What the plies of a game give to the points of moves.
 
 ghost use Rattle.std.specs.Prelude.{◌≡◌, ◌≤◌, ◌+◌, ◌++◌, ◌*◌, ◌^◌, ℕ, IsSome, OnOk, All, length};
-ghost use Rattle.std.specs.Prelude.{false, vec_capacity, vec_len};
+ghost use Rattle.std.specs.Prelude.{false, vec_capacity, vec_len, ◌==◌, ◌&&◌};
 ghost use Rattle.pb_points.specs.Tally.{held};
-ghost use Rattle.pb_accepted.specs.Counting.{points_for as points_for_by};
-ghost use Rattle.pb_accepted.specs.Holding.{is_lost, lost as lost_of, rowed, with_ply_points};
+ghost use Rattle.pb_accepted.specs.Counting.{points_for as points_for_by, times};
+ghost use Rattle.pb_accepted.specs.Ledger.{is_lost, lost as lost_of, rowed, with_ply_points};
 
-use crate::lost_ply::LostPly;
 use pb_board::Colour;
 use pb_games::Outcome;
 use pb_points::Tally;
 use std::alloc::AllocError;
+use std::marker::Model;
 
 #[derive(Clone, Copy)]
 pub(crate) struct PlyPoints {
@@ -89,4 +89,52 @@ pub(crate) fn add_ply_points<T: Tally>(
             tally.add(given.key, given.code, u64::from(given.points));
         }
     }
+}
+
+/// Takes 10 bytes, and not 16, as a row of the tally does.
+#[derive(Drop)]
+pub(crate) struct LostPly {
+    key: [u8; 8],
+    code: u16,
+}
+
+impl Model for LostPly {
+    ghost use Rattle.std.specs.Int.{from_le_bytes, w64};
+    ghost use Rattle.pb_accepted.specs.declared.ply_points.PlyPoints.{PlyPoints};
+
+    ghost Value = { PlyPoints };
+
+    ghost view = { λ p. record { key = from_le_bytes w64 p.key; code = p.code; points = 0 } };
+}
+
+impl LostPly {
+    #[inline(always)]
+    pub(crate) fn of(given: &PlyPoints) -> LostPly
+        requires { given.now.points ≡ 0 }
+        ensures { result ≡ given.now }
+    {
+        LostPly {
+            key: given.key.to_le_bytes(),
+            code: given.code,
+        }
+    }
+
+    #[inline(always)]
+    fn is_of(&self, key: u64, code: u16) -> bool
+        ensures { result ≡ (self.now.key == key && self.now.code == code) }
+    {
+        u64::from_le_bytes(self.key) == key && self.code == code
+    }
+}
+
+pub(crate) fn lost_times(lost: &[LostPly], key: u64, code: u16) -> u64
+    ensures { result ≡ times lost.now key code }
+{
+    let mut count = 0;
+    for ply in lost {
+        if ply.is_of(key, code) {
+            count += 1;
+        }
+    }
+    count
 }

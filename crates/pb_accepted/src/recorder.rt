@@ -69,7 +69,7 @@ impl Recorder {
 }
 
 impl MoveVisitor for Recorder {
-    ghost use Rattle.pb_accepted.specs.Noting.{HoldsPlies};
+    ghost use Rattle.pb_accepted.specs.Ledger.{HoldsPlies};
 
     ghost holds = { HoldsPlies };
 
@@ -95,7 +95,7 @@ impl MoveVisitor for Recorder {
                     points: points_for(self.outcome, setup.turn()),
                 };
                 self.key = key_next(&self.table, self.key, setup, m, &effect);
-                effect.apply(setup, m);
+                effect.apply(setup);
                 self.ply_points.push_reserved(given);
                 self.moves.push_reserved(m);
                 true

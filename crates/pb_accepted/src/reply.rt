@@ -1,9 +1,9 @@
 //! Reply lines.
 
-ghost use Rattle.std.specs.Prelude.{◌≡◌, ◌≢◌, ◌+◌, ◌≤◌, ◌++◌, decimal, length};
+ghost use Rattle.std.specs.Prelude.{◌≡◌, ◌+◌, ◌≤◌, ◌++◌, decimal, length};
 ghost use Rattle.std.specs.Str.Lines.{strip_carriage_return};
 ghost use Rattle.pb_board.specs.Fields.{field, fields, tab};
-ghost use Rattle.pb_accepted.specs.Replies.{named, reason, reply_line};
+ghost use Rattle.pb_accepted.specs.Accepting.{named, reason, reply_line};
 
 use arrayvec::ArrayVec;
 use itoa::Buffer;

@@ -1,6 +1,6 @@
 //! What of the games counts for the book.
 
-ghost use Rattle.std.specs.Prelude.{◌≡◌, ◌≤◌, SomeIff};
+ghost use Rattle.std.specs.Prelude.{◌≡◌, SomeIff};
 ghost use Rattle.pb_accepted.specs.Rules.{AreRules, CountingRules, all_plies};
 
 use pb_games::MAX_PLIES;

@@ -1,12 +1,12 @@
 -- Writing ranks and boards.
-use Rattle.std.proofs.Common.{◌≡◌, ℕ, zero, suc, ◌+◌, ◌-◌, ◌*◌, ◌<◌, ◌≤◌, false, eqb, List, [], ◌∷◌, ◌++◌, length, take, drop, get_or, Option, Some, None, refl, sym, ap, subst, ◌∙◌, arith}
-use Rattle.std.proofs.lemmas.List.{append_assoc, append-nil, drop_more, drop_all, length-append, length-take, length-drop}
+use Rattle.std.proofs.Common.{◌≡◌, ℕ, zero, suc, ◌+◌, ◌-◌, ◌*◌, ◌<◌, ◌≤◌, false, eqb, List, [], ◌∷◌, ◌++◌, length, drop, get_or, Option, Some, None, refl, sym, ap, subst, ◌∙◌, arith}
+use Rattle.std.proofs.lemmas.List.{append_assoc, append-nil, drop_more, drop_all, get_or-drop, get_or-take, length-append, length-take}
 use Rattle.std.proofs.lemmas.Bool.Decides.{nat_tests}
 use Rattle.pb_board.specs.declared.piece.Piece.{Piece}
 use Rattle.pb_board.specs.declared.piece.Colour.{Colour}
 use Rattle.pb_board.specs.declared.piece.Colour.TheVariants.{White, Black}
 use Rattle.pb_board.specs.declared.setup.Rights.{Rights}
-use Rattle.pb_board.specs.Board.{Place}
+use Rattle.pb_board.specs.Board.{Place, at}
 use Rattle.pb_board.specs.Position.{Position}
 use Rattle.pb_board.specs.Text.{castling_text, empty_squares, en_passant_text, piece_letter, placement_text, rank_text, setup_text, turn_text}
 use Rattle.pb_board.proofs.Placements.{rank_of}
@@ -60,6 +60,11 @@ rank_short_after n (Some p ∷ squares) =
 pub rank_short : (squares : List Place) → length (rank_text 0 squares) ≤ length squares
 rank_short squares = omega (arith, rank_short_after 0 squares)
 
+-- a square of a rank is one of the board
+pub of_rank : (board : List Place) (r file q : ℕ) (place : Place) → file < 8 → q ≡ 8 * r + file → place ≡ at board q → get_or (rank_of board r) file None ≡ place
+of_rank board r file q place on same is =
+    get_or-take 8 (drop (8 * r) board) file None on ∙ get_or-drop (8 * r) board file None ∙ ap (λ i. get_or board i None) (sym same) ∙ sym is
+
 -- ---- boards
 
 -- the lowest n ranks, each after a slash
@@ -77,33 +82,27 @@ top_first board =
     let R : ℕ → List ℕ = λ r. rank_text 0 (rank_of board r) in
     ap (λ w. R 7 ++ 47 ∷ (R 6 ++ 47 ∷ (R 5 ++ 47 ∷ (R 4 ++ 47 ∷ (R 3 ++ 47 ∷ (R 2 ++ 47 ∷ (R 1 ++ 47 ∷ w))))))) (append-nil (R 0))
 
-pub rows_start : (board : List Place) (k : ℕ) (start after : List ℕ) → length board ≡ 64 → k ≡ 8 → after ≡ start ++ rank_text 0 (take k (drop 56 board)) → InRows board 7 start after
-rows_start board k start after size eight put =
-    let top : take k (drop 56 board) ≡ rank_of board 7 = rw eight refl in
-    record {
-      short =
-          omega (arith, ap length put, length-append start (rank_text 0 (take k (drop 56 board))), rank_short (take k (drop 56 board)), length-take k (drop 56 board), length-drop 56 board, size, eight);
-      completes =
-          ap (λ w. w ++ ranks_below board 7) (put ∙ ap (λ s. start ++ rank_text 0 s) top) ∙ append_assoc start (rank_text 0 (rank_of board 7)) (ranks_below board 7)
-          ∙ ap (λ w. start ++ w) (top_first board);
-    }
+pub rows_start : (board : List Place) (start after : List ℕ) → after ≡ start ++ rank_text 0 (rank_of board 7) → InRows board 7 start after
+rows_start board start after put = record {
+  short =
+      omega (arith, ap length put, length-append start (rank_text 0 (rank_of board 7)), rank_short (rank_of board 7), length-take 8 (drop 56 board));
+  completes =
+      ap (λ w. w ++ ranks_below board 7) put ∙ append_assoc start (rank_text 0 (rank_of board 7)) (ranks_below board 7) ∙ ap (λ w. start ++ w) (top_first board);
+}
 
-pub row_written : (board : List Place) (row a k : ℕ) (start out slash after : List ℕ) → length board ≡ 64 → 1 ≤ row → row < 8 → a ≡ 56 - 8 * row → k ≡ 8 → InRows board (8 - row) start out → slash ≡ out ++ 47 ∷ [] → after ≡ slash ++ rank_text 0 (take k (drop a board)) → InRows board (8 - (row + 1)) start after
-row_written board row a k start out slash after size low high a-is k-is h put written =
-    let n = 7 - row in
+pub row_written : (board : List Place) (m : ℕ) (start out slash after : List ℕ) → 1 ≤ m → InRows board m start out → slash ≡ out ++ 47 ∷ [] → after ≡ slash ++ rank_text 0 (rank_of board (m - 1)) → InRows board (m - 1) start after
+row_written board m start out slash after low h put written =
+    let n = m - 1 in
     let here : InRows board (suc n) start out = subst (λ m. InRows board m start out) (omega arith) h in
-    let next : 8 - (row + 1) ≡ n = omega arith in
-    let from : a ≡ 8 * n = omega arith in
-    let is : take k (drop a board) ≡ rank_of board n = rw (k-is, from) refl in
     let text = rank_text 0 (rank_of board n) in
-    let after-is : after ≡ (out ++ 47 ∷ []) ++ text = written ∙ ap (λ s. slash ++ rank_text 0 s) is ∙ ap (λ w. w ++ text) put in
-    rw next (record {
+    let after-is : after ≡ (out ++ 47 ∷ []) ++ text = written ∙ ap (λ w. w ++ text) put in
+    record {
       short =
           omega (arith, here.short, ap length after-is, length-append (out ++ 47 ∷ []) text, length-append out (47 ∷ []), rank_short (rank_of board n), length-take 8 (drop (8 * n) board));
       completes =
           ap (λ w. w ++ ranks_below board n) after-is ∙ append_assoc (out ++ 47 ∷ []) text (ranks_below board n) ∙ append_assoc out (47 ∷ []) (text ++ ranks_below board n)
           ∙ here.completes;
-    })
+    }
 
 pub rows_done : (board : List Place) (start out : List ℕ) → InRows board 0 start out → out ≡ start ++ placement_text board
 rows_done board start out h = sym (append-nil out) ∙ h.completes
@@ -127,6 +126,6 @@ pub setup_short : (p : Position) (r : Rights) (e : Option ℕ) → r ≡ p.right
 setup_short p r e r-is e-is h four two =
     omega (arith, length-four (placement_text p.board) (turn_text p.turn) (castling_text p.rights) (en_passant_text p.ep), h, turn_short p.turn, rw r-is at four, rw e-is at two)
 
-pub setup_written : (p : Position) (start s1 s2 s3 s4 s5 s6 s7 : List ℕ) (b : List Place) (t : Colour) (r : Rights) (e : Option ℕ) → b ≡ p.board → t ≡ p.turn → r ≡ p.rights → e ≡ p.ep → s1 ≡ start ++ placement_text b → s2 ≡ s1 ++ 32 ∷ [] → s3 ≡ s2 ++ turn_text t → s4 ≡ s3 ++ 32 ∷ [] → s5 ≡ s4 ++ castling_text r → s6 ≡ s5 ++ 32 ∷ [] → s7 ≡ s6 ++ en_passant_text e → s7 ≡ start ++ setup_text p
-setup_written p start s1 s2 s3 s4 s5 s6 s7 b t r e b-is t-is r-is e-is h h2 h3 h4 h5 h6 h7 =
-    rw (h7, h6, h5, h4, h3, h2, h, b-is, t-is, r-is, e-is) (join_four start (placement_text p.board) (turn_text p.turn) (castling_text p.rights) (en_passant_text p.ep))
+pub setup_written : (p : Position) (start s1 s2 s3 s4 s5 s6 s7 : List ℕ) (t : Colour) (r : Rights) (e : Option ℕ) → t ≡ p.turn → r ≡ p.rights → e ≡ p.ep → s1 ≡ start ++ placement_text p.board → s2 ≡ s1 ++ 32 ∷ [] → s3 ≡ s2 ++ turn_text t → s4 ≡ s3 ++ 32 ∷ [] → s5 ≡ s4 ++ castling_text r → s6 ≡ s5 ++ 32 ∷ [] → s7 ≡ s6 ++ en_passant_text e → s7 ≡ start ++ setup_text p
+setup_written p start s1 s2 s3 s4 s5 s6 s7 t r e t-is r-is e-is h h2 h3 h4 h5 h6 h7 =
+    rw (h7, h6, h5, h4, h3, h2, h, t-is, r-is, e-is) (join_four start (placement_text p.board) (turn_text p.turn) (castling_text p.rights) (en_passant_text p.ep))

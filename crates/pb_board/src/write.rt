@@ -1,6 +1,7 @@
 //! Writes FEN records.
 
-ghost use Rattle.std.specs.Prelude.{◌≡◌, ◌≤◌, ◌<◌, ◌+◌, ◌++◌, IfOk, decimal, length};
+ghost use Rattle.std.specs.Prelude.{◌≡◌, ◌≤◌, ◌<◌, ◌+◌, ◌*◌, ◌++◌, IfOk, decimal, drop, length};
+ghost use Rattle.std.specs.Prelude.{take};
 ghost use Rattle.pb_board.specs.Text.{piece_letter, empty_squares, rank_text, placement_text};
 ghost use Rattle.pb_board.specs.Text.{turn_text, castling_text};
 ghost use Rattle.pb_board.specs.Text.{en_passant_text, setup_text, fen_text};
@@ -22,15 +23,16 @@ fn letter_of(piece: Piece) -> u8
     }
 }
 
-fn put_rank(out: &mut FenBytes, squares: &[Option<Piece>])
-    requires room { length out.old + length squares.now ≤ 93 }
-    requires eight { length squares.now ≤ 8 }
-    ensures short { length (rank_text 0 squares.now) ≤ length squares.now }
-    ensures text { out.new ≡ out.old ++ rank_text 0 squares.now }
+/// Writes a rank of the setup's board. It is read off the bitboards, since listing the squares first
+/// takes longer.
+fn put_rank(out: &mut FenBytes, setup: &Setup, rank: u8)
+    requires room { length out.old + 8 ≤ 93 }
+    requires on_board { rank < 8 }
+    ensures { out.new ≡ out.old ++ rank_text 0 (take 8 (drop (8 * rank) setup.now.board)) }
 {
     let mut run = 0;
-    for place in squares {
-        match *place {
+    for file in 0..8 {
+        match setup.at(Square::new(file, rank).unwrap()) {
             Some(piece) => {
                 put_run(out, run);
                 run = 0;
@@ -63,16 +65,15 @@ pub(crate) fn put_number(out: &mut FenBytes, number: u16)
     out.push(b'0' + (number % 10) as u8);
 }
 
-fn put_placement(out: &mut FenBytes, board: &[Option<Piece>; 64])
+fn put_placement(out: &mut FenBytes, setup: &Setup)
     requires { length out.old ≡ 0 }
-    ensures short { length (placement_text board.now) ≤ 71 }
-    ensures text { out.new ≡ out.old ++ placement_text board.now }
+    ensures short { length (placement_text setup.now.board) ≤ 71 }
+    ensures text { out.new ≡ out.old ++ placement_text setup.now.board }
 {
-    put_rank(out, &board[56..]);
-    for row in 1..8 {
+    put_rank(out, setup, 7);
+    for rank in (0..7).rev() {
         out.push(b'/');
-        let start = 56 - 8 * row;
-        put_rank(out, &board[start..start + 8]);
+        put_rank(out, setup, rank);
     }
 }
 
@@ -128,7 +129,7 @@ pub(crate) fn put_setup(out: &mut FenBytes, setup: &Setup)
     ensures short { length (setup_text setup.now) ≤ 81 }
     ensures text { out.new ≡ out.old ++ setup_text setup.now }
 {
-    put_placement(out, &setup.board());
+    put_placement(out, setup);
     out.push(b' ');
     put_turn(out, setup.turn());
     out.push(b' ');

@@ -1,5 +1,6 @@
 -- Commands of clap that are built up.
-use Rattle.std.proofs.Common.{◌≡◌, ◌∙◌, ◌||◌, ◌&&◌, ◌++◌, ◌∷◌, Bool, List, [], ap, arith, false, not, refl, true}
+use Rattle.std.proofs.Common.{◌≡◌, ◌∙◌, ◌||◌, ◌&&◌, ◌++◌, ◌∷◌, Bool, List, [], ap, arith, false}
+use Rattle.std.proofs.Common.{not, refl, true}
 use Rattle.std.proofs.lemmas.Bool.{ne_eqb}
 use Rattle.std.specs.Borrow.{Bor}
 use Rattle.clap.specs.Adds.{AddsConflicts, AddsRequirements}
@@ -10,8 +11,7 @@ use Rattle.clap.specs.Simple.{app_of}
 use Rattle.clap.specs.declared.builder.arg.Arg.{Arg}
 use Rattle.clap.specs.declared.builder.arg.ArgPredicate.{ArgPredicate}
 use Rattle.clap.specs.declared.builder.command.Command.{Command}
-use Rattle.pb_cli.specs.Built.{HasRule, IsCommand}
-use Rattle.pb_cli.specs.CommandLine.{bound}
+use Rattle.pb_cli.specs.CommandLine.{HasRule, IsCommand, bound}
 
 neither : (a b c : Bool) → a ≡ (b || c) → b ≡ false → c ≡ false → a ≡ false
 neither a b c is left right = is ∙ ap (λ x. x || c) left ∙ right

@@ -1,10 +1,14 @@
 -- The command line of `pbook`: one level of commands, each with its arguments.
-use Rattle.std.specs.Prelude.{ℕ, Some, [], ◌∷◌, codes, true, false}
-use Rattle.clap.specs.Words.{App, Rule, Text, new_app, new_rule, with_rule, with_subcommand}
+use Rattle.std.specs.Prelude.{ℕ, Some, [], ◌∷◌, codes, true, false, ◌≡◌}
+use Rattle.clap.specs.Words.{App, Rule, Text, new_app, new_rule, with_rule, with_subcommand, app_of}
+use Rattle.clap.specs.Words.{is_broken, rule_of}
 use Rattle.clap.specs.Simple.{on_top}
 use Rattle.clap.specs.Lexer.{usize_max}
 use Rattle.clap.specs.declared.builder.action.ArgAction.TheVariants.{Append, Set, SetTrue}
 use Rattle.clap.specs.declared.builder.value_parser.ValueParser.TheVariants.{Unsigned}
+use Rattle.clap.specs.declared.builder.arg.Arg.{Arg}
+use Rattle.clap.specs.declared.builder.command.Command.{Command}
+use Rattle.clap.specs.declared.builder.command.Command.TheViews.{out-Command}
 
 -- an argument that has to be given
 abbrev pub required_argument : Text → Rule
@@ -107,3 +111,13 @@ pbook = with_subcommand (with_subcommand (with_subcommand (with_subcommand (with
     program_alone collect_command.top) export_command.top) check_command.top) games_command.top)
     show_command.top) probe_command.top) lookup_command.top) tree_command.top) fen_command.top)
     epd_command.top
+
+-- ---- what is built of them
+
+-- the command reads words as `app` says, and is not broken
+abbrev pub IsCommand : App → Command → Type 0
+IsCommand app c = (app_of c ≡ app) × ((out-Command c).has_globals ≡ false) × (is_broken c ≡ false)
+
+-- words are read for the argument as `rule` says, and for the one command that has it
+abbrev pub HasRule : Rule → Arg → Type 0
+HasRule rule a = (rule_of a ≡ rule) × (a.global ≡ false)

@@ -12,6 +12,7 @@ use Rattle.pb_cli.specs.declared.order.Keeping.{Keeping}
 use Rattle.pb_cli.specs.declared.order.Keeping.TheVariants.{Book, Ledger, Journal}
 use Rattle.pb_cli.specs.declared.order.Order.{Order}
 use Rattle.pb_cli.specs.declared.order.ParseFault.{ParseFault}
+use Rattle.pb_cli.specs.declared.order.Taking.{Taking}
 use Rattle.pb_cli.specs.declared.order.ParseFault.TheVariants.{Memory}
 use Rattle.pb_cli.specs.declared.order.Order.TheVariants.{Fen, Epd, Show, Probe, Lookup, Check}
 use Rattle.pb_cli.specs.declared.order.Order.TheVariants.{Collect, Export, Games, Tree}
@@ -25,9 +26,9 @@ abbrev pub name_of : Order → Text
 name_of (Fen _ _) = codes "fen"
 name_of Epd = codes "epd"
 name_of (Show _) = codes "show"
-name_of (Probe _ _ _) = codes "probe"
-name_of (Lookup _ _) = codes "lookup"
-name_of (Tree _ _ _ _ _) = codes "tree"
+name_of (Probe _) = codes "probe"
+name_of (Lookup _) = codes "lookup"
+name_of (Tree _) = codes "tree"
 name_of Check = codes "check"
 name_of (Collect _) = codes "collect"
 name_of (Export _) = codes "export"
@@ -78,25 +79,27 @@ HasNumber id number rows =
     ((said : ℕ) → said < 2 ^ 32 → SaysNumber id said rows → number ≡ said)
     × (one_of id rows ≡ None → number ≡ 0)
 
+-- games are taken as the options say, by this table
+abbrev pub HasTaking : Taking → List Row → Type 0
+HasTaking taking rows = HasRules taking.rules rows × HasArgument (codes "TABLE") taking.table rows
+    × HasFlag (codes "summary") taking.summary rows × HasFlag (codes "quiet") taking.quiet rows
+
 -- the order has the arguments of these matches; the others have none
 abbrev pub HasArguments : Order → List Row → Type 0
 HasArguments (Fen fen moves) rows =
     HasArgument (codes "FEN") fen rows × HasTexts (codes "MOVES") moves.items rows
 HasArguments (Show book) rows = HasArgument (codes "BOOK") book rows
-HasArguments (Probe table book fen) rows = HasArgument (codes "TABLE") table rows
-    × HasArgument (codes "BOOK") book rows × HasArgument (codes "FEN") fen rows
-HasArguments (Lookup table book) rows =
-    HasArgument (codes "TABLE") table rows × HasArgument (codes "BOOK") book rows
-HasArguments (Tree plies weight table book fen) rows = HasNumber (codes "plies") plies rows
-    × HasNumber (codes "weight") weight rows
-    × HasArgument (codes "TABLE") table rows × HasArgument (codes "BOOK") book rows
-    × HasArgument (codes "FEN") fen rows
-HasArguments (Collect given) rows = HasRules given.rules rows × HasKeeping given.kept rows
+HasArguments (Probe given) rows = HasArgument (codes "TABLE") given.table rows
+    × HasArgument (codes "BOOK") given.book rows × HasArgument (codes "FEN") given.record rows
+HasArguments (Lookup given) rows =
+    HasArgument (codes "TABLE") given.table rows × HasArgument (codes "BOOK") given.book rows
+HasArguments (Tree given) rows = HasNumber (codes "plies") given.plies rows
+    × HasNumber (codes "weight") given.weight rows
     × HasArgument (codes "TABLE") given.table rows × HasArgument (codes "BOOK") given.book rows
-    × HasFlag (codes "summary") given.summary rows × HasFlag (codes "quiet") given.quiet rows
-HasArguments (Export given) rows = HasRules given.rules rows
-    × HasArgument (codes "TABLE") given.table rows
-    × HasFlag (codes "summary") given.summary rows × HasFlag (codes "quiet") given.quiet rows
+    × HasArgument (codes "FEN") given.record rows
+HasArguments (Collect given) rows = HasTaking given.taking rows × HasKeeping given.kept rows
+    × HasArgument (codes "BOOK") given.book rows
+HasArguments (Export taking) rows = HasTaking taking rows
 HasArguments (Games files) rows = HasTexts (codes "FILE") files.items rows
 HasArguments other rows = Unit {0}
 

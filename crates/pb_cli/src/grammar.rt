@@ -1,13 +1,11 @@
 //! Builds the command line of `pbook`, each command by a function.
 ghost use Rattle.std.specs.Prelude.{IfOk};
 ghost use Rattle.clap.specs.Words.{App, new_app};
-ghost use Rattle.pb_cli.specs.Built.{HasRule, IsCommand};
-ghost use Rattle.pb_cli.specs.CommandLine.{check_command, collect_command};
-ghost use Rattle.pb_cli.specs.CommandLine.{epd_command};
-ghost use Rattle.pb_cli.specs.CommandLine.{export_command, fen_command, flag, games_command};
-ghost use Rattle.pb_cli.specs.CommandLine.{lookup_command, number, option, pbook, probe_command};
-ghost use Rattle.pb_cli.specs.CommandLine.{program_alone, required_argument, show_command};
-ghost use Rattle.pb_cli.specs.CommandLine.{tree_command, with_games};
+ghost use Rattle.pb_cli.specs.CommandLine.{HasRule, IsCommand, check_command, collect_command};
+ghost use Rattle.pb_cli.specs.CommandLine.{epd_command, export_command, fen_command, flag};
+ghost use Rattle.pb_cli.specs.CommandLine.{games_command, lookup_command, number, option, pbook};
+ghost use Rattle.pb_cli.specs.CommandLine.{probe_command, program_alone, required_argument};
+ghost use Rattle.pb_cli.specs.CommandLine.{show_command, tree_command, with_games};
 
 use clap::builder::ValueParser;
 use clap::{Arg, ArgAction, Command};

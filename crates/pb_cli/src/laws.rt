@@ -7,7 +7,6 @@ ghost use Rattle.std.specs.Bool.{Decides};
 ghost use Rattle.clap.specs.Values.{bool_text};
 ghost use Rattle.clap.specs.Words.{Row, Text, one_of};
 ghost use Rattle.pb_cli.specs.Orders.{HasFlag, SaysNumber, options_of};
-ghost use Rattle.pb_cli.specs.declared.order.Keeping.{Keeping};
 
 use crate::order::Keeping;
 

@@ -6,7 +6,9 @@ mod grammar;
 pub mod laws;
 mod order;
 
-pub use order::{CollectOrder, ExportOrder, Keeping, Order, ParseFault, parse};
+pub use order::{
+    CollectOrder, Keeping, LookupOrder, Order, ParseFault, ProbeOrder, Taking, TreeOrder, parse,
+};
 // What counts is said by the arguments alone: a program that knows no `Rules` has no others.
 pub use pb_commands::{
     Continued, Ends, FAULT_STATUS, Fault, JournalEnds, LedgerEnds, LoadError, MAX_LEAST, MAX_PLIES,

@@ -3,7 +3,7 @@ ghost use Rattle.std.specs.Prelude.{◌≡◌, IfErr, IfOk, true};
 ghost use Rattle.clap.specs.Walk.{texts};
 ghost use Rattle.clap.specs.Words.{subcommand_of, subcommand_rows_of, takes};
 ghost use Rattle.pb_cli.specs.CommandLine.{pbook};
-ghost use Rattle.pb_cli.specs.Orders.{HasArgument, HasArguments, HasKeeping, HasRules, HasTexts};
+ghost use Rattle.pb_cli.specs.Orders.{HasArgument, HasKeeping, HasRules, HasTaking, HasTexts};
 ghost use Rattle.pb_cli.specs.Orders.{HasNumber, IsOrderOf, RefusesRightly, rows_given};
 ghost use Rattle.pb_cli.specs.declared.order.ParseFault.TheVariants.{Memory};
 
@@ -48,40 +48,17 @@ pub enum Order<'a> {
         book: &'a str,
     },
     /// Shows the moves that a book has for a FEN record.
-    Probe {
-        /// The path of the table.
-        table: &'a str,
-        /// The path of the book.
-        book: &'a str,
-        /// The record, its six fields as one argument.
-        record: &'a str,
-    },
+    Probe(ProbeOrder<'a>),
     /// Shows the moves that a book has for the positions on standard input.
-    Lookup {
-        /// The path of the table.
-        table: &'a str,
-        /// The path of the book.
-        book: &'a str,
-    },
+    Lookup(LookupOrder<'a>),
     /// Shows the moves that a book has from a FEN record on.
-    Tree {
-        /// How many plies deep.
-        plies: u32,
-        /// The least weight that is shown, or 0 where none was given.
-        weight: u32,
-        /// The path of the table.
-        table: &'a str,
-        /// The path of the book.
-        book: &'a str,
-        /// The record, its six fields as one argument.
-        record: &'a str,
-    },
+    Tree(TreeOrder<'a>),
     /// Judges the submissions on standard input.
     Check,
     /// Makes a book of the submissions on standard input.
     Collect(CollectOrder<'a>),
     /// Writes the book of the submissions on standard input as EPD lines.
-    Export(ExportOrder<'a>),
+    Export(Taking<'a>),
     /// Prints the submission lines of files.
     Games {
         /// The paths of the files.
@@ -89,26 +66,55 @@ pub enum Order<'a> {
     },
 }
 
+/// Tells what `probe` was asked for.
+#[derive(Clone, Copy, Debug, PartialEq, Eq)]
+pub struct ProbeOrder<'a> {
+    /// The path of the table.
+    pub table: &'a str,
+    /// The path of the book.
+    pub book: &'a str,
+    /// The record, its six fields as one argument.
+    pub record: &'a str,
+}
+
+/// Tells what `lookup` was asked for.
+#[derive(Clone, Copy, Debug, PartialEq, Eq)]
+pub struct LookupOrder<'a> {
+    /// The path of the table.
+    pub table: &'a str,
+    /// The path of the book.
+    pub book: &'a str,
+}
+
+/// Tells what `tree` was asked for.
+#[derive(Clone, Copy, Debug, PartialEq, Eq)]
+pub struct TreeOrder<'a> {
+    /// How many plies deep.
+    pub plies: u32,
+    /// The least weight that is shown, or 0 where none was given.
+    pub weight: u32,
+    /// The path of the table.
+    pub table: &'a str,
+    /// The path of the book.
+    pub book: &'a str,
+    /// The record, its six fields as one argument.
+    pub record: &'a str,
+}
+
 /// Tells what `collect` was asked for.
 #[derive(Clone, Copy, Debug, PartialEq, Eq)]
 pub struct CollectOrder<'a> {
-    /// What of the games counts.
-    pub rules: Rules,
+    /// How the games are taken.
+    pub taking: Taking<'a>,
     /// What is kept beside the book.
     pub kept: Keeping<'a>,
-    /// The path of the table.
-    pub table: &'a str,
     /// The path of the book that is made.
     pub book: &'a str,
-    /// Whether the summary is asked for.
-    pub summary: bool,
-    /// Whether standard error gets nothing else but errors.
-    pub quiet: bool,
 }
 
-/// Tells what `export` was asked for.
+/// Tells how games are taken, which is all that `export` was asked for.
 #[derive(Clone, Copy, Debug, PartialEq, Eq)]
-pub struct ExportOrder<'a> {
+pub struct Taking<'a> {
     /// What of the games counts.
     pub rules: Rules,
     /// The path of the table.
@@ -168,25 +174,29 @@ fn order_of<'a>(alloc: Global, matches: &ArgMatches<'a>) -> Result<Order<'a>, Pa
         Some(("show", given)) => Ok(Order::Show {
             book: text(given, "BOOK"),
         }),
-        Some(("probe", given)) => Ok(Order::Probe {
+        Some(("probe", given)) => Ok(Order::Probe(ProbeOrder {
             table: text(given, "TABLE"),
             book: text(given, "BOOK"),
             record: text(given, "FEN"),
-        }),
-        Some(("lookup", given)) => Ok(Order::Lookup {
+        })),
+        Some(("lookup", given)) => Ok(Order::Lookup(LookupOrder {
             table: text(given, "TABLE"),
             book: text(given, "BOOK"),
-        }),
-        Some(("tree", given)) => Ok(Order::Tree {
+        })),
+        Some(("tree", given)) => Ok(Order::Tree(TreeOrder {
             plies: number(given, "plies"),
             weight: number(given, "weight"),
             table: text(given, "TABLE"),
             book: text(given, "BOOK"),
             record: text(given, "FEN"),
-        }),
+        })),
         Some(("check", _)) => Ok(Order::Check),
-        Some(("collect", given)) => Ok(Order::Collect(collect(given))),
-        Some(("export", given)) => Ok(Order::Export(export(given))),
+        Some(("collect", given)) => Ok(Order::Collect(CollectOrder {
+            taking: taken(given),
+            kept: kept(given),
+            book: text(given, "BOOK"),
+        })),
+        Some(("export", given)) => Ok(Order::Export(taken(given))),
         Some(("games", given)) => Ok(Order::Games {
             files: texts(alloc, given, "FILE")?,
         }),
@@ -194,23 +204,10 @@ fn order_of<'a>(alloc: Global, matches: &ArgMatches<'a>) -> Result<Order<'a>, Pa
     }
 }
 
-fn collect<'a>(given: &ArgMatches<'a>) -> CollectOrder<'a>
-    ensures { HasArguments (Order.Collect result) (rows_given given.now) }
+fn taken<'a>(given: &ArgMatches<'a>) -> Taking<'a>
+    ensures { HasTaking result (rows_given given.now) }
 {
-    CollectOrder {
-        rules: rules(given),
-        kept: kept(given),
-        table: text(given, "TABLE"),
-        book: text(given, "BOOK"),
-        summary: given.get_flag("summary"),
-        quiet: given.get_flag("quiet"),
-    }
-}
-
-fn export<'a>(given: &ArgMatches<'a>) -> ExportOrder<'a>
-    ensures { HasArguments (Order.Export result) (rows_given given.now) }
-{
-    ExportOrder {
+    Taking {
         rules: rules(given),
         table: text(given, "TABLE"),
         summary: given.get_flag("summary"),

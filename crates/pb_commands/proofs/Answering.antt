@@ -1,5 +1,7 @@
 -- From the lines that were answered to what was put.
-use Rattle.std.proofs.Common.{◌≡◌, ℕ, ◌+◌, ◌*◌, ◌^◌, ◌<◌, ◌≤◌, Bool, true, false, ◌&&◌, ◌⊎◌, List, [], ◌∷◌, ◌++◌, length, Result, Ok, Err, refl, sym, ap, ◌∙◌, subst, arith, inl, inr}
+use Rattle.std.proofs.Common.{◌≡◌, ℕ, ◌+◌, ◌*◌, ◌^◌, ◌<◌, ◌≤◌, Bool, true, false, ◌&&◌, ◌⊎◌, List}
+use Rattle.std.proofs.Common.{[], ◌∷◌, ◌++◌, length, Result, Ok, Err, refl, sym, ap, ◌∙◌, subst}
+use Rattle.std.proofs.Common.{arith, inl, inr}
 use Rattle.std.specs.Io.KnownBytes.{Appends}
 use Rattle.std.proofs.Math.Seq.{take-append-add, take-length}
 use Rattle.std.proofs.lemmas.List.{append-nil, append_assoc, length-append}
@@ -7,7 +9,8 @@ use Rattle.std.proofs.KnownBytes.{Appends-nil, Appends-trans, Appends-kept}
 use Rattle.pb_io.specs.Source.{SourceState}
 use Rattle.pb_io.specs.Fault.{fault_of_read}
 use Rattle.pb_io.specs.Sink.{AwaitsFlush, Flush, Put, SinkState}
-use Rattle.pb_io.specs.LineTask.{AtEnd, AtLine, ReadUntil, StopsAtLast, TakesAll, TakesStream, TakesUntil, chunk_len, either}
+use Rattle.pb_io.specs.LineTask.{AtEnd, AtLine, ReadUntil, StopsAtLast, TakesAll, TakesStream}
+use Rattle.pb_io.specs.LineTask.{TakesUntil, chunk_len, either}
 use Rattle.pb_io.specs.declared.fault.ReadFault.{ReadFault}
 use Rattle.pb_io.specs.declared.fault.ReadFault.TheVariants as read
 use Rattle.pb_io.specs.declared.source.Failed.{Failed}
@@ -18,11 +21,10 @@ use Rattle.pb_io.proofs.EndLemmas.{AtEnd-weaker, AtFault-weaker, AtLine-weaker, 
 use Rattle.pb_io.specs.declared.fault.Fault.{Fault}
 use Rattle.pb_io.specs.declared.fault.Fault.TheVariants.{Read, Write, Endless, Memory}
 use Rattle.pb_commands.specs.declared.lines.Answering.{Answering}
-use Rattle.pb_commands.specs.Answering.{AnswersLine}
-use Rattle.pb_commands.specs.Judged.{HandedOnOnce, PutsFrontOfText, PutsText, Verdict}
-use Rattle.pb_commands.specs.LineAnswer.{PutsOrStops}
-use Rattle.pb_commands.specs.LinesRun.{AnswersOrEnds, PutsButLast, PutsLines}
-use Rattle.pb_commands.specs.LinesShown.{LinesShown}
+use Rattle.pb_commands.specs.LinesRun.{AnswersLine, PutsOrStops, AnswersOrEnds, PutsButLast}
+use Rattle.pb_commands.specs.LinesRun.{PutsLines, LinesShown}
+use Rattle.pb_io.specs.Sink.{HandedOnOnce}
+use Rattle.pb_commands.specs.Judged.{PutsFrontOfText, PutsText, Verdict}
 use Rattle.pb_commands.proofs.Judging.{until_as}
 
 -- ---- one line

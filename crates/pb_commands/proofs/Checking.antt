@@ -1,5 +1,7 @@
 -- What the command `check` puts, from what a line is judged to be.
-use Rattle.std.proofs.Common.{◌≡◌, ◌∙◌, ℕ, ◌<◌, ◌≤◌, Bool, true, false, List, [], ◌++◌, ◌⊎◌, length, Option, None, Some, Ok, Err, ap, subst, append-nil, codes, inl, inr, refl, sym}
+use Rattle.std.proofs.Common.{◌≡◌, ◌∙◌, ℕ, ◌<◌, ◌≤◌, Bool, true, false, List, [], ◌++◌, ◌⊎◌, length}
+use Rattle.std.proofs.Common.{Option, None, Some, Ok, Err, ap, subst, append-nil, codes, inl, inr}
+use Rattle.std.proofs.Common.{refl, sym}
 use Rattle.std.proofs.lemmas.Bool.{false≢true}
 use Rattle.pb_board.specs.LineEnd.{with_end}
 use Rattle.std.specs.Borrow.{Bor}
@@ -18,13 +20,12 @@ use Rattle.pb_games.proofs.OneRefused.{one_refusal}
 use Rattle.pb_games.proofs.Refused.{unlawful}
 use Rattle.pb_accepted.specs.Accepting as steps
 use Rattle.pb_accepted.specs.Accepting.{Answer, Step}
-use Rattle.pb_accepted.specs.Replies.{named, reply_line}
+use Rattle.pb_accepted.specs.Accepting.{named, reply_line}
 use Rattle.pb_accepted.proofs.Steps.{named_step}
 use Rattle.pb_commands.specs.Judged.{Verdict}
 use Rattle.pb_commands.specs.LinesRun.{PutsButLast}
-use Rattle.pb_commands.specs.CheckRun.{ChecksOrEnds}
+use Rattle.pb_commands.specs.CheckShown.{ChecksOrEnds, CheckShown}
 use Rattle.pb_commands.specs.CheckShown as check
-use Rattle.pb_commands.specs.CheckShown.{CheckShown}
 
 -- ---- one line
 

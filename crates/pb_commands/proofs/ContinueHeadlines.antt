@@ -1,5 +1,6 @@
 -- The theorem of a run that goes on from games that are held first, from what it does.
-use Rattle.std.proofs.Common.{◌≡◌, ◌∙◌, ℕ, List, [], ◌++◌, All, Result, Ok, Err, ap, refl, subst, sym}
+use Rattle.std.proofs.Common.{◌≡◌, ◌∙◌, ℕ, List, [], ◌++◌, All, Result, Ok, Err, ap, refl, subst}
+use Rattle.std.proofs.Common.{sym}
 use Rattle.pb_io.specs.Lines.{lines}
 use Rattle.pb_io.specs.LineTask.{AtEnd}
 use Rattle.pb_io.specs.declared.fault.Fault.{Fault}
@@ -12,26 +13,23 @@ use Rattle.pb_poly.specs.declared.book.Entry.{Entry}
 use Rattle.pb_poly.proofs.Told.{found_table}
 use Rattle.pb_poly.specs.TableReading.{ReadsTable}
 use Rattle.pb_games.specs.Submissions.{Submission}
-use Rattle.pb_accepted.specs.Basis.{Basis}
+use Rattle.pb_accepted.specs.Rules.{Basis}
 use Rattle.pb_accepted.specs.Counting.{IsBook, counted}
 use Rattle.pb_accepted.specs.Replying.{most_games}
 use Rattle.pb_accepted.specs.Ledger.{LedgerState, new_ledger}
-use Rattle.pb_accepted.specs.Replies.{replies}
+use Rattle.pb_accepted.specs.Accepting.{replies}
 use Rattle.pb_accepted.specs.Rules.{CountingRules}
 use Rattle.pb_accepted.proofs.Steps.{runs_join}
 use Rattle.pb_accepted.specs.Accepting.{Answer, Run}
-use Rattle.pb_ledger.proofs.Continued.{continued, loaded_back}
-use Rattle.pb_ledger.specs.Change.{from_to}
+use Rattle.pb_ledger.proofs.SavedLoading.{continued, loaded_back}
+use Rattle.pb_ledger.specs.Change.{from_to, across}
 use Rattle.pb_ledger.specs.Collecting.{CollectsStream}
-use Rattle.pb_ledger.specs.Loading.{Loads}
-use Rattle.pb_ledger.specs.Change.{across}
-use Rattle.pb_ledger.specs.Making.{Makes}
-use Rattle.pb_ledger.specs.declared.totals.Totals.{Totals}
+use Rattle.pb_ledger.specs.Saving.{Loads}
+use Rattle.pb_ledger.specs.Change.{Makes}
+use Rattle.pb_ledger.specs.declared.collecting.Totals.{Totals}
 use Rattle.pb_ledger.specs.Saving.{Saved}
 use Rattle.pb_commands.specs.ContinueHeadline.{GoesOn, HasHeadlineOfBoth}
-use Rattle.pb_commands.specs.Ends.{Change, EndStates}
-use Rattle.pb_commands.specs.Run.{MakesBook}
-use Rattle.pb_commands.specs.Runs.{ContinueRun, HoldsSaved, Takes}
+use Rattle.pb_commands.specs.Runs.{Change, EndStates, MakesBook, ContinueRun, HoldsSaved, Takes}
 use Rattle.pb_commands.specs.declared.run.Intake.{Intake}
 use Rattle.pb_commands.proofs.Headlines.{effect}
 use Rattle.pb_commands.proofs.Taking.{same_but_games}

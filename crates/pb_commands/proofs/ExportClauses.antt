@@ -1,6 +1,7 @@
 -- What a run of the command `export` blames, from how it ends.
-use Rattle.std.proofs.Common.{◌≡◌, ◌∙◌, ◌≢◌, ℕ, Result, Ok, Err, ap, false, inl, inr, refl, subst, sym}
-use Rattle.std.specs.Prelude.{IfErr, IfOk, IsErrAnd, MatchResult}
+use Rattle.std.proofs.Common.{◌≡◌, ◌∙◌, ◌≢◌, ℕ, Result, Ok, Err, ap, false, inl, inr, refl, subst}
+use Rattle.std.proofs.Common.{sym}
+use Rattle.std.specs.Prelude.{IfErr, IsErrAnd, MatchResult}
 use Rattle.pb_io.specs.Sink.{SinkState}
 use Rattle.pb_io.specs.Source.{SourceState}
 use Rattle.pb_io.specs.declared.fault.Fault.{Fault}
@@ -8,19 +9,17 @@ use Rattle.pb_io.specs.declared.fault.Fault.TheVariants.{Read, Write, Endless, M
 use Rattle.pb_io.proofs.FlushLemmas.{still_works}
 use Rattle.pb_accepted.specs.Ledger.{LedgerState}
 use Rattle.pb_accepted.specs.Rules.{CountingRules}
-use Rattle.pb_export.specs.Exporting as exporting
 use Rattle.pb_export.specs.Exporting.{ExportsUntil, fault_of_export}
 use Rattle.pb_export.specs.declared.exporting.ExportFault.{ExportFault}
 use Rattle.pb_export.specs.declared.exporting.ExportFault.TheVariants as export
-use Rattle.pb_ledger.specs.declared.totals.Totals.{Totals}
-use Rattle.pb_commands.specs.Judged.{PutsUntil, Verdict}
-use Rattle.pb_commands.specs.Refused.{refused_verdict}
-use Rattle.pb_commands.specs.declared.refusal.Refused.{Refused}
-use Rattle.pb_commands.specs.declared.refusal.Stopped.{Stopped}
-use Rattle.pb_commands.specs.declared.refusal.Stopped.TheVariants as stopped
-use Rattle.pb_commands.specs.Ends.{Change, IsSame}
-use Rattle.pb_commands.specs.ExportRun.{BlamesSink, ExportRun}
-use Rattle.pb_commands.specs.Runs.{StopsFor, Takes}
+use Rattle.pb_ledger.specs.declared.collecting.Totals.{Totals}
+use Rattle.pb_commands.specs.Judged.{PutsUntil, Verdict, refused_verdict}
+use Rattle.pb_commands.specs.declared.stop.Refused.{Refused}
+use Rattle.pb_commands.specs.declared.stop.Stopped.{Stopped}
+use Rattle.pb_commands.specs.declared.stop.Stopped.TheVariants as stopped
+use Rattle.pb_commands.specs.Runs.{Change, IsSame, StopsFor, Takes}
+use Rattle.pb_commands.specs.ExportRun.{BlamesSink, ExportRun, ExportsTaken, TakesSilently}
+use Rattle.pb_commands.specs.declared.run.Intake.{Intake}
 use Rattle.pb_commands.specs.declared.run.Report.{Report}
 
 abbrev Fails : Fault → Stopped
@@ -77,24 +76,12 @@ blame rules fills table lines sink (Err why) (inr (taken, (new, opens, replies, 
 blame rules fills table lines sink (Err why) (inr (taken, took, fault, inr (took_all, e, until, is), stop)) =
     subst (BlamesSink sink) (sym stop) (subst (λ (f : Fault). BlamesSink sink (Fails f)) (sym is) (blame_export taken.ledger sink e until))
 
--- ---- the export itself
-
-module _ (l : LedgerState) (old mid new : SinkState) (same : mid ≡ old) (answer : Result ℕ ExportFault) (told : Result ℕ Fault) where
-  -- the answer with a fault of the run
-  abbrev AsFault : Type 0
-  AsFault = MatchResult answer (λ n. told ≡ Ok n) (λ e. IsErrAnd told (λ fault. fault ≡ fault_of_export e))
-
-  pub export_made : (count : ℕ) → IfOk answer (exporting.Exports l mid new) → AsFault → told ≡ Ok count → exporting.Exports l old new count
-  export_made count made as_fault is = by answer made as_fault
-    where
-      by : (a : Result ℕ ExportFault) → IfOk a (exporting.Exports l mid new) → MatchResult a (λ n. told ≡ Ok n) (λ e. IsErrAnd told (λ fault. fault ≡ fault_of_export e)) → exporting.Exports l old new count
-      by (Ok n) h one = let c : n ≡ count = cc (one, is) in subst (exporting.Exports l old new) c (subst (λ (m : SinkState). exporting.Exports l m new n) same h)
-      by (Err e) h one = absurd (let none : IsErrAnd (let r : Result ℕ Fault = Ok count in r) (λ fault. fault ≡ fault_of_export e) = subst (λ (r : Result ℕ Fault). IsErrAnd r (λ fault. fault ≡ fault_of_export e)) is one in none)
-
-  pub export_fails : (fault : Fault) → IfErr answer (ExportsUntil l mid new) → AsFault → told ≡ Err fault → (why : ExportFault) × ExportsUntil l old new why × (fault ≡ fault_of_export why)
-  export_fails fault broke as_fault is = by answer broke as_fault
-    where
-      by : (a : Result ℕ ExportFault) → IfErr a (ExportsUntil l mid new) → MatchResult a (λ n. told ≡ Ok n) (λ e. IsErrAnd told (λ f. f ≡ fault_of_export e))
-          → (why : ExportFault) × ExportsUntil l old new why × (fault ≡ fault_of_export why)
-      by (Ok n) h one = absurd (cc (one, is))
-      by (Err e) h one = (e, subst (λ (m : SinkState). ExportsUntil l m new e) same h, subst (λ (r : Result ℕ Fault). IsErrAnd r (λ f. f ≡ fault_of_export e)) is one)
+-- a run that exports what it took, over a sink that was left alone until then
+pub export_run : (rules : CountingRules) (fills : ℕ) (table lines : Change SourceState) (old mid new : SinkState) → mid ≡ old
+    → (taken : Intake) → TakesSilently rules fills table lines taken → (made : Result Report Fault) (told : Result Report Stopped) → ExportsTaken (record { old = mid; new = new }) taken made
+    → MatchResult made (λ r. told ≡ Ok r) (λ e. IsErrAnd told (λ why. why ≡ Fails e)) → ExportRun rules fills table lines (record { old = old; new = new }) told
+export_run rules fills table lines old mid new same taken took (Ok report) told h is =
+    subst (ExportRun rules fills table lines (record { old = old; new = new })) (sym is) (taken, took, subst (λ (m : SinkState). ExportsTaken (record { old = m; new = new }) taken (Ok report)) same h)
+export_run rules fills table lines old mid new same taken took (Err fault) (Ok report) h is = absurd is
+export_run rules fills table lines old mid new same taken took (Err fault) (Err why) h is =
+    inr (taken, took, fault, subst (λ (m : SinkState). ExportsTaken (record { old = m; new = new }) taken (Err fault)) same h, is)

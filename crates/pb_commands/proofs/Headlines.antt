@@ -11,23 +11,21 @@ use Rattle.pb_poly.proofs.Told.{found_table}
 use Rattle.pb_poly.specs.TableReading.{ReadsTable}
 use Rattle.pb_games.specs.Submissions.{Submission}
 use Rattle.pb_accepted.specs.Accepting.{Answer, Run}
-use Rattle.pb_accepted.specs.Basis.{Basis}
+use Rattle.pb_accepted.specs.Rules.{Basis}
 use Rattle.pb_accepted.specs.Counting.{IsBook, counted}
 use Rattle.pb_accepted.specs.Replying.{most_games}
 use Rattle.pb_accepted.specs.Ledger.{LedgerState, new_ledger}
-use Rattle.pb_accepted.specs.Replies.{replies, reply_texts}
+use Rattle.pb_accepted.specs.Accepting.{replies, reply_texts}
 use Rattle.pb_accepted.specs.Rules.{AreRules, CountingRules}
 use Rattle.pb_accepted.proofs.BookLaws.{one_book}
 use Rattle.pb_accepted.proofs.Replyings.{replies_are, replies_number, run_to}
 use Rattle.pb_io.specs.declared.fault.Fault.{Fault}
 use Rattle.pb_ledger.specs.Collecting.{CollectsStream}
-use Rattle.pb_ledger.specs.declared.totals.Totals.{Totals}
+use Rattle.pb_ledger.specs.declared.collecting.Totals.{Totals}
 use Rattle.pb_ledger.specs.Change.{from_to}
-use Rattle.pb_commands.specs.Ends.{EndStates}
+use Rattle.pb_commands.specs.Runs.{EndStates, MakesBook, CollectRun, MakesLedger, Takes}
 use Rattle.pb_commands.specs.Answered.{IsAnswered}
 use Rattle.pb_commands.specs.Headline.{Effect}
-use Rattle.pb_commands.specs.Run.{MakesBook}
-use Rattle.pb_commands.specs.Runs.{CollectRun, Opens, Takes}
 use Rattle.pb_commands.specs.declared.run.Intake.{Intake}
 
 -- the effect of lines that were answered as a ledger answers them, wherever they came from
@@ -91,6 +89,6 @@ module _ (rules : CountingRules) (fills : ℕ) (e : EndStates) where
       by_end randoms taken.ledger taken.end entries read counting (subst (λ (l : LedgerState). Takes fills e.lines e.replies l taken) is takes) made
 
   -- from the games of a table on the submissions were taken so
-  pub collected : (mid : SinkState) (new : LedgerState) (taken : Intake) → Opens rules fills e.table new → mid ≡ e.replies.old → Takes fills e.lines (record e.replies { old = mid }) new taken
+  pub collected : (mid : SinkState) (new : LedgerState) (taken : Intake) → MakesLedger rules fills e.table new → mid ≡ e.replies.old → Takes fills e.lines (record e.replies { old = mid }) new taken
       → CollectRun rules fills e (Ok taken)
   collected mid new taken opens same takes = (new, opens, subst (λ (m : SinkState). Takes fills e.lines (record e.replies { old = m }) new taken) same takes)

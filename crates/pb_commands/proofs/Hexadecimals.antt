@@ -1,11 +1,12 @@
 -- Bytes written in hexadecimal digits.
-use Rattle.std.proofs.Common.{◌≡◌, ◌∙◌, ℕ, zero, suc, ◌*◌, ◌/◌, ◌%◌, ◌^◌, ◌<◌, ◌&&◌, Bool, List, [], ◌∷◌, ◌++◌, ap, arith, eqb, inl, inr, refl, slice_index, sym, true}
+use Rattle.std.proofs.Common.{◌≡◌, ◌∙◌, ℕ, zero, suc, ◌*◌, ◌/◌, ◌%◌, ◌^◌, ◌<◌, ◌&&◌, Bool, List, []}
+use Rattle.std.proofs.Common.{◌∷◌, ◌++◌, ap, arith, eqb, inl, inr, refl, slice_index, sym, true}
 use Rattle.std.proofs.Math.Nat.{div-div-eq-div-mul, pow-succ'}
 use Rattle.std.proofs.lemmas.Bool.{and_parts, cases_lt, eqb-true}
 use Rattle.std.proofs.lemmas.List.{append_assoc}
 use Rattle.std.specs.Int.{byte_at, bytes_high_first}
 use Rattle.hex.specs.Hex.{encode_lower, encode_with, lower_digits}
-use Rattle.pb_commands.specs.Hexadecimal.{digit, hexadecimal}
+use Rattle.pb_commands.specs.BookShown.{digit, hexadecimal}
 
 -- ---- the digits of the kit's table
 

@@ -11,22 +11,21 @@ use Rattle.pb_poly.specs.declared.book.Entry.{Entry}
 use Rattle.pb_accepted.specs.Ledger.{LedgerState, new_ledger}
 use Rattle.pb_accepted.specs.Replying.{most_games}
 use Rattle.pb_accepted.specs.Rules.{CountingRules}
-use Rattle.pb_ledger.specs.Change.{across}
+use Rattle.pb_ledger.specs.Change.{across, from_to}
 use Rattle.pb_ledger.specs.Collecting.{CollectsStream}
-use Rattle.pb_ledger.specs.Journaling.{Gains, JournalsUntil}
-use Rattle.pb_ledger.specs.Replaying.{ReplaysAll}
-use Rattle.pb_ledger.specs.Streams.{Puts}
-use Rattle.pb_ledger.specs.declared.totals.Totals.{Totals}
-use Rattle.pb_ledger.specs.Change.{from_to}
-use Rattle.pb_commands.specs.Ends.{Change, EndStates, IsSame, JournalStates}
-use Rattle.pb_commands.specs.JournalHeadline.{HasHeadlineOfJournal, LosesNone, LosesNoneLater, Survives}
-use Rattle.pb_commands.specs.Run.{MakesBook}
-use Rattle.pb_commands.specs.Runs.{JournalRun, Opens, TakesJournaled}
+use Rattle.pb_ledger.specs.Collecting.{Gains, JournalsUntil}
+use Rattle.pb_ledger.specs.Journal.{ReplaysAll}
+use Rattle.pb_ledger.specs.Change.{Puts}
+use Rattle.pb_ledger.specs.declared.collecting.Totals.{Totals}
+use Rattle.pb_commands.specs.Runs.{Change, EndStates, IsSame, JournalStates, MakesBook, JournalRun}
+use Rattle.pb_commands.specs.Runs.{MakesLedger, TakesJournaled}
+use Rattle.pb_commands.specs.JournalHeadline.{HasHeadlineOfJournal, LosesNone, LosesNoneLater}
+use Rattle.pb_commands.specs.JournalHeadline.{Survives}
 use Rattle.pb_commands.specs.declared.run.Intake.{Intake}
 use Rattle.pb_commands.proofs.JournalGains.{Replayed, replayed}
 use Rattle.pb_commands.proofs.JournalHeadlines.{has_headline}
 use Rattle.pb_commands.proofs.JournalSurvives.{HoldsBy, Safe, stream_survives, until_survives}
-use Rattle.pb_commands.proofs.Taking.{same_but_games}
+use Rattle.pb_accepted.specs.Ledger.{KeepsRest}
 
 module _ (rules : CountingRules) (fills : ℕ) (e : EndStates) (j : JournalStates) where
   -- from the games of the journal on the submissions were taken so
@@ -65,18 +64,17 @@ module _ (rules : CountingRules) (fills : ℕ) (e : EndStates) (j : JournalState
   took_so replies journal held left (Ok totals) took broke = took
   took_so replies journal held left (Err fault) took broke = broke
 
-  pub journaled : (mid mended : SinkState) (new held left : LedgerState) (end : Result Totals Fault) → Opens rules fills e.table new → mid ≡ e.replies.old → Replays mended held new → held.basis ≡ new.basis
-      → held.cap ≡ new.cap
+  pub journaled : (mid mended : SinkState) (new held left : LedgerState) (end : Result Totals Fault) → MakesLedger rules fills e.table new → mid ≡ e.replies.old → Replays mended held new → KeepsRest new held
       → IfOk end (λ totals. CollectsStream fills e.lines (record e.replies { old = mid }) (from_to held left) totals × Gains (from_to mended j.journal.new) (from_to held left))
       → IfErr end (JournalsUntil fills e.lines (record e.replies { old = mid }) (from_to mended j.journal.new) (from_to held left))
       → JournalRun rules fills e j (Ok (record { ledger = left; end = end }))
-  journaled mid mended new held left end opens same replays basis cap all broke = (
+  journaled mid mended new held left end opens same replays rest all broke = (
     new,
     held,
     opens,
     mended,
     replays,
-    same_but_games new held basis cap,
+    rest,
     subst (λ (m : SinkState). TakesJournaled fills e.lines (record e.replies { old = m }) (from_to mended j.journal.new) held (record { ledger = left; end = end })) same
         (took_so (record e.replies { old = mid }) (from_to mended j.journal.new) held left end all broke),
   )

@@ -12,18 +12,18 @@ use Rattle.pb_games.specs.Submissions.{Submits, IsSubmission, Submission, submis
 use Rattle.pb_accepted.specs.Accepting as steps
 use Rattle.pb_accepted.specs.Accepting.{Answer, Run, Step}
 use Rattle.pb_accepted.specs.Replying.{Arrives, IsNumber}
-use Rattle.pb_accepted.specs.Holding.{HaveOwnIds}
-use Rattle.pb_accepted.specs.Replies.{replies, reply_line}
+use Rattle.pb_accepted.specs.Replying.{HaveOwnIds}
+use Rattle.pb_accepted.specs.Accepting.{replies, reply_line}
 use Rattle.pb_accepted.proofs.Numbers.{IsNumber-Accepted, slice_get-push}
 use Rattle.pb_accepted.proofs.Steps.{distinct_ids, run_to, runs_join}
-use Rattle.pb_io.specs.Reads.{ReadsAll, chunk_len}
+use Rattle.pb_io.specs.Source.{ReadsAll, chunk_len}
 use Rattle.pb_io.specs.Sink.{AllLasts, SinkState}
 use Rattle.pb_io.specs.Source.{SourceState}
 use Rattle.pb_accepted.specs.Ledger.{LedgerState}
 use Rattle.pb_ledger.specs.Change.{Change}
 use Rattle.pb_ledger.specs.Journal.{GameLines, Journals, mending, seal}
-use Rattle.pb_ledger.specs.Replaying.{ReplaysAll}
-use Rattle.pb_ledger.specs.Streams.{Puts}
+use Rattle.pb_ledger.specs.Journal.{ReplaysAll}
+use Rattle.pb_ledger.specs.Change.{Puts}
 use Rattle.pb_accepted.proofs.Held.{are_submissions, has_room}
 use Rattle.pb_ledger.proofs.Journals.{journal_grows, journal_may_tear}
 

@@ -14,11 +14,11 @@ use Rattle.pb_accepted.specs.Replying.{most_games}
 use Rattle.pb_accepted.specs.Ledger.{LedgerState, new_ledger}
 use Rattle.pb_accepted.specs.Rules.{CountingRules}
 use Rattle.pb_ledger.specs.Collecting.{CollectsStream}
-use Rattle.pb_ledger.specs.Journaling.{Gains}
+use Rattle.pb_ledger.specs.Collecting.{Gains}
 use Rattle.pb_ledger.specs.Change.{from_to}
-use Rattle.pb_ledger.specs.declared.totals.Totals.{Totals}
+use Rattle.pb_ledger.specs.declared.collecting.Totals.{Totals}
 use Rattle.pb_commands.specs.ContinueHeadline.{GoesOn}
-use Rattle.pb_commands.specs.Ends.{EndStates, JournalStates}
+use Rattle.pb_commands.specs.Runs.{EndStates, JournalStates}
 use Rattle.pb_commands.specs.JournalHeadline.{HasHeadlineOfJournal}
 use Rattle.pb_commands.proofs.ContinueHeadlines.{goes_on}
 use Rattle.pb_commands.proofs.JournalGains.{Replayed, gains_all}

@@ -1,5 +1,7 @@
 -- However a run with a journal ends, no acknowledged game is lost.
-use Rattle.std.proofs.Common.{◌≡◌, ◌∙◌, ℕ, ◌+◌, ◌⊎◌, List, ◌∷◌, [], ◌++◌, Some, Ok, append_assoc, ap, inl, inr, length, refl, slice_get, subst, sym, take, Option, None, append-nil}
+use Rattle.std.proofs.Common.{◌≡◌, ◌∙◌, ℕ, ◌+◌, ◌⊎◌, List, ◌∷◌, [], ◌++◌, Some, Ok, append_assoc}
+use Rattle.std.proofs.Common.{ap, inl, inr, length, refl, slice_get, subst, sym, take, Option, None}
+use Rattle.std.proofs.Common.{append-nil}
 use Rattle.std.specs.Io.KnownBytes.{Appends}
 use Rattle.std.proofs.KnownBytes.{Appends-trans}
 use Rattle.std.proofs.Math.Seq.{take-append-add, take-length}
@@ -8,29 +10,29 @@ use Rattle.pb_io.specs.Source.{SourceState}
 use Rattle.pb_io.specs.Sink.{AllLasts, Lasts, LastsFirst, SinkState}
 use Rattle.pb_io.specs.LineTask.{AtLine}
 use Rattle.pb_io.specs.Lines.{ended_lines, lines}
-use Rattle.pb_io.specs.Reads.{Reads, ReadsAll, ReadsFront, chunk_len}
+use Rattle.pb_io.specs.Source.{Reads, ReadsAll, ReadsFront, chunk_len}
 use Rattle.pb_io.proofs.LineLemmas.{lines-begin}
 use Rattle.pb_games.specs.Submissions.{Submission, submission_text}
 use Rattle.pb_accepted.specs.Accepting.{Answer, Run}
-use Rattle.pb_accepted.specs.Replying.{Arrives, IsNumber}
-use Rattle.pb_accepted.specs.Replying.{most_games}
+use Rattle.pb_accepted.specs.Replying.{Arrives, IsNumber, most_games}
 use Rattle.pb_accepted.specs.Ledger.{LedgerState, new_ledger}
-use Rattle.pb_accepted.specs.Replies.{replies, reply_line}
+use Rattle.pb_accepted.specs.Accepting.{replies, reply_line}
 use Rattle.pb_accepted.specs.Rules.{CountingRules}
 use Rattle.pb_ledger.specs.Journal.{GameLines, Journals, mending}
-use Rattle.pb_ledger.specs.Collecting.{Collects, CollectsButOne, CollectsStream, CollectsUntil, Leads}
-use Rattle.pb_ledger.specs.Journaling.{CollectsUnkept, Gains, JournalsUntil}
-use Rattle.pb_ledger.specs.Change.{from_to}
+use Rattle.pb_ledger.specs.Collecting.{Collects, CollectsButOne, CollectsStream, CollectsUntil}
+use Rattle.pb_ledger.specs.Collecting.{Leads}
+use Rattle.pb_ledger.specs.Collecting.{CollectsUnkept, Gains, JournalsUntil}
+use Rattle.pb_ledger.specs.Change.{from_to, across}
 use Rattle.pb_ledger.proofs.Lasting.{lasts_first}
-use Rattle.pb_ledger.specs.Change.{across}
-use Rattle.pb_ledger.specs.Streams.{AtLast, Puts}
+use Rattle.pb_ledger.specs.Change.{AtLast, Puts}
 use Rattle.pb_accepted.proofs.Steps.{runs_join}
 use Rattle.pb_io.specs.declared.fault.Fault.{Fault}
 use Rattle.pb_io.specs.declared.fault.Fault.TheVariants as fault
-use Rattle.pb_ledger.specs.declared.totals.Totals.{Totals}
-use Rattle.pb_commands.specs.Ends.{Change, EndStates, IsSame, JournalStates}
+use Rattle.pb_ledger.specs.declared.collecting.Totals.{Totals}
+use Rattle.pb_commands.specs.Runs.{Change, EndStates, IsSame, JournalStates}
 use Rattle.pb_commands.specs.JournalHeadline.{HoldsAnswered}
-use Rattle.pb_commands.proofs.JournalGains.{IsNumber-front, Replayed, gains_all, gains_torn, has_numbers, replies-push}
+use Rattle.pb_commands.proofs.JournalGains.{IsNumber-front, Replayed, gains_all, gains_torn}
+use Rattle.pb_commands.proofs.JournalGains.{has_numbers, replies-push}
 
 -- ---- the first lines of the submissions
 

@@ -1,9 +1,8 @@
 -- What a command puts, from what its parts do and what its input comes to.
 use Rattle.std.proofs.Common.{◌≡◌, ℕ, Bool, List, Result, Ok, Err, ap, inl, inr, subst, sym}
 use Rattle.pb_io.specs.Sink.{SinkState}
-use Rattle.pb_commands.specs.Judged.{ByInput, PutsOrEnds, PutsText, PutsUntil, Verdict}
-use Rattle.pb_commands.specs.Laws.{OnlyTextsOf, TextsAreOf}
-use Rattle.pb_commands.specs.Shows.{Shows}
+use Rattle.pb_commands.specs.Judged.{ByInput, PutsOrEnds, PutsText, PutsUntil, Verdict, OnlyTextsOf}
+use Rattle.pb_commands.specs.Judged.{TextsAreOf, Shows}
 use Rattle.pb_io.specs.declared.fault.Fault.{Fault}
 use Rattle.pb_io.specs.declared.fault.Fault.TheVariants.{Read, Write, Endless, Memory}
 

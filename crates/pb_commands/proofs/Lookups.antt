@@ -1,5 +1,6 @@
 -- What comes of lines that are short, and of those whose positions are looked up.
-use Rattle.std.proofs.Common.{◌≡◌, ◌∙◌, ℕ, Bor, List, Option, Some, Result, Ok, Err, ap, inl, inr, refl, subst, sym, true}
+use Rattle.std.proofs.Common.{◌≡◌, ◌∙◌, ℕ, Bor, List, Option, Some, Result, Ok, Err, ap, inl, inr}
+use Rattle.std.proofs.Common.{refl, subst, sym, true}
 use Rattle.std.specs.Str.Lines.{strip_carriage_return}
 use Rattle.pb_board.specs.Position.{Position}
 use Rattle.pb_board.specs.LineEnd.{with_end}
@@ -11,10 +12,9 @@ use Rattle.pb_moves.specs.Moved.{Moved}
 use Rattle.pb_poly.specs.declared.book.Entry.{Entry}
 use Rattle.pb_poly.specs.Found.{Found}
 use Rattle.pb_commands.specs.EpdShown.{AsEpd, IsBlank, LineGives, epd_verdict}
-use Rattle.pb_commands.specs.Judged.{ByInput, Verdict}
+use Rattle.pb_commands.specs.Judged.{ByInput, Verdict, AsRecord}
 use Rattle.pb_commands.specs.LookupShown.{moves_line}
 use Rattle.pb_commands.specs.ProbeShown.{FoundShown}
-use Rattle.pb_commands.specs.RecordJudged.{AsRecord}
 
 -- a line that was told as its bytes, and its text
 pub line_full : (gives : ℕ → List ℕ → Verdict → Type 0) (number : ℕ) (given : Option (Bor (List ℕ))) (bytes : Bor (List ℕ)) (text line : List ℕ) → given ≡ Some bytes

@@ -1,5 +1,6 @@
 -- Words that spell moves, and moves that are played one after the other.
-use Rattle.std.proofs.Common.{◌≡◌, ◌≢◌, ◌∙◌, ℕ, ◌+◌, ◌<◌, ◌≤◌, All, Bor, List, [], ◌∷◌, ◌++◌, ap, drop, false, get_or, length, None, Option, Some, subst, sym, true}
+use Rattle.std.proofs.Common.{◌≡◌, ◌≢◌, ◌∙◌, ℕ, ◌+◌, ◌<◌, ◌≤◌, All, Bor, List, [], ◌∷◌, ◌++◌, ap}
+use Rattle.std.proofs.Common.{drop, false, get_or, length, None, Option, Some, subst, sym, true}
 use Rattle.std.specs.List.{AllZip}
 use Rattle.std.specs.Prelude.{MatchOption}
 use Rattle.std.specs.Option.{SomeIff, is_some}
@@ -12,7 +13,7 @@ use Rattle.pb_moves.specs.Legal.{Legal}
 use Rattle.pb_moves.specs.Moved.{IsMove, Moved}
 use Rattle.pb_moves.specs.Played.{IsSpelled, Plays, Spells}
 use Rattle.pb_moves.specs.Spelling.{spelling}
-use Rattle.pb_commands.specs.Line.{texts}
+use Rattle.pb_commands.specs.FenShown.{texts}
 
 -- the texts of the move texts from one on
 pub texts_from : (words : List (Bor (List ℕ))) (i : ℕ) (d : Bor (List ℕ)) → i < length words

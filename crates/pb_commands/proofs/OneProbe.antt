@@ -13,11 +13,9 @@ use Rattle.pb_poly.proofs.OneBook.{one_book}
 use Rattle.pb_poly.proofs.OneTable.{one_table}
 use Rattle.pb_poly.specs.Reading.{AsBook}
 use Rattle.pb_poly.specs.TableReading.{AsTable}
-use Rattle.pb_commands.specs.BookJudged.{book_verdict}
-use Rattle.pb_commands.specs.Judged.{ByInput, Verdict}
+use Rattle.pb_commands.specs.Judged.{book_verdict, ByInput, Verdict, AsRecord, record_verdict}
+use Rattle.pb_commands.specs.Judged.{table_verdict}
 use Rattle.pb_commands.specs.ProbeShown.{FoundShown, ProbeShown, probe_text}
-use Rattle.pb_commands.specs.RecordJudged.{AsRecord, record_verdict}
-use Rattle.pb_commands.specs.TableJudged.{table_verdict}
 use Rattle.pb_commands.proofs.Judging.{by_one}
 
 -- ---- records

@@ -1,5 +1,6 @@
 -- What the command `probe` puts, from what its parts do.
-use Rattle.std.proofs.Common.{◌≡◌, ◌∙◌, ℕ, Bool, List, Some, Result, Ok, Err, arith, inl, inr, refl, subst, sym, true}
+use Rattle.std.proofs.Common.{◌≡◌, ◌∙◌, ℕ, Bool, List, Some, Result, Ok, Err, arith, inl, inr, refl}
+use Rattle.std.proofs.Common.{subst, sym, true}
 use Rattle.std.specs.Prelude.{IfErr, IfOk, MatchResult}
 use Rattle.pb_board.specs.Fields.{fields, space}
 use Rattle.pb_board.specs.Refusal.{IsDueFen, IsFirstOf, fen_errors}
@@ -15,18 +16,13 @@ use Rattle.pb_poly.specs.TableReading.{AsTable, ReadsTable}
 use Rattle.pb_poly.specs.declared.table.TableFault.{TableFault}
 use Rattle.pb_poly.specs.declared.table.TableFault.TheVariants as table_fault
 use Rattle.pb_poly.proofs.Told.{book_told, table_told}
-use Rattle.pb_commands.specs.BookJudged.{book_verdict}
-use Rattle.pb_commands.specs.Judged.{Verdict}
-use Rattle.pb_commands.specs.Laws.{OnlyTextsOf, TextsAreOf}
+use Rattle.pb_commands.specs.Judged.{book_verdict, Verdict, OnlyTextsOf, TextsAreOf, AsRecord}
+use Rattle.pb_commands.specs.Judged.{record_verdict, StopsOrEnds, table_verdict, Shows}
 use Rattle.pb_commands.specs.ProbeShown.{FoundShown, ProbeShown, ProbesSources, probe_text}
-use Rattle.pb_commands.specs.RecordJudged.{AsRecord, record_verdict}
-use Rattle.pb_commands.specs.Refused.{StopsOrEnds}
-use Rattle.pb_commands.specs.Shows.{Shows}
-use Rattle.pb_commands.specs.TableJudged.{table_verdict}
-use Rattle.pb_commands.specs.WithBook.{ReadsBoth}
-use Rattle.pb_commands.specs.declared.finder.Finder.{Finder}
-use Rattle.pb_commands.specs.declared.refusal.Stopped.{Stopped}
-use Rattle.pb_commands.specs.declared.refusal.Stopped.TheVariants as stopped
+use Rattle.pb_commands.specs.ProbeShown.{ReadsBoth}
+use Rattle.pb_commands.specs.declared.probe.Finder.{Finder}
+use Rattle.pb_commands.specs.declared.stop.Stopped.{Stopped}
+use Rattle.pb_commands.specs.declared.stop.Stopped.TheVariants as stopped
 use Rattle.pb_io.specs.declared.fault.Fault.{Fault}
 use Rattle.pb_io.specs.declared.fault.ReadFault.TheVariants as read
 use Rattle.pb_io.specs.declared.fault.Fault.TheVariants.{Memory}

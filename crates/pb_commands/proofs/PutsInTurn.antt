@@ -1,5 +1,6 @@
 -- Lines that are put one after the other, and then handed on.
-use Rattle.std.proofs.Common.{◌≡◌, ◌∙◌, ℕ, ◌+◌, ◌<◌, ◌≤◌, List, [], ◌++◌, Ok, Err, ap, append-nil, drop, get_or, length, refl, subst, sym}
+use Rattle.std.proofs.Common.{◌≡◌, ◌∙◌, ℕ, ◌+◌, ◌<◌, ◌≤◌, List, [], ◌++◌, Ok, Err, ap, append-nil}
+use Rattle.std.proofs.Common.{drop, get_or, length, refl, subst, sym}
 use Rattle.std.specs.List.{flat_map}
 use Rattle.std.specs.Io.KnownBytes.{Appends}
 use Rattle.std.proofs.KnownBytes.{Appends-kept}
@@ -11,7 +12,7 @@ use Rattle.pb_io.specs.Count.{next_count}
 use Rattle.pb_io.specs.Sink.{Flush, Put, SinkState}
 use Rattle.pb_io.specs.declared.source.Failed.{Failed}
 use Rattle.pb_commands.specs.ProbeShown.{found_text}
-use Rattle.pb_commands.specs.Shows.{Shows}
+use Rattle.pb_commands.specs.Judged.{Shows}
 use Rattle.pb_io.specs.declared.fault.Fault.TheVariants.{Write}
 use Rattle.pb_io.proofs.PutLemmas.{front_all, front_more, put_more}
 

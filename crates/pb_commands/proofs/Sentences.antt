@@ -10,8 +10,8 @@ use Rattle.pb_poly.specs.declared.book.Entry.{Entry}
 use Rattle.pb_games.specs.declared.game.Game.{Game}
 use Rattle.pb_games.specs.Submissions.{Submits, Submission}
 use Rattle.pb_accepted.specs.Accepting.{OneGame}
-use Rattle.pb_accepted.specs.Basis.{Basis}
-use Rattle.pb_accepted.specs.Laws.{NoRepeats, SameMembers}
+use Rattle.pb_accepted.specs.Rules.{Basis}
+use Rattle.pb_accepted.specs.Accepting.{NoRepeats, SameMembers}
 use Rattle.pb_accepted.specs.Replying as replied
 use Rattle.pb_accepted.specs.Replying.{AreNumbered, Arrives, IsAccepted, IsNewId, IsNumber, Replies, Reply, ok, refused}
 use Rattle.pb_accepted.proofs.BookLaws.{same_book}

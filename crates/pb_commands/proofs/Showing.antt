@@ -1,5 +1,6 @@
 -- What the command `show` puts, from what its parts do.
-use Rattle.std.proofs.Common.{◌≡◌, ◌∙◌, ℕ, Bool, List, Result, Ok, Err, arith, refl, subst, sym, true}
+use Rattle.std.proofs.Common.{◌≡◌, ◌∙◌, ℕ, Bool, List, Result, Ok, Err, arith, refl, subst, sym}
+use Rattle.std.proofs.Common.{true}
 use Rattle.pb_io.specs.Sink.{SinkState}
 use Rattle.pb_io.specs.Source.{SourceState}
 use Rattle.pb_poly.specs.Reading.{AsBook, ReadsBook, Tells}
@@ -8,14 +9,10 @@ use Rattle.pb_poly.specs.declared.reading.BookError.{BookError}
 use Rattle.pb_poly.specs.declared.reading.BookError.TheVariants as book_error
 use Rattle.pb_poly.proofs.OneBook.{one_book}
 use Rattle.pb_poly.proofs.Told.{book_told}
-use Rattle.pb_commands.specs.BookJudged.{book_verdict}
+use Rattle.pb_commands.specs.Judged.{book_verdict, Verdict, OnlyTextsOf, StopsOrEnds, Shows}
 use Rattle.pb_commands.specs.BookShown.{BookShown, show_text}
-use Rattle.pb_commands.specs.Judged.{Verdict}
-use Rattle.pb_commands.specs.Laws.{OnlyTextsOf}
-use Rattle.pb_commands.specs.Refused.{StopsOrEnds}
-use Rattle.pb_commands.specs.Shows.{Shows}
-use Rattle.pb_commands.specs.declared.refusal.Stopped.{Stopped}
-use Rattle.pb_commands.specs.declared.refusal.Stopped.TheVariants as stopped
+use Rattle.pb_commands.specs.declared.stop.Stopped.{Stopped}
+use Rattle.pb_commands.specs.declared.stop.Stopped.TheVariants as stopped
 use Rattle.pb_io.specs.declared.fault.Fault.{Fault}
 use Rattle.pb_io.specs.declared.fault.Fault.TheVariants.{Memory}
 use Rattle.pb_commands.proofs.Judging.{by_one, only_texts, text_not_shown, text_shown}

@@ -1,5 +1,6 @@
 -- What the command `fen` shows.
-use Rattle.std.proofs.Common.{◌≡◌, ◌∙◌, ℕ, List, [], ◌++◌, Result, Ok, Err, ap, append-nil, inl, inr, refl, subst, sym, true}
+use Rattle.std.proofs.Common.{◌≡◌, ◌∙◌, ℕ, List, [], ◌++◌, Result, Ok, Err, ap, append-nil, inl}
+use Rattle.std.proofs.Common.{inr, refl, subst, sym, true}
 use Rattle.std.specs.List.{AllZip}
 use Rattle.std.specs.Prelude.{MatchResult}
 use Rattle.std.specs.Result.{IsErrAnd}
@@ -11,11 +12,9 @@ use Rattle.pb_moves.specs.Played.{Plays, Spells}
 use Rattle.pb_board.specs.LineEnd.{with_end}
 use Rattle.pb_io.specs.Sink.{SinkState}
 use Rattle.pb_commands.specs.FenShown.{FenShown, MayPlay}
-use Rattle.pb_commands.specs.Judged.{PutsOrEnds}
-use Rattle.pb_commands.specs.RecordJudged.{AsRecord}
-use Rattle.pb_commands.specs.Refused.{refused_verdict}
-use Rattle.pb_commands.specs.declared.refusal.Refused.{Refused}
-use Rattle.pb_commands.specs.declared.refusal.Refused.TheVariants.{Illegal}
+use Rattle.pb_commands.specs.Judged.{PutsOrEnds, AsRecord, refused_verdict}
+use Rattle.pb_commands.specs.declared.stop.Refused.{Refused}
+use Rattle.pb_commands.specs.declared.stop.Refused.TheVariants.{Illegal}
 use Rattle.pb_io.specs.declared.fault.Fault.{Fault}
 use Rattle.pb_io.specs.declared.fault.Fault.TheVariants.{Read, Write, Endless, Memory}
 

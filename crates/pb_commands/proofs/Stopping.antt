@@ -1,5 +1,6 @@
 -- How a command ends whose input is judged, from what came of judging it.
-use Rattle.std.proofs.Common.{◌≡◌, ◌∙◌, ℕ, Bool, List, Option, None, Some, Result, Ok, Err, ap, false, subst, sym, true}
+use Rattle.std.proofs.Common.{◌≡◌, ◌∙◌, ℕ, Bool, List, Option, None, Some, Result, Ok, Err, ap}
+use Rattle.std.proofs.Common.{false, subst, sym, true}
 use Rattle.std.specs.Option.{is_some}
 use Rattle.std.specs.Prelude.{MatchResult}
 use Rattle.std.specs.Result.{IsErrAnd}
@@ -7,14 +8,12 @@ use Rattle.pb_io.specs.Sink.{SinkState}
 use Rattle.pb_io.specs.Source.{SourceState}
 use Rattle.pb_io.specs.declared.fault.Fault.{Fault}
 use Rattle.pb_poly.specs.declared.book.Entry.{Entry}
-use Rattle.pb_commands.specs.BookJudged.{book_verdict}
-use Rattle.pb_commands.specs.Judged.{PutsOrEnds, Verdict}
-use Rattle.pb_commands.specs.Refused.{Accepts, StopsOrEnds, refused_verdict, unless_refused}
-use Rattle.pb_commands.specs.TableJudged.{table_verdict}
-use Rattle.pb_commands.specs.WithBook.{ReadsBoth, WithSources}
-use Rattle.pb_commands.specs.declared.refusal.Refused.{Refused}
-use Rattle.pb_commands.specs.declared.refusal.Stopped.{Stopped}
-use Rattle.pb_commands.specs.declared.refusal.Stopped.TheVariants as stopped
+use Rattle.pb_commands.specs.Judged.{book_verdict, PutsOrEnds, Verdict, Accepts, StopsOrEnds}
+use Rattle.pb_commands.specs.Judged.{refused_verdict, unless_refused, table_verdict}
+use Rattle.pb_commands.specs.ProbeShown.{ReadsBoth, WithSources}
+use Rattle.pb_commands.specs.declared.stop.Refused.{Refused}
+use Rattle.pb_commands.specs.declared.stop.Stopped.{Stopped}
+use Rattle.pb_commands.specs.declared.stop.Stopped.TheVariants as stopped
 use Rattle.pb_commands.proofs.Judging.{shows}
 
 -- where the input comes to this verdict

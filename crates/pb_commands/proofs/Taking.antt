@@ -1,5 +1,6 @@
 -- How a run stops at its inputs, and how it takes submissions.
-use Rattle.std.proofs.Common.{◌≡◌, ◌∙◌, ℕ, List, None, Some, Result, Ok, Err, ap, false, inl, inr, refl, subst, sym}
+use Rattle.std.proofs.Common.{◌≡◌, ◌∙◌, ℕ, List, None, Some, Result, Ok, Err, ap, false, inl, inr}
+use Rattle.std.proofs.Common.{refl, subst, sym}
 use Rattle.std.specs.Prelude.{⊤, IfErr, IfOk, IsErrAnd, MatchResult}
 use Rattle.pb_io.specs.Sink.{SinkState}
 use Rattle.pb_io.specs.Source.{SourceState}
@@ -10,18 +11,17 @@ use Rattle.pb_poly.proofs.Told.{found_table}
 use Rattle.pb_poly.specs.Streams.{at_end}
 use Rattle.pb_poly.specs.TableReading.{ReadsTable}
 use Rattle.pb_poly.specs.declared.table.TableFault.TheVariants as table
-use Rattle.pb_accepted.specs.Basis.{Basis}
+use Rattle.pb_accepted.specs.Rules.{Basis}
 use Rattle.pb_accepted.specs.Ledger.{LedgerState}
 use Rattle.pb_ledger.specs.Collecting.{CollectsStream, CollectsUntil}
-use Rattle.pb_ledger.specs.Journaling.{Gains, JournalsUntil}
-use Rattle.pb_ledger.specs.declared.totals.Totals.{Totals}
-use Rattle.pb_commands.specs.Refused.{Accepts, unless_refused}
-use Rattle.pb_commands.specs.declared.refusal.Refused.{Refused}
-use Rattle.pb_commands.specs.declared.refusal.Refused.TheVariants.{Table}
-use Rattle.pb_commands.specs.declared.refusal.Stopped.{Stopped}
-use Rattle.pb_commands.specs.declared.refusal.Stopped.TheVariants as stopped
-use Rattle.pb_commands.specs.Ends.{Change}
-use Rattle.pb_commands.specs.Runs.{OpensNone, StopsFor, Takes}
+use Rattle.pb_ledger.specs.Collecting.{Gains, JournalsUntil}
+use Rattle.pb_ledger.specs.declared.collecting.Totals.{Totals}
+use Rattle.pb_commands.specs.Judged.{Accepts, unless_refused}
+use Rattle.pb_commands.specs.declared.stop.Refused.{Refused}
+use Rattle.pb_commands.specs.declared.stop.Refused.TheVariants.{Table}
+use Rattle.pb_commands.specs.declared.stop.Stopped.{Stopped}
+use Rattle.pb_commands.specs.declared.stop.Stopped.TheVariants as stopped
+use Rattle.pb_commands.specs.Runs.{Change, MakesNoLedger, StopsFor, Takes}
 
 -- a ledger that differs from another one in its games alone
 pub same_but_games : (old new : LedgerState) → new.basis ≡ old.basis → new.cap ≡ old.cap → new ≡ record old { accepted = new.accepted }
@@ -62,7 +62,7 @@ stops_told tells (Err e) judged mid old new same stop is h =
 
 -- where there is no memory for the ledger, the bytes are a table
 pub no_ledger : (fills : ℕ) (old new : SourceState) (sink sink' : SinkState) (randoms : List ℕ) → ReadsTable fills old new (Ok randoms) → sink' ≡ sink
-    → OpensNone fills (record { old = old; new = new }) (record { old = sink; new = sink' }) (stopped.Fault Memory)
+    → MakesNoLedger fills (record { old = old; new = new }) (record { old = sink; new = sink' }) (stopped.Fault Memory)
 no_ledger fills old new sink sink' randoms reads same =
     let read = found_table fills old new randoms reads in (table.Fault of_read.Memory, inl (at_end, read.0, read.1, (randoms, read.2)), (Table (table.Fault of_read.Memory), refl, (refl, same)))
 

@@ -8,10 +8,8 @@ use Rattle.pb_poly.specs.declared.reading.BookError.{BookError}
 use Rattle.pb_poly.specs.declared.reading.BookError.TheVariants as book
 use Rattle.pb_poly.specs.declared.table.TableFault.{TableFault}
 use Rattle.pb_poly.specs.declared.table.TableFault.TheVariants as table
-use Rattle.pb_commands.specs.BookJudged.{book_verdict}
+use Rattle.pb_commands.specs.Judged.{book_verdict, TextsAreOf, table_verdict}
 use Rattle.pb_commands.specs.BookShown.{BookShown}
-use Rattle.pb_commands.specs.Laws.{TextsAreOf}
-use Rattle.pb_commands.specs.TableJudged.{table_verdict}
 
 module _ (fills : ℕ) (old new : SourceState) (bytes : List ℕ) (told : old.to_come ≡ Some bytes) where
   -- where a text is put, the bytes give it

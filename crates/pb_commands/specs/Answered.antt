@@ -7,13 +7,11 @@ use Rattle.pb_poly.specs.declared.book.Entry.{Entry}
 use Rattle.pb_games.specs.Submissions.{Submission}
 use Rattle.pb_accepted.specs.Accepting.{Answer, Run}
 use Rattle.pb_accepted.specs.Replying.{most_games}
-use Rattle.pb_accepted.specs.Replies.{reply_texts}
+use Rattle.pb_accepted.specs.Accepting.{reply_texts}
 use Rattle.pb_accepted.specs.Rules.{CountingRules}
-use Rattle.pb_commands.specs.Ends.{EndStates}
+use Rattle.pb_commands.specs.Runs.{EndStates, Headed, CollectRun}
 use Rattle.pb_commands.specs.Headline.{HasHeadline}
-use Rattle.pb_commands.specs.Run.{Headed}
-use Rattle.pb_commands.specs.Runs.{CollectRun}
-use Rattle.pb_commands.specs.declared.refusal.Stopped.{Stopped}
+use Rattle.pb_commands.specs.declared.stop.Stopped.{Stopped}
 use Rattle.pb_commands.specs.declared.run.Intake.{Intake}
 
 -- the replies R to lines L say answers, by which these games came to be held

@@ -1,11 +1,19 @@
 -- What the command `show` writes: a line for each entry of a book.
-use Rattle.std.specs.Prelude.{◌≡◌, ℕ, true, List, ◌∷◌, ◌++◌, Result, Ok, flat_map}
+use Rattle.std.specs.Prelude.{ℕ, zero, suc, ◌+◌, ◌/◌, ◌%◌, List, [], ◌∷◌, ◌++◌, if◌then◌else◌}
+use Rattle.std.specs.Prelude.{nat_lt, ◌≡◌, true, Result, Ok, flat_map}
 use Rattle.pb_board.specs.LineEnd.{with_end}
 use Rattle.pb_poly.specs.declared.book.Entry.{Entry}
 use Rattle.pb_poly.specs.declared.reading.BookError.{BookError}
-use Rattle.pb_commands.specs.BookJudged.{book_verdict}
-use Rattle.pb_commands.specs.Hexadecimal.{hexadecimal}
-use Rattle.pb_commands.specs.Judged.{ByInput, Verdict}
+use Rattle.pb_commands.specs.Judged.{book_verdict, ByInput, Verdict}
+
+-- the digit of a value below 16
+abbrev pub digit : ℕ → ℕ
+digit value = if nat_lt value 10 then 48 + value else 87 + value
+
+-- the last digits of a number, so many of them, in lower case
+unfoldable pub hexadecimal : ℕ → ℕ → List ℕ
+hexadecimal zero number = []
+hexadecimal (suc width) number = hexadecimal width (number / 16) ++ digit (number % 16) ∷ []
 
 -- key, code, weight and learn, one space between
 abbrev pub entry_line : Entry → List ℕ

@@ -10,15 +10,13 @@ use Rattle.pb_games.specs.Submissions.{Submission}
 use Rattle.pb_accepted.specs.Accepting.{Answer, Run}
 use Rattle.pb_accepted.specs.Replying.{most_games}
 use Rattle.pb_accepted.specs.Ledger.{LedgerState, new_ledger}
-use Rattle.pb_accepted.specs.Replies.{replies, reply_texts}
+use Rattle.pb_accepted.specs.Accepting.{replies, reply_texts}
 use Rattle.pb_accepted.specs.Rules.{CountingRules}
 use Rattle.pb_ledger.specs.Change.{across}
-use Rattle.pb_ledger.specs.Loading.{Loads}
-use Rattle.pb_commands.specs.Ends.{Change, EndStates}
+use Rattle.pb_ledger.specs.Saving.{Loads}
+use Rattle.pb_commands.specs.Runs.{Change, EndStates, Headed, ContinueRun}
 use Rattle.pb_commands.specs.Headline.{Effect, EndBytes}
-use Rattle.pb_commands.specs.Run.{Headed}
-use Rattle.pb_commands.specs.Runs.{ContinueRun}
-use Rattle.pb_commands.specs.declared.refusal.Stopped.{Stopped}
+use Rattle.pb_commands.specs.declared.stop.Stopped.{Stopped}
 use Rattle.pb_commands.specs.declared.run.Intake.{Intake}
 
 -- From games that were held first the lines of the submissions were answered, which left games, and

@@ -1,18 +1,22 @@
 -- What the command `epd` writes: for each line its one ordered form, or why it is refused.
 use Rattle.std.specs.Prelude.{◌≡◌, ◌⊎◌, ℕ, ◌<◌, ◌≤◌, true, List, [], ◌∷◌, ◌++◌, Result, Ok, Err}
-use Rattle.std.specs.Prelude.{length, All, codes, decimal}
+use Rattle.std.specs.Prelude.{length, All, codes, decimal, Bool}
 use Rattle.pb_board.specs.Words.{word_of}
 use Rattle.std.specs.Str.Lines.{strip_carriage_return}
 use Rattle.pb_board.specs.LineEnd.{with_end}
 use Rattle.pb_epd.specs.declared.refusal.EpdError.{EpdError}
 use Rattle.pb_epd.specs.declared.refusal.EpdError.TheVariants as epd
-use Rattle.pb_epd.specs.declared.refusal.EpdError.TheVariants.{Token, Fields, Setup}
-use Rattle.pb_epd.specs.declared.refusal.EpdError.TheVariants.{Opcode, Unended, Repeated}
+use Rattle.pb_epd.specs.declared.refusal.EpdError.TheVariants.{Token, Fields, Setup, Opcode}
+use Rattle.pb_epd.specs.declared.refusal.EpdError.TheVariants.{Unended, Repeated}
 use Rattle.pb_epd.specs.Epd.{EpdRecord, IsEpd, EpdText, epd_form}
 use Rattle.pb_epd.specs.Refusal.{IsFirstDueEpd}
 use Rattle.pb_io.specs.Lines.{line_limit}
 use Rattle.pb_io.specs.declared.fault.Fault.TheVariants.{Memory}
 use Rattle.pb_commands.specs.Judged.{ByInput, Verdict, refused_for}
+use Rattle.pb_io.specs.Source.{SourceState}
+use Rattle.pb_io.specs.Sink.{SinkState}
+use Rattle.pb_io.specs.declared.fault.Fault.{Fault}
+use Rattle.pb_commands.specs.LinesRun.{AnswersOrEnds}
 
 -- no byte but spaces
 abbrev pub IsBlank : List ℕ → Type 0
@@ -50,3 +54,8 @@ LineGives gives number line verdict =
 abbrev pub LineShown : ℕ → List ℕ → Verdict → Type 0
 LineShown = LineGives (λ number text verdict. ByInput (AsEpd text)
     (λ e. verdict ≡ Ok (true, with_end (epd_form e))) (λ x. verdict ≡ epd_verdict number x))
+
+-- how a run ends
+abbrev pub RewritesOrEnds : ℕ → SourceState → SourceState → SinkState → SinkState
+    → Result Bool Fault → Type 0
+RewritesOrEnds = AnswersOrEnds LineShown

@@ -10,10 +10,9 @@ use Rattle.pb_export.specs.Exporting as export
 use Rattle.pb_export.specs.Exporting.{ExportsUntil, fault_of_export}
 use Rattle.pb_export.specs.declared.exporting.ExportFault.{ExportFault}
 use Rattle.pb_ledger.specs.Change.{across}
-use Rattle.pb_commands.specs.declared.refusal.Stopped.{Stopped}
-use Rattle.pb_commands.specs.declared.refusal.Stopped.TheVariants as stopped
-use Rattle.pb_commands.specs.Ends.{Change, IsSame}
-use Rattle.pb_commands.specs.Runs.{Opens, OpensNone, Takes}
+use Rattle.pb_commands.specs.declared.stop.Stopped.{Stopped}
+use Rattle.pb_commands.specs.declared.stop.Stopped.TheVariants as stopped
+use Rattle.pb_commands.specs.Runs.{Change, IsSame, MakesLedger, MakesNoLedger, Takes}
 use Rattle.pb_commands.specs.declared.run.Report.{Report}
 use Rattle.pb_commands.specs.declared.run.Intake.{Intake}
 
@@ -29,16 +28,17 @@ ExportsTaken sink taken (Err fault) = ((taken.end ≡ Err fault) × IsSame sink)
 -- the submissions were taken, and their replies dropped, by a sink that doesn't fail
 abbrev pub TakesSilently : CountingRules → ℕ → Change SourceState → Change SourceState → Intake
     → Type 0
-TakesSilently rules fills table lines taken = (new : LedgerState) × Opens rules fills table new
-    × (replies : Change SinkState) × (replies.new.failed ≡ false)
-    × Takes fills lines replies new taken
+TakesSilently rules fills table lines taken = (new : LedgerState)
+    × MakesLedger rules fills table new × (replies : Change SinkState)
+    × (replies.new.failed ≡ false) × Takes fills lines replies new taken
 
 -- how a run ends: with an export of what was taken; or before a submission was read
 abbrev pub ExportRun : CountingRules → ℕ → Change SourceState → Change SourceState
     → Change SinkState → Result Report Stopped → Type 0
 ExportRun rules fills table lines sink (Ok report) = (taken : Intake)
     × TakesSilently rules fills table lines taken × ExportsTaken sink taken (Ok report)
-ExportRun rules fills table lines sink (Err why) = (OpensNone fills table sink why × IsSame lines)
+ExportRun rules fills table lines sink (Err why) =
+    (MakesNoLedger fills table sink why × IsSame lines)
     ⊎ ((taken : Intake) × TakesSilently rules fills table lines taken
     × (fault : Fault) × ExportsTaken sink taken (Err fault) × (why ≡ stopped.Fault fault))
 

@@ -1,16 +1,19 @@
 -- What the command `fen` writes.
-use Rattle.std.specs.Prelude.{◌≡◌, ◌⊎◌, ℕ, true, List, All, Ok}
-use Rattle.std.specs.List.{AllZip}
+use Rattle.std.specs.Prelude.{ℕ, List, map, ◌≡◌, ◌⊎◌, true, All, Ok}
+use Rattle.std.specs.Borrow.{Bor}
+pub use Rattle.std.specs.List.{AllZip}
 use Rattle.pb_board.specs.Position.{Record}
 use Rattle.pb_board.specs.LineEnd.{with_end}
-use Rattle.pb_board.specs.Refusal.{BreaksAt}
-use Rattle.pb_board.specs.Text.{fen_text}
-use Rattle.pb_moves.specs.Moved.{Moved}
-use Rattle.pb_moves.specs.Played.{Spells, IsSpelled, Plays}
-use Rattle.pb_commands.specs.Judged.{ByInput, Verdict}
-use Rattle.pb_commands.specs.RecordJudged.{AsRecord, record_verdict}
-use Rattle.pb_commands.specs.Refused.{refused_verdict}
-use Rattle.pb_commands.specs.declared.refusal.Refused.TheVariants.{Spelling, Illegal}
+pub use Rattle.pb_board.specs.Refusal.{BreaksAt}
+pub use Rattle.pb_board.specs.Text.{fen_text}
+pub use Rattle.pb_moves.specs.Moved.{Moved}
+pub use Rattle.pb_moves.specs.Played.{IsSpelled, Plays, Spells}
+use Rattle.pb_commands.specs.Judged.{ByInput, Verdict, AsRecord, record_verdict, refused_verdict}
+use Rattle.pb_commands.specs.declared.stop.Refused.TheVariants.{Spelling, Illegal}
+
+-- the bytes behind references, each by itself
+abbrev pub texts : List (Bor (List ℕ)) → List (List ℕ)
+texts = map (λ part. part.now)
 
 -- the moves may be played in turn
 abbrev pub MayPlay : Record → List Moved → Type 0

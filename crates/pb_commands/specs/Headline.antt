@@ -4,17 +4,17 @@
 use Rattle.std.specs.Prelude.{◌≡◌, ℕ, ◌↔◌, List, [], ◌∷◌, ◌++◌}
 use Rattle.std.specs.List.{flat_map}
 use Rattle.std.specs.Io.KnownBytes.{Appends}
-use Rattle.pb_io.specs.Lines.{lines}
+pub use Rattle.pb_io.specs.Lines.{lines}
 use Rattle.pb_io.specs.Source.{HandsOut}
 use Rattle.pb_poly.specs.Book.{BookBytes}
 use Rattle.pb_poly.specs.Table.{IsTableFile}
 use Rattle.pb_poly.specs.declared.book.Entry.{Entry}
-use Rattle.pb_games.specs.Submissions.{Submission}
-use Rattle.pb_accepted.specs.Basis.{Basis}
+pub use Rattle.pb_games.specs.Submissions.{Submission}
+pub use Rattle.pb_accepted.specs.Rules.{Basis}
 use Rattle.pb_accepted.specs.Counting.{IsBookOf}
 use Rattle.pb_accepted.specs.Replying.{AreNumbered, Replies, most_games, ok}
 use Rattle.pb_accepted.specs.Rules.{AreRules, CountingRules}
-use Rattle.pb_commands.specs.Ends.{EndStates}
+use Rattle.pb_commands.specs.Runs.{EndStates}
 
 -- What is made of lines with their replies, wherever the lines came from: the games that are held
 -- in the end, the entries of their book, and its bytes.

@@ -1,16 +1,15 @@
 -- What runs keep at the stores of a ledger and of a book.
-use Rattle.std.specs.Prelude.{◌≡◌, ◌⊎◌, ◌-◌, ◌^◌, ℕ, List, MatchResult, Result, Ok, Err}
-use Rattle.std.specs.Prelude.{IfOk, length, min}
-use Rattle.pb_poly.specs.Book.{book_bytes}
+use Rattle.std.specs.Prelude.{◌≡◌, ◌⊎◌, ◌-◌, ◌^◌, ℕ, List, MatchResult, Result, Ok, Err, IfOk}
+use Rattle.std.specs.Prelude.{length, min}
+pub use Rattle.pb_poly.specs.Book.{book_bytes}
 use Rattle.pb_poly.specs.declared.book.Entry.{Entry}
 use Rattle.pb_ledger.specs.Change.{across}
-use Rattle.pb_ledger.specs.Saving.{Saved}
-use Rattle.pb_ledger.specs.declared.totals.Totals.{Totals}
+pub use Rattle.pb_ledger.specs.Saving.{Saved}
+use Rattle.pb_ledger.specs.declared.collecting.Totals.{Totals}
 use Rattle.pb_io.specs.declared.fault.Fault.{Fault}
-use Rattle.pb_commands.specs.declared.refusal.Stopped.{Stopped}
-use Rattle.pb_commands.specs.Ends.{Change, IsSame}
-use Rattle.pb_commands.specs.Run.{MakesBook}
-use Rattle.pb_commands.specs.Stop.{stop_of, stop_of_store}
+use Rattle.pb_commands.specs.declared.stop.Stopped.{Stopped}
+use Rattle.pb_commands.specs.Runs.{Change, IsSame, MakesBook}
+use Rattle.pb_commands.specs.Judged.{stop_of, stop_of_store}
 use Rattle.pb_commands.specs.Store.{KeepsBytes, StoreState}
 use Rattle.pb_commands.specs.declared.stop.Stop.{Stop}
 use Rattle.pb_commands.specs.declared.run.Report.{Report}

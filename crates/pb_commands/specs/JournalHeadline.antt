@@ -9,16 +9,14 @@ use Rattle.pb_poly.specs.declared.book.Entry.{Entry}
 use Rattle.pb_games.specs.Submissions.{Submission}
 use Rattle.pb_accepted.specs.Accepting.{Answer}
 use Rattle.pb_accepted.specs.Replying.{Arrives, IsNumber, most_games}
-use Rattle.pb_accepted.specs.Replies.{replies}
+use Rattle.pb_accepted.specs.Accepting.{replies}
 use Rattle.pb_accepted.specs.Rules.{CountingRules}
 use Rattle.pb_ledger.specs.Change.{across}
 use Rattle.pb_ledger.specs.Journal.{GameLines, Journals, mending}
-use Rattle.pb_ledger.specs.Streams.{Puts}
+use Rattle.pb_ledger.specs.Change.{Puts}
 use Rattle.pb_commands.specs.ContinueHeadline.{GoesOn}
-use Rattle.pb_commands.specs.Ends.{Change, EndStates, IsSame, JournalStates}
-use Rattle.pb_commands.specs.Run.{Headed}
-use Rattle.pb_commands.specs.Runs.{JournalRun}
-use Rattle.pb_commands.specs.declared.refusal.Stopped.{Stopped}
+use Rattle.pb_commands.specs.Runs.{Change, EndStates, IsSame, JournalStates, Headed, JournalRun}
+use Rattle.pb_commands.specs.declared.stop.Stopped.{Stopped}
 use Rattle.pb_commands.specs.declared.run.Intake.{Intake}
 
 -- The games of the journal, of which its source handed out all bytes, were held first: its own

@@ -1,6 +1,6 @@
 -- What the command `lookup` writes: for each line the moves that a book has for its position, or
 -- why it has none.
-use Rattle.std.specs.Prelude.{◌≡◌, ℕ, List, [], ◌∷◌, Result, codes, map}
+use Rattle.std.specs.Prelude.{◌≡◌, ℕ, List, [], ◌∷◌, Result, codes, map, Bool}
 use Rattle.std.specs.List.{join_with_byte}
 use Rattle.pb_board.specs.LineEnd.{with_end}
 use Rattle.pb_moves.specs.Moved.{Moved}
@@ -8,11 +8,15 @@ use Rattle.pb_poly.specs.declared.book.Entry.{Entry}
 use Rattle.pb_poly.specs.declared.reading.BookError.{BookError}
 use Rattle.pb_poly.specs.declared.table.TableFault.{TableFault}
 use Rattle.pb_commands.specs.EpdShown.{AsEpd, LineGives, epd_verdict}
-use Rattle.pb_commands.specs.Judged.{ByInput, Verdict}
-use Rattle.pb_commands.specs.LinesShown.{LinesShown}
-use Rattle.pb_commands.specs.ProbeShown.{FoundShown, found_text}
-use Rattle.pb_commands.specs.RecordJudged.{AsRecord}
-use Rattle.pb_commands.specs.WithBook.{WithBook}
+use Rattle.pb_commands.specs.Judged.{ByInput, Verdict, AsRecord, StopsOrEnds}
+use Rattle.pb_commands.specs.LinesRun.{LinesShown, AnswersOrEnds}
+use Rattle.pb_commands.specs.ProbeShown.{FoundShown, found_text, WithBook, WithSources}
+use Rattle.std.specs.Result.{result_map_both}
+use Rattle.pb_io.specs.Sink.{SinkState}
+use Rattle.pb_io.specs.Source.{SourceState}
+use Rattle.pb_io.specs.declared.fault.Fault.{Fault}
+use Rattle.pb_commands.specs.declared.stop.Stopped.{Stopped}
+use Rattle.pb_commands.specs.declared.stop.Stopped.TheVariants as stopped
 
 -- the moves with their weights, a space between all, or that there is none
 abbrev pub moves_line : List (Moved × ℕ) → List ℕ
@@ -33,3 +37,13 @@ abbrev pub LookupShown : (Result (List ℕ) TableFault → Type 0)
 LookupShown table book ls verdict = WithBook table book
     (λ words entries. LinesShown (LineFound words entries) 1 ls verdict)
     (λ refusal. verdict ≡ refusal)
+
+-- How a run ends. The table is read, then the book, and then the lines are answered. What comes
+-- after the first that can't be had is left alone.
+abbrev pub LooksUp : ℕ → SourceState → SourceState → SourceState → SourceState → SourceState
+    → SourceState → SinkState → SinkState → Result Bool Stopped → Type 0
+LooksUp fills t t' b b' s s' sink sink' result =
+    WithSources fills t t' b b' (λ words entries. (ended : Result Bool Fault)
+    × AnswersOrEnds (LineFound words entries) fills s s' sink sink' ended
+    × (result ≡ result_map_both (λ answer. answer) (λ fault. stopped.Fault fault) ended))
+    (λ refusal. (s' ≡ s) × StopsOrEnds (λ verdict. verdict ≡ refusal) sink sink' result)

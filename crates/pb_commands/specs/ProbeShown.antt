@@ -1,21 +1,50 @@
 -- What the command `probe` writes: a line for each move that a book has for a position.
-use Rattle.std.specs.Prelude.{◌≡◌, ◌⊎◌, ℕ, true, List, ◌∷◌, ◌++◌, OnErr}
-use Rattle.std.specs.Prelude.{Result, Ok, Err, decimal, flat_map}
+use Rattle.std.specs.Prelude.{◌≡◌, ℕ, List, OnErr, Result, Ok, Err, ◌⊎◌, true, ◌∷◌, ◌++◌, decimal}
+use Rattle.std.specs.Prelude.{flat_map}
+use Rattle.pb_io.specs.Sink.{SinkState}
+use Rattle.pb_io.specs.Source.{SourceState}
+use Rattle.pb_poly.specs.Reading.{ReadsBook}
+use Rattle.pb_poly.specs.TableReading.{ReadsTable}
+use Rattle.pb_poly.specs.declared.book.Entry.{Entry}
+use Rattle.pb_poly.specs.declared.reading.BookError.{BookError}
+use Rattle.pb_poly.specs.declared.table.TableFault.{TableFault}
+use Rattle.pb_commands.specs.Judged.{book_verdict, ByInput, Verdict, StopsOrEnds, table_verdict}
+use Rattle.pb_commands.specs.Judged.{AsRecord, record_verdict}
+use Rattle.pb_commands.specs.declared.probe.Finder.{Finder}
+use Rattle.pb_commands.specs.declared.stop.Stopped.{Stopped}
 use Rattle.pb_board.specs.Position.{Position}
 use Rattle.pb_board.specs.LineEnd.{with_end}
 use Rattle.pb_moves.specs.Moved.{Moved}
 use Rattle.pb_moves.specs.Spelling.{spelling}
-use Rattle.pb_io.specs.Source.{SourceState}
-use Rattle.pb_poly.specs.declared.book.Entry.{Entry}
-use Rattle.pb_poly.specs.declared.reading.BookError.{BookError}
-use Rattle.pb_poly.specs.declared.table.TableFault.{TableFault}
 use Rattle.pb_poly.specs.Found.{Found}
-use Rattle.pb_poly.specs.Reading.{ReadsBook}
-use Rattle.pb_poly.specs.TableReading.{ReadsTable}
 use Rattle.pb_io.specs.declared.fault.Fault.TheVariants.{Memory}
-use Rattle.pb_commands.specs.Judged.{ByInput, Verdict}
-use Rattle.pb_commands.specs.RecordJudged.{AsRecord, record_verdict}
-use Rattle.pb_commands.specs.WithBook.{WithBook}
+
+-- ---- a table and a book
+
+-- The table is judged first and the book second. Where both are had this is so of them, and else
+-- that of what comes of the first that isn't.
+abbrev pub WithBook : (Result (List ℕ) TableFault → Type 0)
+    → (Result (List Entry) BookError → Type 0) → (List ℕ → List Entry → Type 0)
+    → (Verdict → Type 0) → Type 0
+WithBook table book goes ends =
+    ByInput table (λ words. ByInput book (goes words) (λ e. ends (book_verdict e)))
+    (λ e. ends (table_verdict e))
+
+-- the same over the states of the table's source and of the book's, which is left alone where there
+-- is no table
+abbrev pub WithSources : ℕ → SourceState → SourceState → SourceState → SourceState
+    → (List ℕ → List Entry → Type 0) → (Verdict → Type 0) → Type 0
+WithSources fills t t' b b' =
+    WithBook (λ table. ReadsTable fills t t' table × OnErr table (b' ≡ b)) (ReadsBook fills b b')
+
+-- both were read, and the sink was left alone; or it was shown why the first that can't be had is
+-- refused, or a fault came
+abbrev pub ReadsBoth : ℕ → SourceState → SourceState → SourceState → SourceState → SinkState
+    → SinkState → Result Finder Stopped → Type 0
+ReadsBoth fills t t' b b' sink sink' (Ok finder) = ReadsTable fills t t' (Ok finder.table)
+    × ReadsBook fills b b' (Ok finder.book) × (sink' ≡ sink)
+ReadsBoth fills t t' b b' sink sink' (Err stop) = WithSources fills t t' b b' (λ words entries. ⊥)
+    (λ refusal. StopsOrEnds (λ verdict. verdict ≡ refusal) sink sink' (Err stop))
 
 -- the move and its weight, a space between
 abbrev pub found_text : Moved × ℕ → List ℕ

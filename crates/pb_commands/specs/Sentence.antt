@@ -5,9 +5,9 @@ use Rattle.std.specs.Prelude.{codes, length, slice_get, take}
 use Rattle.pb_poly.specs.Book.{BookBytes}
 use Rattle.pb_poly.specs.declared.book.Entry.{Entry}
 use Rattle.pb_games.specs.Submissions.{Submission}
-use Rattle.pb_accepted.specs.Basis.{Basis}
+use Rattle.pb_accepted.specs.Rules.{Basis}
 use Rattle.pb_accepted.specs.Counting.{IsBookOf}
-use Rattle.pb_accepted.specs.Laws.{NoRepeats}
+use Rattle.pb_accepted.specs.Accepting.{NoRepeats}
 use Rattle.pb_accepted.specs.Replying.{Arrives, IsAccepted, IsNewId, Replies, most_games, ok}
 use Rattle.pb_accepted.specs.Replying.{refused}
 use Rattle.pb_commands.specs.Headline.{Effect}

@@ -1,7 +1,6 @@
 -- A store where a text is kept, such as that of a book, as a file is, and what writing and keeping
 -- one does.
-use Rattle.std.specs.Prelude.{◌≡◌, ◌⊎◌, ℕ, List, Option, Some, Result, IfErr, IfOk, OnOk}
-use Rattle.std.specs.Prelude.{take}
+use Rattle.std.specs.Prelude.{◌≡◌, ◌⊎◌, ℕ, List, Option, Some, Result, IfErr, IfOk, OnOk, take}
 use Rattle.std.specs.Result.{result_err}
 use Rattle.pb_export.specs.declared.exporting.ExportFault.{ExportFault}
 use Rattle.pb_export.specs.declared.exporting.ExportFault.TheVariants as fault

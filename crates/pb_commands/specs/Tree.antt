@@ -1,21 +1,27 @@
--- What the command `tree` writes: the moves that a book has for a position, each with its weight and
--- share, and below each those that the book has after it.
+-- What the command `tree` writes: the moves that a book has for a position, each with its weight
+-- and share, and below each those that the book has after it.
 use Rattle.std.specs.Prelude.{◌≡◌, ◌⊎◌, ℕ, zero, suc, ◌+◌, ◌*◌, ◌/◌, List, [], ◌∷◌, ◌++◌, codes}
 use Rattle.std.specs.Prelude.{IfErr, OnErr, OnOk, Result, decimal, filter, nat_le, sum_by, take}
-use Rattle.std.specs.Prelude.{true}
+use Rattle.std.specs.Prelude.{true, Bool}
 use Rattle.std.specs.Io.KnownBytes.{Appends}
 use Rattle.std.specs.List.{repeat}
-use Rattle.pb_board.specs.LineEnd.{with_end}
+pub use Rattle.pb_board.specs.LineEnd.{with_end}
 use Rattle.pb_board.specs.Position.{Position}
 use Rattle.pb_moves.specs.Moved.{Moved}
 use Rattle.pb_moves.specs.Successor.{after}
+pub use Rattle.pb_io.specs.Sink.{Put}
 use Rattle.pb_io.specs.Sink.{SinkState}
 use Rattle.pb_io.specs.declared.fault.Fault.{Fault}
 use Rattle.pb_io.specs.declared.fault.Fault.TheVariants.{Write, Memory}
 use Rattle.pb_poly.specs.declared.book.Entry.{Entry}
 use Rattle.pb_poly.specs.Found.{Found}
-use Rattle.pb_commands.specs.Judged.{HandedOnOnce}
-use Rattle.pb_commands.specs.ProbeShown.{found_text}
+use Rattle.pb_io.specs.Sink.{HandedOnOnce}
+use Rattle.pb_commands.specs.Judged.{ByInput, AsRecord, record_verdict, StopsOrEnds}
+use Rattle.pb_commands.specs.ProbeShown.{found_text, WithSources}
+use Rattle.std.specs.Result.{result_map_both}
+use Rattle.pb_io.specs.Source.{SourceState}
+use Rattle.pb_commands.specs.declared.stop.Stopped.{Stopped}
+use Rattle.pb_commands.specs.declared.stop.Stopped.TheVariants as stopped
 
 -- the weights of all these moves together
 abbrev pub sum_of_weights : List (Moved × ℕ) → ℕ
@@ -84,3 +90,16 @@ pub record ShowsTree (is : List ℕ → Type 0) (sink sink' : SinkState)
   pub front : OnErr result (PutsFrontOf is sink sink')
   pub fault : IfErr result (FailsOrWants sink sink')
   pub flushes : OnErr result (sink'.flushes ≡ sink.flushes)
+
+-- How a run ends. The table is read, then the book, and then the record is judged, as by `probe`.
+-- The tree of the record's setup is shown, so many plies deep, over moves of no less than this
+-- weight.
+abbrev pub GrowsTree : ℕ → SourceState → SourceState → SourceState → SourceState → List ℕ → ℕ → ℕ
+    → SinkState → SinkState → Result Bool Stopped → Type 0
+GrowsTree fills t t' b b' fen plies least sink sink' result =
+    WithSources fills t t' b b' (λ words entries. ByInput (AsRecord fen)
+    (λ f. (ended : Result (Unit {0}) Fault)
+    × ShowsTree (Tree words entries least plies 0 f.setup) sink sink' ended
+    × (result ≡ result_map_both (λ _. true) (λ fault. stopped.Fault fault) ended))
+    (λ e. StopsOrEnds (λ verdict. verdict ≡ record_verdict e) sink sink' result))
+    (λ refusal. StopsOrEnds (λ verdict. verdict ≡ refusal) sink sink' result)

@@ -1,12 +1,11 @@
 //! The command `check`: each line submits a legal game, or is refused.
 
 ghost use Rattle.std.specs.Prelude.{◌≡◌, ◌≤◌, Err, Ok, false, length};
-ghost use Rattle.pb_accepted.specs.Replies.{named, reply_line};
-ghost use Rattle.pb_commands.specs.CheckRun.{ChecksOrEnds};
-ghost use Rattle.pb_commands.specs.LineAnswer.{PutsOrStops};
+ghost use Rattle.pb_commands.specs.CheckShown.{CheckShown, ChecksOrEnds};
+ghost use Rattle.pb_accepted.specs.Accepting.{named, reply_line};
+ghost use Rattle.pb_commands.specs.LinesRun.{PutsOrStops};
 
-use crate::line_answer::LineAnswer;
-use crate::lines::answer_lines;
+use crate::lines::{LineAnswer, answer_lines};
 use pb_io::{Fault, Sink, Source, put_pieces};
 use pb_ledger::{Refusal, Reply, Watcher, check_line};
 use std::alloc::Global;
@@ -17,8 +16,6 @@ struct Checker<'w, Watch> {
 }
 
 impl<Watch: Watcher> LineAnswer for Checker<'_, Watch> {
-    ghost use Rattle.pb_commands.specs.CheckShown.{CheckShown};
-
     ghost shows = { λ _ _. CheckShown };
 
     fn answer<K: Sink>(

@@ -2,16 +2,13 @@
 
 ghost use Rattle.std.specs.Prelude.{MatchResult};
 ghost use Rattle.pb_commands.specs.ContinueHeadline.{ContinueTheorem};
-ghost use Rattle.pb_commands.specs.Ends.{EndStates, IsSame, between, states};
+ghost use Rattle.pb_commands.specs.Runs.{EndStates, IsSame, between, states, Answers};
+ghost use Rattle.pb_commands.specs.Runs.{MakesContinued, HoldsSaved, HoldsNone};
 ghost use Rattle.pb_commands.specs.Into.{Into, KeepsBoth};
-ghost use Rattle.pb_commands.specs.Run.{Answers, MakesContinued};
-ghost use Rattle.pb_commands.specs.Runs.{HoldsSaved, HoldsNone};
 
-use crate::ends::{Ends, LedgerEnds};
-use crate::keeping::keep_book;
-use crate::refusal::{Refused, Stopped, accept, unless_refused};
-use crate::run::{Intake, Report, book_of, open, take};
-use crate::stop::Stop;
+use crate::collect::keep_book;
+use crate::run::{Ends, Intake, LedgerEnds, Report, book_of, make_ledger, take_submissions};
+use crate::stop::{Refused, Stop, Stopped, accept, unless_refused};
 use crate::store::Store;
 use pb_io::{Fault, Sink, Source};
 use pb_ledger::{Ledger, MapTally, Rules, Watcher, load};
@@ -55,7 +52,7 @@ pub fn run_continue<Table: Source, Saved: Source, In: Source, Out: Sink>(
     let Some(ledger) = unless_refused(began)? else {
         return Ok(None);
     };
-    let taken = take(alloc, ledger, source, sink, &mut (), fills);
+    let taken = take_submissions(alloc, ledger, source, sink, &mut (), fills);
     let book = book_of(alloc, &taken);
     Ok(Some(Continued {
         ledger: taken.ledger,
@@ -78,7 +75,7 @@ fn load_first<Table: Source, Saved: Source, Out: Sink>(
         MatchResult result (λ held. HoldsSaved rules fills file earlier held × IsSame sink)
         (HoldsNone rules fills file earlier sink) }
 {
-    let mut ledger = open(alloc, rules, table, replies, fills)?;
+    let mut ledger = make_ledger(alloc, rules, table, replies, fills)?;
     let loaded = load(alloc, saved, &mut ledger, fills);
     accept(replies, loaded.map_err(Refused::Ledger))?;
     Ok(ledger)
@@ -121,7 +118,7 @@ pub fn continue_into<
         &mut ends.replies,
         fills,
     )?;
-    let taken = take(
+    let taken = take_submissions(
         alloc,
         began,
         &mut ends.lines,

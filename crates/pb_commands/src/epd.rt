@@ -1,13 +1,15 @@
 //! The command `epd`: each EPD line is written in its one ordered form, or refused.
-ghost use Rattle.pb_commands.specs.EpdRun.{RewritesOrEnds};
 
-use crate::line_answer::LineAnswer;
-use crate::line_refusal::{is_blank, put_refusal, refuse_line};
-use crate::lines::answer_lines;
-use crate::output::put_line;
+ghost use Rattle.pb_commands.specs.EpdShown.{RewritesOrEnds, IsBlank, epd_verdict, refused_line};
+ghost use Rattle.pb_commands.specs.EpdShown.{LineShown};
+ghost use Rattle.std.specs.Prelude.{◌≡◌, ◌↔◌, ◌++◌, IsTrue, decimal};
+ghost use Rattle.pb_commands.specs.LinesRun.{PutsOrStops};
+
+use crate::lines::{LineAnswer, answer_lines};
+use itoa::Buffer;
 use pb_board::without_return;
-use pb_epd::{read_epd, write_epd};
-use pb_io::{Fault, Sink, Source};
+use pb_epd::{EpdError, read_epd, write_epd};
+use pb_io::{Fault, Sink, Source, put_pieces};
 use std::alloc::Global;
 
 #[derive(Drop)]
@@ -16,8 +18,6 @@ struct Rewriter {
 }
 
 impl LineAnswer for Rewriter {
-    ghost use Rattle.pb_commands.specs.EpdShown.{LineShown};
-
     ghost shows = { λ _. LineShown };
 
     fn answer<K: Sink>(
@@ -36,7 +36,7 @@ impl LineAnswer for Rewriter {
         match read_epd(self.alloc, text) {
             Ok(epd) => {
                 let form = write_epd(self.alloc, &epd)?;
-                put_line(sink, &[form.as_slice()])?;
+                put_pieces(sink, &[form.as_slice()], b"\n")?;
                 Ok(true)
             }
             Err(error) => put_refusal(sink, number, error),
@@ -56,4 +56,59 @@ pub fn run_epd<S: Source, K: Sink>(
         (K.state sink.old) (K.state sink.new) result }
 {
     answer_lines(alloc, source, sink, Rewriter { alloc }, fills)
+}
+
+pub(crate) fn is_blank(text: &[u8]) -> bool
+    ensures { IsTrue result ↔ IsBlank text.now }
+{
+    text.iter().all(|byte| *byte == b' ')
+}
+
+/// Answers that the line was refused, or puts nothing where memory was wanting.
+pub(crate) fn put_refusal<K: Sink>(
+    sink: &mut K,
+    number: u64,
+    error: EpdError,
+) -> Result<bool, Fault>
+    ensures { PutsOrStops (λ verdict. verdict ≡ epd_verdict number error) (K.state sink.old)
+        (K.state sink.new) result }
+{
+    match error {
+        EpdError::Token(at) => refuse_at(sink, number, b"token ", at),
+        EpdError::Fields => refuse_line(sink, number, b"fields", b""),
+        EpdError::Setup(refusal) => {
+            refuse_line(sink, number, b"setup ", refusal.word().as_bytes())
+        }
+        EpdError::Opcode(index) => refuse_at(sink, number, b"opcode ", index),
+        EpdError::Unended => refuse_line(sink, number, b"unended", b""),
+        EpdError::Repeated(index) => refuse_at(sink, number, b"repeated ", index),
+        EpdError::Memory => Err(Fault::Memory),
+    }
+}
+
+fn refuse_at<K: Sink>(sink: &mut K, number: u64, why: &[u8], index: usize) -> Result<bool, Fault>
+    ensures { PutsOrStops (λ verdict. verdict ≡ refused_line number (why.now ++ decimal index))
+        (K.state sink.old) (K.state sink.new) result }
+{
+    let mut buffer = Buffer::new();
+    refuse_line(sink, number, why, buffer.format(index).as_bytes())
+}
+
+pub(crate) fn refuse_line<K: Sink>(
+    sink: &mut K,
+    number: u64,
+    why: &[u8],
+    at: &[u8],
+) -> Result<bool, Fault>
+    ensures { PutsOrStops (λ verdict. verdict ≡ refused_line number (why.now ++ at.now))
+        (K.state sink.old) (K.state sink.new) result }
+{
+    let mut buffer = Buffer::new();
+    let digits = buffer.format(number);
+    put_pieces(
+        sink,
+        &[b"refused ", digits.as_bytes(), b" ", why, at],
+        b"\n",
+    )?;
+    Ok(false)
 }

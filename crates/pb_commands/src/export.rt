@@ -1,16 +1,13 @@
 //! The command `export`: the book of submissions as EPD lines.
 
-ghost use Rattle.std.specs.Prelude.{◌≡◌, IfErr, Result, is_some};
+ghost use Rattle.std.specs.Prelude.{◌≡◌, Result, is_some};
 ghost use Rattle.std.specs.Result.{result_map_both};
-ghost use Rattle.pb_commands.specs.Refused.{unless_refused};
-ghost use Rattle.pb_commands.specs.declared.refusal.Stopped.{Stopped};
-ghost use Rattle.pb_commands.specs.declared.refusal.Stopped.TheVariants as stopped;
-ghost use Rattle.pb_commands.specs.Ends.{between};
-ghost use Rattle.pb_commands.specs.ExportRun.{BlamesSink, ExportRun};
-ghost use Rattle.pb_commands.specs.declared.run.Report.{Report};
+ghost use Rattle.pb_commands.specs.Judged.{unless_refused};
+ghost use Rattle.pb_commands.specs.Runs.{between};
+ghost use Rattle.pb_commands.specs.ExportRun.{ExportRun, ExportsTaken};
 
-use crate::refusal::{Stopped, unless_refused};
-use crate::run::{Report, open, take};
+use crate::run::{Intake, Report, make_ledger, take_submissions};
+use crate::stop::{Stopped, unless_refused};
 use pb_io::{Fault, NullSink, Sink, Source};
 use pb_ledger::{Rules, Watcher, export};
 use std::alloc::Global;
@@ -30,12 +27,10 @@ pub fn run_export<Table: Source, In: Source, Out: Sink>(
     sink: &mut Out,
     fills: u32,
 ) -> Result<bool, Fault>
-    ensures ends { (made : Result Report Stopped) × ExportRun rules fills
+    ensures { (made : Result Report Stopped) × ExportRun rules fills
         (between Table.state table_source.old table_source.new)
         (between In.state source.old source.new) (between Out.state sink.old sink.new) made
         × (result ≡ result_map_both is_some (λ fault. fault) (unless_refused made)) }
-    ensures blame { IfErr result (λ fault.
-        BlamesSink (between Out.state sink.old sink.new) (stopped.Fault fault)) }
 {
     let made = export_submissions(alloc, rules, table_source, source, sink, &mut (), fills);
     Ok(unless_refused(made)?.is_some())
@@ -56,15 +51,21 @@ pub fn export_submissions<Table: Source, In: Source, Out: Sink, Watch: Watcher>(
     watcher: &mut Watch,
     fills: u32,
 ) -> Result<Report, Stopped>
-    ensures ends { ExportRun rules fills (between Table.state table.old table.new)
+    ensures { ExportRun rules fills (between Table.state table.old table.new)
         (between In.state lines.old lines.new) (between Out.state sink.old sink.new) result }
-    ensures blame { IfErr result (BlamesSink (between Out.state sink.old sink.new)) }
 {
-    let ledger = open(alloc, rules, table, sink, fills)?;
+    let ledger = make_ledger(alloc, rules, table, sink, fills)?;
     let mut nobody = NullSink::default();
-    let taken = take(alloc, ledger, lines, &mut nobody, watcher, fills);
+    let taken = take_submissions(alloc, ledger, lines, &mut nobody, watcher, fills);
+    export_taken(alloc, &taken, sink).map_err(Stopped::Fault)
+}
+
+/// Exports what was taken, if no fault ended that.
+fn export_taken<Out: Sink>(alloc: Global, taken: &Intake, sink: &mut Out) -> Result<Report, Fault>
+    ensures { ExportsTaken (between Out.state sink.old sink.new) taken.now result }
+{
     let totals = taken.end?;
-    let count = export(alloc, &taken.ledger, sink).map_err(Fault::from)?;
+    let count = export(alloc, &taken.ledger, sink)?;
     Ok(Report {
         totals,
         entries: u64::from(count),

@@ -1,21 +1,13 @@
 //! The command `fen`: moves are played from a FEN record, and the record after them is written.
-ghost use Rattle.std.specs.List.{AllZip};
 ghost use Rattle.std.specs.Prelude.{◌≡◌, All, List, MatchOption, MatchResult, Ok, true};
 ghost use Rattle.pb_board.specs.Position.{IsRecord};
-ghost use Rattle.pb_board.specs.LineEnd.{with_end};
-ghost use Rattle.pb_board.specs.Refusal.{BreaksAt};
-ghost use Rattle.pb_board.specs.Text.{fen_text};
 ghost use Rattle.pb_moves.specs.Clocks.{record_after as next_record};
 ghost use Rattle.pb_moves.specs.Legal.{Legal};
-ghost use Rattle.pb_moves.specs.Moved.{Moved};
-ghost use Rattle.pb_moves.specs.Played.{IsSpelled, Plays, Spells};
-ghost use Rattle.pb_commands.specs.Line.{texts};
-ghost use Rattle.pb_commands.specs.FenShown.{FenShown, MayPlay};
-ghost use Rattle.pb_commands.specs.Judged.{PutsOrEnds};
-ghost use Rattle.pb_commands.specs.Refused.{StopsOrEnds, refused_verdict};
+ghost use Rattle.pb_commands.specs.FenShown.{texts, FenShown, MayPlay, AllZip, BreaksAt, fen_text};
+ghost use Rattle.pb_commands.specs.FenShown.{Moved, IsSpelled, Plays, Spells};
+ghost use Rattle.pb_commands.specs.Judged.{PutsOrEnds, StopsOrEnds, refused_verdict, with_end};
 
-use crate::output::show_line;
-use crate::refusal::{Refused, Stopped, accept, unless_refused};
+use crate::stop::{Refused, Stopped, accept, show_line, unless_refused};
 use pb_board::{Fen, read_fen};
 use pb_io::{Fault, Sink};
 use pb_moves::{advance, read_move};

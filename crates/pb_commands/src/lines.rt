@@ -1,10 +1,37 @@
 //! Streams of lines, each of which is answered.
-ghost use Rattle.std.specs.Prelude.{◌≡◌, true};
-ghost use Rattle.pb_commands.specs.LinesRun.{AnswersOrEnds};
 
-use crate::line_answer::LineAnswer;
+ghost use Rattle.std.specs.Prelude.{List, ℕ, ◌≡◌, true};
+ghost use Rattle.pb_commands.specs.Judged.{Verdict};
+ghost use Rattle.pb_io.specs.LineTask.{either};
+ghost use Rattle.pb_commands.specs.LinesRun.{AnswersLine, PutsOrStops, AnswersOrEnds};
+ghost use Rattle.pb_io.specs.Lines.{IsLine};
+
 use pb_io::{Fault, LineTask, Sink, Source, take_lines};
 use std::alloc::Global;
+
+/// Answers lines, each by what is put for it.
+pub(crate) trait LineAnswer: Drop {
+    /// What a line comes to, by its number, from 1, and its bytes. No answer changes it.
+    ghost shows: { Self → ℕ → List ℕ → Verdict → Type 0 };
+
+    /// Puts what the line of this number gives, and answers whether it was taken. A line of more
+    /// than `LINE_LIMIT` bytes isn't kept.
+    ///
+    /// # Errors
+    ///
+    /// The sink has failed, or memory was wanting and nothing was put.
+    fn answer<K: Sink>(
+        &mut self,
+        sink: &mut K,
+        number: u64,
+        line: Option<&[u8]>,
+    ) -> Result<bool, Fault>
+        ensures puts { (whole : List ℕ) → IsLine line.entry whole
+            → PutsOrStops (shows self.old number whole) (K.state sink.old) (K.state sink.new)
+            result }
+        ensures same { (number : ℕ) (line : List ℕ) (verdict : Verdict)
+            → shows self.new number line verdict → shows self.old number line verdict };
+}
 
 #[derive(Drop)]
 struct Answering<'a, 's, A, K> {
@@ -17,9 +44,6 @@ struct Answering<'a, 's, A, K> {
 
 impl<A: LineAnswer, K: Sink> LineTask for Answering<'_, '_, A, K> {
     type Stop = Fault;
-
-    ghost use Rattle.pb_io.specs.LineTask.{either};
-    ghost use Rattle.pb_commands.specs.Answering.{AnswersLine};
 
     ghost takes = { either (AnswersLine A.shows K.state) };
 

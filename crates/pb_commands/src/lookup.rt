@@ -1,19 +1,13 @@
 //! The command `lookup`: the moves that a book has for the position of each line.
 ghost use Rattle.std.specs.Prelude.{◌≡◌, Err, Ok};
-ghost use Rattle.pb_io.specs.Sink.{Put};
+ghost use Rattle.pb_commands.specs.LookupShown.{LineFound, LooksUp, moves_line};
 ghost use Rattle.pb_commands.specs.EpdShown.{AsEpd};
-ghost use Rattle.pb_commands.specs.Judged.{ByInput};
-ghost use Rattle.pb_commands.specs.LookupRun.{LooksUp};
-ghost use Rattle.pb_commands.specs.LookupShown.{moves_line};
-ghost use Rattle.pb_commands.specs.RecordJudged.{AsRecord};
+ghost use Rattle.pb_commands.specs.Judged.{ByInput, AsRecord, Put};
 
-use crate::finder::Finder;
-use crate::line_answer::LineAnswer;
-use crate::line_refusal::{is_blank, put_refusal, refuse_line};
-use crate::lines::answer_lines;
-use crate::output::put_line;
-use crate::probe::put_found;
-use crate::refusal::Stopped;
+use crate::epd::{is_blank, put_refusal, refuse_line};
+use crate::lines::{LineAnswer, answer_lines};
+use crate::probe::{Finder, put_found};
+use crate::stop::Stopped;
 use pb_board::{Setup, read_fen, without_return};
 use pb_epd::{EpdError, read_epd};
 use pb_io::{Failed, Fault, Sink, Source};
@@ -22,8 +16,6 @@ use pb_poly::probe;
 use std::alloc::Global;
 
 impl LineAnswer for Finder {
-    ghost use Rattle.pb_commands.specs.LookupShown.{LineFound};
-
     ghost shows = { λ f. LineFound f.table f.book };
 
     fn answer<K: Sink>(
@@ -84,7 +76,7 @@ fn put_moves<K: Sink>(sink: &mut K, found: &[(Move, u16)]) -> Result<(), Failed>
     ensures { Put (K.state sink.old) (K.state sink.new) result (moves_line found.now) }
 {
     let Some((first, others)) = found.split_first() else {
-        return put_line(sink, &[b"-"]);
+        return sink.put(b"-\n");
     };
     put_found(sink, b"", &first.0, first.1, b"")?;
     for (m, weight) in others {

@@ -1,19 +1,46 @@
-//! The command `probe`: the moves that a book has for a position.
-ghost use Rattle.std.specs.Prelude.{◌++◌};
-ghost use Rattle.pb_io.specs.Sink.{Put};
-ghost use Rattle.pb_commands.specs.Judged.{PutsOrEnds};
-ghost use Rattle.pb_commands.specs.ProbeShown.{ProbesSources, found_text, probe_text};
-ghost use Rattle.pb_commands.specs.Refused.{StopsOrEnds};
-ghost use Rattle.pb_commands.specs.Shows.{Shows};
+//! The command `probe`: the moves that a book has for a position, and what finds them.
 
-use crate::finder::Finder;
-use crate::refusal::{Refused, Stopped, accept, unless_refused};
+ghost use Rattle.pb_commands.specs.ProbeShown.{ReadsBoth, ProbesSources, found_text, probe_text};
+ghost use Rattle.std.specs.Prelude.{◌++◌};
+ghost use Rattle.pb_commands.specs.Judged.{PutsOrEnds, StopsOrEnds, Shows, Put};
+
+use crate::stop::{Refused, Stopped, accept, unless_refused};
 use itoa::Buffer;
 use pb_board::read_fen;
 use pb_io::{Failed, Fault, Sink, Source, put_pieces};
 use pb_moves::Move;
-use pb_poly::probe;
+use pb_poly::{Book, Table, probe, read_book, take_table};
 use std::alloc::Global;
+
+/// A table and a book, by which moves are found.
+#[derive(Drop)]
+pub(crate) struct Finder {
+    pub(crate) alloc: Global,
+    pub(crate) table: Table,
+    pub(crate) book: Book,
+}
+
+impl Finder {
+    /// Reads the table and then the book, or shows the line that refuses one of them.
+    pub(crate) fn read<TableIn: Source, BookIn: Source, Out: Sink>(
+        alloc: Global,
+        table: &mut TableIn,
+        book: &mut BookIn,
+        sink: &mut Out,
+        fills: u32,
+    ) -> Result<Finder, Stopped>
+        ensures { ReadsBoth fills (TableIn.state table.old) (TableIn.state table.new)
+            (BookIn.state book.old) (BookIn.state book.new) (Out.state sink.old)
+            (Out.state sink.new) result }
+    {
+        let table = accept(
+            sink,
+            take_table(alloc, table, fills).map_err(Refused::Table),
+        )?;
+        let book = accept(sink, read_book(alloc, book, fills).map_err(Refused::Book))?;
+        Ok(Finder { alloc, table, book })
+    }
+}
 
 /// Shows the moves that a book has for a record's setup, each with its weight, in the book's order,
 /// or why the first of table, book and record is refused.

@@ -1,15 +1,45 @@
-//! What runs share that take submissions.
+//! What runs share that take submissions, and what they read and write.
 
 ghost use Rattle.std.specs.Prelude.{MatchResult};
-ghost use Rattle.pb_commands.specs.Ends.{IsSame, between};
-ghost use Rattle.pb_commands.specs.Run.{MakesBook};
-ghost use Rattle.pb_commands.specs.Runs.{Opens, OpensNone, Takes};
+ghost use Rattle.pb_commands.specs.Runs.{IsSame, between, MakesBook, MakesLedger, MakesNoLedger};
+ghost use Rattle.pb_commands.specs.Runs.{Takes};
 
-use crate::refusal::{Refused, Stopped, accept};
+use crate::stop::{Refused, Stopped, accept};
 use pb_io::{Fault, NullSink, Sink, Source};
 use pb_ledger::{Ledger, MAX_CAP, MapTally, Rules, Totals, Watcher, collect_journaled};
 use pb_poly::{Book, take_table};
 use std::alloc::Global;
+
+/// What each run of submissions reads, writes and tells.
+#[derive(Drop)]
+pub struct Ends<Table, In, Out, Watch> {
+    /// The table of random numbers that keys are made of.
+    pub table: Table,
+    /// The submission lines.
+    pub lines: In,
+    /// Takes the replies.
+    pub replies: Out,
+    /// Is told of the run, for people: no clause speaks of it.
+    pub watcher: Watch,
+}
+
+/// A saved ledger.
+#[derive(Drop)]
+pub struct LedgerEnds<Saved, LedgerStore> {
+    /// Reads it.
+    pub saved: Saved,
+    /// Takes the ledger of the run in its place.
+    pub store: LedgerStore,
+}
+
+/// A journal.
+#[derive(Drop)]
+pub struct JournalEnds<Kept, Journal> {
+    /// Reads what it holds.
+    pub kept: Kept,
+    /// Takes what it gains.
+    pub journal: Journal,
+}
 
 /// What became of the submissions, and how much was made of the games.
 #[derive(Clone, Copy, Debug, PartialEq, Eq)]
@@ -30,7 +60,7 @@ pub(crate) struct Intake {
 }
 
 /// Reads the table, and makes a ledger without games; or puts the line that refuses the table.
-pub(crate) fn open<Table: Source, Out: Sink>(
+pub(crate) fn make_ledger<Table: Source, Out: Sink>(
     alloc: Global,
     rules: Rules,
     table: &mut Table,
@@ -39,8 +69,8 @@ pub(crate) fn open<Table: Source, Out: Sink>(
 ) -> Result<Ledger<MapTally>, Stopped>
     ensures { let file = between Table.state table.old table.new in
         let out = between Out.state sink.old sink.new in
-        MatchResult result (λ new. Opens rules fills file new × IsSame out)
-        (OpensNone fills file out) }
+        MatchResult result (λ new. MakesLedger rules fills file new × IsSame out)
+        (MakesNoLedger fills file out) }
 {
     let table = accept(
         sink,
@@ -50,7 +80,7 @@ pub(crate) fn open<Table: Source, Out: Sink>(
 }
 
 /// Takes the submissions from the games of this ledger on, without a journal.
-pub(crate) fn take<In: Source, Out: Sink, Watch: Watcher>(
+pub(crate) fn take_submissions<In: Source, Out: Sink, Watch: Watcher>(
     alloc: Global,
     mut ledger: Ledger<MapTally>,
     lines: &mut In,

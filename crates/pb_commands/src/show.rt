@@ -2,17 +2,12 @@
 ghost use Rattle.std.specs.Prelude.{◌≡◌, ℕ, ◌*◌, length};
 ghost use Rattle.std.specs.Int.{bytes_high_first};
 ghost use Rattle.pb_poly.specs.Reading.{ReadsBook};
-ghost use Rattle.pb_io.specs.Sink.{Put};
-ghost use Rattle.pb_commands.specs.BookShown.{BookShown, entry_line, show_text};
-ghost use Rattle.pb_commands.specs.Hexadecimal.{hexadecimal};
-ghost use Rattle.pb_commands.specs.Judged.{PutsOrEnds};
-ghost use Rattle.pb_commands.specs.Refused.{StopsOrEnds};
-ghost use Rattle.pb_commands.specs.Shows.{Shows};
+ghost use Rattle.pb_commands.specs.BookShown.{BookShown, entry_line, show_text, hexadecimal};
+ghost use Rattle.pb_commands.specs.Judged.{PutsOrEnds, StopsOrEnds, Shows, Put};
 
-use crate::output::put_line;
-use crate::refusal::{Refused, Stopped, accept, unless_refused};
+use crate::stop::{Refused, Stopped, accept, unless_refused};
 use hex::encode_to_slice;
-use pb_io::{Failed, Fault, Sink, Source};
+use pb_io::{Failed, Fault, Sink, Source, put_pieces};
 use pb_poly::{Entry, read_book};
 use std::alloc::Global;
 
@@ -62,7 +57,11 @@ fn put_entry<K: Sink>(sink: &mut K, entry: &Entry) -> Result<(), Failed>
     let code: [u8; 4] = digits_of(&entry.code.to_be_bytes());
     let weight: [u8; 4] = digits_of(&entry.weight.to_be_bytes());
     let learn: [u8; 8] = digits_of(&entry.learn.to_be_bytes());
-    put_line(sink, &[&key, b" ", &code, b" ", &weight, b" ", &learn])
+    put_pieces(
+        sink,
+        &[&key, b" ", &code, b" ", &weight, b" ", &learn],
+        b"\n",
+    )
 }
 
 /// Writes a number's bytes, the highest first, two digits each.

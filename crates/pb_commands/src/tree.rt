@@ -1,15 +1,12 @@
 //! The command `tree`: the moves that a book has from a position on, those after each move below
 //! it.
 ghost use Rattle.std.specs.Prelude.{◌≡◌, ◌+◌, ◌<◌, ◌^◌, ◌++◌};
-ghost use Rattle.pb_board.specs.LineEnd.{with_end};
 ghost use Rattle.pb_board.specs.Position.{IsSetup};
-ghost use Rattle.pb_io.specs.Sink.{Put};
-ghost use Rattle.pb_commands.specs.Tree.{PutsTree, Tree, branch_text, heavy, share};
-ghost use Rattle.pb_commands.specs.Tree.{sum_of_weights};
-ghost use Rattle.pb_commands.specs.TreeRun.{GrowsTree};
+ghost use Rattle.pb_commands.specs.Tree.{PutsTree, Tree, branch_text, heavy, share, sum_of_weights};
+ghost use Rattle.pb_commands.specs.Tree.{GrowsTree, with_end, Put};
 
-use crate::finder::Finder;
-use crate::refusal::{Refused, Stopped, accept};
+use crate::probe::Finder;
+use crate::stop::{Refused, Stopped, accept};
 use itoa::Buffer;
 use pb_board::{Setup, read_fen};
 use pb_io::{Failed, Fault, Sink, Source, put_pieces};

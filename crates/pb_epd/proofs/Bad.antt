@@ -5,7 +5,7 @@ use Rattle.std.proofs.lemmas.List.{append_assoc, append-nil, drop_all, length-ap
 use Rattle.std.proofs.lemmas.Bool.{cases_lt}
 use Rattle.std.proofs.Math.Seq.{drop-append-add, drop-append_seam, take-append-add, take-append_seam}
 use Rattle.std.proofs.lemmas.List.Elements.{All-head, All-tail}
-use Rattle.pb_epd.specs.Token.{Token, word, text, end_mark, IsToken, IsWordByte, TokensAfter, Tokens, token_text, IsBadAt}
+use Rattle.pb_epd.specs.Token.{Token, word, quoted, end_mark, IsToken, IsWordByte, TokensAfter, Tokens, token_text, IsBadAt}
 use Rattle.pb_epd.specs.Lexeme.{MayFollow, BeginsUnspaced, BeginsWithWordByte, IsStuck, IsWholeBefore, NextIs}
 use Rattle.pb_epd.proofs.Lexing.{begins_unspaced, no_word_end, no_word_quote, spaces_alone, spaces_one}
 use Rattle.pb_epd.proofs.TokenLists.{after_spaces, no_word_space, tokens_steps, found_first, tokens_spaces, EndsInToken, ends_back, unended_spaces, tokens_push, last_push, last_token}
@@ -32,7 +32,7 @@ pub token_ends : (front : List ℕ) (t : Token) → IsToken t → EndsInToken (f
 token_ends front (word w) is =
     let l = last_of IsWordByte w is.0 is.2 in
     byte_ends (front ++ l.front) (front ++ w) l.byte (λ e. omega (arith, l.kind.low, e)) (ap (λ x. front ++ x) l.is ∙ sym (append_assoc front l.front (l.byte ∷ [])))
-token_ends front (text w) is = byte_ends (front ++ 34 ∷ w) (front ++ 34 ∷ (w ++ 34 ∷ [])) 34 (λ e. omega (arith, e)) (sym (append_assoc front (34 ∷ w) (34 ∷ [])))
+token_ends front (quoted w) is = byte_ends (front ++ 34 ∷ w) (front ++ 34 ∷ (w ++ 34 ∷ [])) 34 (λ e. omega (arith, e)) (sym (append_assoc front (34 ∷ w) (34 ∷ [])))
 token_ends front end_mark is = byte_ends front (front ++ 59 ∷ []) 59 (λ e. omega (arith, e)) refl
 
 nothing_ends : EndsInToken []
@@ -40,7 +40,7 @@ nothing_ends kept e = omega (arith, ap length e, length-append kept (32 ∷ []))
 
 some_token : (t : Token) → IsToken t → 1 ≤ length (token_text t)
 some_token (word w) is = is.0
-some_token (text w) is = omega arith
+some_token (quoted w) is = omega arith
 some_token end_mark is = omega arith
 
 pub steps_shorter : (before : Token) (bytes : List ℕ) (t : Token) (rest : List ℕ) → NextIs before bytes t rest → length rest < length bytes
@@ -61,7 +61,7 @@ begins_other front rest other kept more a b is next h k = other (subst BeginsWit
 
 token_uncut : (front : List ℕ) (t : Token) (rest : List ℕ) → IsWholeBefore t rest → Uncut (front ++ token_text t) rest
 token_uncut front (word w) rest whole = begins_other (front ++ w) rest whole
-token_uncut front (text w) rest whole = subst (λ x. Uncut x rest) (append_assoc front (34 ∷ w) (34 ∷ [])) (ends_other (front ++ 34 ∷ w) rest 34 no_word_quote)
+token_uncut front (quoted w) rest whole = subst (λ x. Uncut x rest) (append_assoc front (34 ∷ w) (34 ∷ [])) (ends_other (front ++ 34 ∷ w) rest 34 no_word_quote)
 token_uncut front end_mark rest whole = ends_other front rest 59 no_word_end
 
 nothing_uncut : (rest : List ℕ) → Uncut [] rest
@@ -128,7 +128,7 @@ word_on w (t ∷ ts) r rest h alone ends whole = λ k. alone (begins_front r res
 
 whole_on : (t : Token) (ts : List Token) (r rest : List ℕ) → TokensAfter t ts r → IsWholeBefore t r → EndsInToken r → IsWholeBefore (last_token t ts) rest → IsWholeBefore t (r ++ rest)
 whole_on (word w) ts r rest h alone ends whole = word_on w ts r rest h alone ends whole
-whole_on (text w) ts r rest h alone ends whole = tt
+whole_on (quoted w) ts r rest h alone ends whole = tt
 whole_on end_mark ts r rest h alone ends whole = tt
 
 -- whole tokens, and what follows them
@@ -177,7 +177,7 @@ goes_on (word w) [] rest whole uncut is = λ k.
     uncut_begins w [] front a uncut is kind k = k
     uncut_begins w (b ∷ rest) front a uncut is kind k = uncut front rest a b is refl kind k
 goes_on (word w) (b ∷ r) rest whole uncut is = whole
-goes_on (text w) r rest whole uncut is = tt
+goes_on (quoted w) r rest whole uncut is = tt
 goes_on end_mark r rest whole uncut is = tt
 
 -- a longer front that is uncut, where the front before a bad token ends
@@ -199,7 +199,7 @@ module _ (bytes : List ℕ) (before : Token) (rest : List ℕ) (n : ℕ) (h : Le
 
   uncut_back : (t : Token) (m : ℕ) → m ≡ n → IsWholeBefore t rest → IsWholeBefore t (replicate m 32 ++ p)
   uncut_back t (suc m) is whole = after_spaces t (suc m) p (omega arith)
-  uncut_back (text w) zero is whole = tt
+  uncut_back (quoted w) zero is whole = tt
   uncut_back end_mark zero is whole = tt
   uncut_back (word w) zero is whole = λ b.
       let here : rest ≡ p ++ left = k.cut ∙ ap (λ m. replicate m 32 ++ k.back) (sym is) ∙ cut in
@@ -215,8 +215,7 @@ module _ (bytes : List ℕ) (before : Token) (rest : List ℕ) (n : ℕ) (h : Le
       let o = spaces_one n s.spaces p s.back unspaced_front (begins_unspaced s.back t on.1 s.begins) s.cut in
       let is : p ≡ token_text t ++ on.1 = o.1 ∙ s.begins.stands in
       let uncut_token : Uncut (token_text t ++ on.1) left = uncut_behind (h.front ++ replicate n 32) (token_text t ++ on.1) left (subst (λ x. Uncut x left) (sym (append_assoc h.front (replicate n 32) p) ∙ ap (λ w. (h.front ++ replicate n 32) ++ w) is) uncut) in
-      k.bad t (record {
-        rest = on.1 ++ left;
+      k.bad t (on.1 ++ left) (record {
         is_token = s.begins.is_token;
         stands = cut ∙ ap (λ w. w ++ left) is ∙ append_assoc (token_text t) on.1 left;
         whole = goes_on t on.1 left s.begins.whole uncut_token s.begins.is_token;

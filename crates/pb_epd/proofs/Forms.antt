@@ -20,7 +20,7 @@ use Rattle.pb_epd.proofs.Lists.{map_injective}
 use Rattle.pb_epd.proofs.TokenLists.{tokens_one}
 use Rattle.pb_epd.proofs.Groups.{group_of, operations_cut}
 use Rattle.pb_epd.proofs.Order.{distinct_in_order, same_in_order}
-use Rattle.pb_epd.proofs.Texts.{four_are, text_not_due}
+use Rattle.pb_epd.proofs.Texts.{same_words, text_not_due}
 use Rattle.pb_epd.proofs.Writing.{spaced, operation_put}
 
 -- ---- no text has two records
@@ -48,12 +48,12 @@ pub record_is_one : (e f : EpdRecord) (bytes : List ℕ) → IsEpd e → IsEpd f
 record_is_one e f bytes he hf h k =
     let ops = λ (os : List Operation). flat_map operation_tokens os in
     let tokens = tokens_one end_mark (map word (setup_fields f.setup) ++ ops k.operations) (map word (setup_fields e.setup) ++ ops h.operations) bytes k.tokens h.tokens in
-    let four = four_are _ _ _ _ (ops h.operations) (setup_fields f.setup) (ops k.operations) refl tokens in
+    let four = same_words (setup_fields f.setup) (setup_fields e.setup) (ops k.operations) (ops h.operations) refl tokens in
     let setups = one_setup e.setup f.setup (setup_fields e.setup) he.setup hf.setup refl (sym four.0) in
     let same = operations_one k.operations h.operations four.1 in
     let operations = same_in_order e.operations f.operations he.ordered hf.ordered (λ o. (
-      λ m. (k.same o).0 (subst (λ w. Contains w o) (sym same) ((h.same o).1 m)),
-      λ m. (h.same o).0 (subst (λ w. Contains w o) same ((k.same o).1 m)),
+      λ m. (k.held.same o).0 (subst (λ w. Contains w o) (sym same) ((h.held.same o).1 m)),
+      λ m. (h.held.same o).0 (subst (λ w. Contains w o) same ((k.held.same o).1 m)),
     )) in
     let make = λ (p : Position) (ops : List Operation). let r : EpdRecord = record { setup = p; operations = ops } in r in
     ap (λ p. make p e.operations) setups ∙ ap (λ ops. make f.setup ops) operations
@@ -154,8 +154,7 @@ form_is_text e lawful =
     record {
       operations = e.operations;
       lawful = lawful.lawful;
-      distinct = distinct_in_order e.operations lawful.ordered;
-      same = λ o. (λ k. k, λ k. k);
+      held = record { distinct = distinct_in_order e.operations lawful.ordered; same = λ o. (λ k. k, λ k. k) };
       tokens = (
         0,
         32 ∷ (turn ++ 32 ∷ (castling ++ 32 ∷ (en_passant ++ rest))),

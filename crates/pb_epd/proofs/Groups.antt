@@ -9,13 +9,14 @@ use Rattle.std.proofs.lemmas.List.Concat.{flat_map-append}
 use Rattle.std.proofs.lemmas.List.Elements.{All-push, All-map, All-weaker, All-cons, Contains-push, Contains-push_cases, Contains-append_left, Contains-get_or}
 use Rattle.std.proofs.lemmas.List.Quantifiers.{all_pairs_push}
 use Rattle.pb_epd.specs.declared.operation.Operand.{Operand}
-use Rattle.pb_epd.specs.Token.{Token, word, text, end_mark, TokensAfter}
+use Rattle.pb_epd.specs.Token.{Token, word, quoted, end_mark, TokensAfter}
 use Rattle.pb_epd.specs.Lexeme.{IsOperandToken}
 use Rattle.pb_epd.specs.Operation.{Operation, IsOperation, operand_token, operation_tokens}
 use Rattle.pb_board.specs.Refusal.{BreaksAt}
 use Rattle.pb_board.proofs.Breaks.{all_breaks, breaks_from}
+use Rattle.pb_epd.specs.Epd.{AreDistinct, AreHeld}
 use Rattle.pb_epd.specs.Refusal.{is_end, BeginOtherwise, IsNamed}
-use Rattle.pb_epd.specs.Reading.{HasTokens, AreOperands, BeginsUnnamed, BeginsWithOperation, AreOperations, AreDistinct, AreHeld, AreNamed, IsUnnamedAt, RepeatsAt, Standing}
+use Rattle.pb_epd.specs.Reading.{HasTokens, AreOperands, BeginsUnnamed, Follow, AreOperations, AreNamed, IsUnnamedAt, RepeatsAt, Standing}
 use Rattle.pb_epd.proofs.Lists.{contains_map, pairs_cons, pairs_head, pairs_none, pairs_split, pairs_tail}
 use Rattle.pb_epd.proofs.Reader.{operands_are}
 
@@ -27,7 +28,7 @@ group_of o = word o.0 ∷ map operand_token o.1
 
 no_end : (t : Token) → IsOperandToken t → is_end t ≡ false
 no_end (word bytes) h = refl
-no_end (text bytes) h = refl
+no_end (quoted bytes) h = refl
 no_end end_mark h = absurd (h refl)
 
 no_ends : (ts : List Token) → AreOperands ts → All (λ t. is_end t ≡ false) ts
@@ -146,7 +147,7 @@ pub record InOperations (start : Token) (bytes : List ℕ) (held : List Operatio
   pub tokens : (ts : List Token) → TokensAfter start ts bytes → OperationsSoFar ts held before rest count repeated
 
 -- one more operation was read
-pub operations_more : (start : Token) (bytes : List ℕ) (held new : List Operation) (before : Token) (rest : List ℕ) (count : ℕ) (repeated again : Option ℕ) (x : Operation) (after : List ℕ) → InOperations start bytes held before rest count repeated → ((us : List Token) → TokensAfter before us rest → BeginsWithOperation us x after) → (length after < length rest) × IsOperation x × (HasTokens end_mark after → HasTokens before rest) → ((operations : List Operation) → count ≡ length operations → Standing repeated operations held → Standing again (operations ++ x ∷ []) new) → InOperations start bytes new end_mark after (count + 1) again
+pub operations_more : (start : Token) (bytes : List ℕ) (held new : List Operation) (before : Token) (rest : List ℕ) (count : ℕ) (repeated again : Option ℕ) (x : Operation) (after : List ℕ) → InOperations start bytes held before rest count repeated → ((us : List Token) → TokensAfter before us rest → Follow (operation_tokens x) end_mark us after) → (length after < length rest) × IsOperation x × (HasTokens end_mark after → HasTokens before rest) → ((operations : List Operation) → count ≡ length operations → Standing repeated operations held → Standing again (operations ++ x ∷ []) new) → InOperations start bytes new end_mark after (count + 1) again
 operations_more start bytes held new before rest count repeated again x after h taken sound stands = record {
   room = omega (arith, h.room, sound.0);
   back = λ left. h.back (sound.2 left);
@@ -182,8 +183,7 @@ module _ (start : Token) (bytes : List ℕ) (held : List Operation) (before : To
 
   pub read_all : repeated ≡ None → ((us : List Token) → TokensAfter before us rest → us ≡ []) → AreOperations ts held
   read_all is none =
-      let held_all : AreHeld so_far.operations held = subst (λ r. Standing r so_far.operations held) is so_far.standing in
-      record { operations = so_far.operations; is = all_read (none_left none); lawful = so_far.lawful; distinct = held_all.distinct; same = held_all.same }
+      record { operations = so_far.operations; is = all_read (none_left none); lawful = so_far.lawful; held = subst (λ r. Standing r so_far.operations held) is so_far.standing }
 
   named_so_far : (unended : List Token) → slice_split is_end so_far.others ≡ unended ∷ [] → AreNamed ts (map group_of so_far.operations) unended
   named_so_far unended e = record { cut = cut_so_far (unended ∷ []) e; named = all_named so_far.operations so_far.lawful }

@@ -4,8 +4,8 @@ use Rattle.std.specs.Prelude.{All}
 use Rattle.std.proofs.lemmas.List.{take-append-drop, append_assoc, append-nil, drop_all, drop_more, length-drop, length-replicate}
 use Rattle.std.proofs.lemmas.List.Elements.{All-head, All-tail, All-replicate}
 use Rattle.pb_epd.specs.Run.{IsRun}
-use Rattle.pb_epd.specs.Token.{Token, word, text, end_mark, IsToken, IsWordByte, IsTextByte}
-use Rattle.pb_epd.specs.Lexeme.{IsOperandToken, MayFollow, IsWholeBefore, BeginsWith, BeginsWithWordByte, BeginsUnspaced, Begins, NextIs, IsStuck}
+use Rattle.pb_epd.specs.Token.{Token, word, quoted, end_mark, IsToken, IsWordByte, IsQuotedByte}
+use Rattle.pb_epd.specs.Lexeme.{IsOperandToken, MayFollow, IsWholeBefore, BeginsWithWordByte, BeginsUnspaced, Begins, NextIs, IsStuck}
 use Rattle.pb_epd.proofs.Runs.{Stops, same_run, run_inside, run_stops, run_only, run_length}
 
 pub whole_from_stops : (bytes : List ℕ) → Stops IsWordByte bytes → ¬ BeginsWithWordByte bytes
@@ -28,26 +28,26 @@ word_begins bytes n h some short = record {
   whole = whole_from_stops (drop n bytes) (run_stops IsWordByte bytes n h);
 }
 
-pub no_word : (bytes : List ℕ) (n : ℕ) → IsRun IsWordByte bytes n → (n ≡ 0) ⊎ (255 < n) → (w : List ℕ) → BeginsWith bytes (word w) → ⊥
-no_word bytes n h bad w b =
-    let o = run_only IsWordByte bytes n h w b.rest b.is_token.2 (stops_from_whole b.rest b.whole) b.stands in
+pub no_word : (bytes : List ℕ) (n : ℕ) → IsRun IsWordByte bytes n → (n ≡ 0) ⊎ (255 < n) → (w r : List ℕ) → Begins bytes (word w) r → ⊥
+no_word bytes n h bad w r b =
+    let o = run_only IsWordByte bytes n h w r b.is_token.2 (stops_from_whole r b.whole) b.stands in
     omega (arith, ap length o.0, run_length IsWordByte bytes n h, b.is_token.0, b.is_token.1, bad)
 
 -- ---- quoted texts
 
-quote_stops : (rest : List ℕ) → Stops IsTextByte (34 ∷ rest)
+quote_stops : (rest : List ℕ) → Stops IsQuotedByte (34 ∷ rest)
 quote_stops rest h = h.no_quote refl
 
-pub quoted_begins : (bytes : List ℕ) (n : ℕ) → IsRun IsTextByte bytes n → n ≤ 255 → n < length bytes → get_or bytes n 0 ≡ 34 → IsToken (text (take n bytes)) × (bytes ≡ take n bytes ++ 34 ∷ drop (n + 1) bytes)
+pub quoted_begins : (bytes : List ℕ) (n : ℕ) → IsRun IsQuotedByte bytes n → n ≤ 255 → n < length bytes → get_or bytes n 0 ≡ 34 → IsToken (quoted (take n bytes)) × (bytes ≡ take n bytes ++ 34 ∷ drop (n + 1) bytes)
 quoted_begins bytes n h short lt quote = (
-  (omega (arith, run_length IsTextByte bytes n h), run_inside IsTextByte bytes n h),
+  (omega (arith, run_length IsQuotedByte bytes n h), run_inside IsQuotedByte bytes n h),
   sym (take-append-drop n bytes) ∙ ap (λ w. take n bytes ++ w) (drop_more bytes n 0 lt ∙ ap (λ b. b ∷ drop (n + 1) bytes) quote),
 )
 
-pub no_quoted_run : (bytes : List ℕ) (n : ℕ) → IsRun IsTextByte bytes n → (255 < n) ⊎ ((length bytes ≤ n) ⊎ (n < length bytes) × (get_or bytes n 0 ≢ 34)) → (w r : List ℕ) → IsToken (text w) → bytes ≢ w ++ 34 ∷ r
+pub no_quoted_run : (bytes : List ℕ) (n : ℕ) → IsRun IsQuotedByte bytes n → (255 < n) ⊎ ((length bytes ≤ n) ⊎ (n < length bytes) × (get_or bytes n 0 ≢ 34)) → (w r : List ℕ) → IsToken (quoted w) → bytes ≢ w ++ 34 ∷ r
 no_quoted_run bytes n h bad w r is e =
-    let o = run_only IsTextByte bytes n h w (34 ∷ r) is.1 (quote_stops r) e in
-    let len : length w ≡ n = ap length o.0 ∙ run_length IsTextByte bytes n h in
+    let o = run_only IsQuotedByte bytes n h w (34 ∷ r) is.1 (quote_stops r) e in
+    let len : length w ≡ n = ap length o.0 ∙ run_length IsQuotedByte bytes n h in
     elim bad [
       | inl long ↦ omega (arith, len, is.0, long)
       | inr k ↦ elim k [
@@ -61,35 +61,32 @@ no_quoted_run bytes n h bad w r is e =
 append_one : (w r : List ℕ) → (w ++ 34 ∷ []) ++ r ≡ w ++ 34 ∷ r
 append_one w r = append_assoc w (34 ∷ []) r
 
-no_word_first : (b : ℕ) (rest w : List ℕ) → ¬ IsWordByte b → BeginsWith (b ∷ rest) (word w) → ⊥
-no_word_first b rest [] bad h = omega (arith, h.is_token.0)
-no_word_first b rest (x ∷ w) bad h = bad (subst IsWordByte (sym (first_same b x rest (w ++ h.rest) h.stands)) (All-head IsWordByte x w h.is_token.2))
+no_word_first : (b : ℕ) (rest w r : List ℕ) → ¬ IsWordByte b → Begins (b ∷ rest) (word w) r → ⊥
+no_word_first b rest [] r bad h = omega (arith, h.is_token.0)
+no_word_first b rest (x ∷ w) r bad h = bad (subst IsWordByte (sym (first_same b x rest (w ++ r) h.stands)) (All-head IsWordByte x w h.is_token.2))
 
-no_text_first : (b : ℕ) (rest w : List ℕ) → b ≢ 34 → BeginsWith (b ∷ rest) (text w) → ⊥
-no_text_first b rest w bad h = bad (first_same b 34 rest ((w ++ 34 ∷ []) ++ h.rest) h.stands)
+no_quoted_first : (b : ℕ) (rest w r : List ℕ) → b ≢ 34 → Begins (b ∷ rest) (quoted w) r → ⊥
+no_quoted_first b rest w r bad h = bad (first_same b 34 rest ((w ++ 34 ∷ []) ++ r) h.stands)
 
-no_end_first : (b : ℕ) (rest : List ℕ) → b ≢ 59 → BeginsWith (b ∷ rest) end_mark → ⊥
-no_end_first b rest bad h = bad (first_same b 59 rest h.rest h.stands)
+no_end_first : (b : ℕ) (rest r : List ℕ) → b ≢ 59 → Begins (b ∷ rest) end_mark r → ⊥
+no_end_first b rest r bad h = bad (first_same b 59 rest r h.stands)
 
-pub no_quoted : (rest : List ℕ) → ((w r : List ℕ) → IsToken (text w) → rest ≢ w ++ 34 ∷ r) → (t : Token) → BeginsWith (34 ∷ rest) t → ⊥
-no_quoted rest none (word w) h = no_word_first 34 rest w (λ k. k.no_quote refl) h
-no_quoted rest none (text w) h =
-    let tails : rest ≡ (w ++ 34 ∷ []) ++ h.rest = ap (drop 1) h.stands in
-    none w h.rest h.is_token (tails ∙ append_one w h.rest)
-no_quoted rest none end_mark h = no_end_first 34 rest (λ e. omega (arith, e)) h
+pub no_quoted : (rest : List ℕ) → ((w r : List ℕ) → IsToken (quoted w) → rest ≢ w ++ 34 ∷ r) → (t : Token) (r : List ℕ) → Begins (34 ∷ rest) t r → ⊥
+no_quoted rest none (word w) r h = no_word_first 34 rest w r (λ k. k.no_quote refl) h
+no_quoted rest none (quoted w) r h =
+    let tails : rest ≡ (w ++ 34 ∷ []) ++ r = ap (drop 1) h.stands in
+    none w r h.is_token (tails ∙ append_one w r)
+no_quoted rest none end_mark r h = no_end_first 34 rest r (λ e. omega (arith, e)) h
 
-pub no_token : (b : ℕ) (rest : List ℕ) → b ≢ 34 → b ≢ 59 → ((w : List ℕ) → ¬ BeginsWith (b ∷ rest) (word w)) → (t : Token) → BeginsWith (b ∷ rest) t → ⊥
-no_token b rest no_quote no_end none (word w) h = none w h
-no_token b rest no_quote no_end none (text w) h = no_text_first b rest w no_quote h
-no_token b rest no_quote no_end none end_mark h = no_end_first b rest no_end h
+pub no_token : (b : ℕ) (rest : List ℕ) → b ≢ 34 → b ≢ 59 → ((w r : List ℕ) → ¬ Begins (b ∷ rest) (word w) r) → (t : Token) (r : List ℕ) → Begins (b ∷ rest) t r → ⊥
+no_token b rest no_quote no_end none (word w) r h = none w r h
+no_token b rest no_quote no_end none (quoted w) r h = no_quoted_first b rest w r no_quote h
+no_token b rest no_quote no_end none end_mark r h = no_end_first b rest r no_end h
 
 -- ---- one token begins the bytes
 
-pub unwrapped : (bytes : List ℕ) (t : Token) (rest : List ℕ) → Begins bytes t rest → BeginsWith bytes t
-unwrapped bytes t rest h = record { rest = rest; is_token = h.is_token; stands = h.stands; whole = h.whole }
-
 no_word_at : (b : ℕ) (x w r : List ℕ) → ¬ IsWordByte b → IsToken (word w) → IsWholeBefore (word w) r → b ∷ x ≡ w ++ r → ⊥
-no_word_at b x w r bad is whole e = no_word_first b x w bad (record { rest = r; is_token = is; stands = e; whole = whole })
+no_word_at b x w r bad is whole e = no_word_first b x w r bad (record { is_token = is; stands = e; whole = whole })
 
 pub no_word_quote : ¬ IsWordByte 34
 no_word_quote h = h.no_quote refl
@@ -101,16 +98,16 @@ pub one_begin : (bytes : List ℕ) (t u : Token) (r s : List ℕ) → Begins byt
 one_begin bytes (word a) (word b) r s h k =
     let o = same_run IsWordByte a b r s h.is_token.2 k.is_token.2 (stops_from_whole r h.whole) (stops_from_whole s k.whole) (sym h.stands ∙ k.stands) in
     (ap word o.0, o.1)
-one_begin bytes (word a) (text b) r s h k = absurd (no_word_at 34 ((b ++ 34 ∷ []) ++ s) a r no_word_quote h.is_token h.whole (sym k.stands ∙ h.stands))
+one_begin bytes (word a) (quoted b) r s h k = absurd (no_word_at 34 ((b ++ 34 ∷ []) ++ s) a r no_word_quote h.is_token h.whole (sym k.stands ∙ h.stands))
 one_begin bytes (word a) end_mark r s h k = absurd (no_word_at 59 s a r no_word_end h.is_token h.whole (sym k.stands ∙ h.stands))
-one_begin bytes (text a) (word b) r s h k = absurd (no_word_at 34 ((a ++ 34 ∷ []) ++ r) b s no_word_quote k.is_token k.whole (sym h.stands ∙ k.stands))
-one_begin bytes (text a) (text b) r s h k =
+one_begin bytes (quoted a) (word b) r s h k = absurd (no_word_at 34 ((a ++ 34 ∷ []) ++ r) b s no_word_quote k.is_token k.whole (sym h.stands ∙ k.stands))
+one_begin bytes (quoted a) (quoted b) r s h k =
     let inner : a ++ 34 ∷ r ≡ b ++ 34 ∷ s = sym (append_one a r) ∙ ap (drop 1) (sym h.stands ∙ k.stands) ∙ append_one b s in
-    let o = same_run IsTextByte a b (34 ∷ r) (34 ∷ s) h.is_token.1 k.is_token.1 (quote_stops r) (quote_stops s) inner in
-    (ap text o.0, ap (drop 1) o.1)
-one_begin bytes (text a) end_mark r s h k = absurd (omega (arith, first_same 34 59 ((a ++ 34 ∷ []) ++ r) s (sym h.stands ∙ k.stands)))
+    let o = same_run IsQuotedByte a b (34 ∷ r) (34 ∷ s) h.is_token.1 k.is_token.1 (quote_stops r) (quote_stops s) inner in
+    (ap quoted o.0, ap (drop 1) o.1)
+one_begin bytes (quoted a) end_mark r s h k = absurd (omega (arith, first_same 34 59 ((a ++ 34 ∷ []) ++ r) s (sym h.stands ∙ k.stands)))
 one_begin bytes end_mark (word b) r s h k = absurd (no_word_at 59 r b s no_word_end k.is_token k.whole (sym h.stands ∙ k.stands))
-one_begin bytes end_mark (text b) r s h k = absurd (omega (arith, first_same 59 34 r ((b ++ 34 ∷ []) ++ s) (sym h.stands ∙ k.stands)))
+one_begin bytes end_mark (quoted b) r s h k = absurd (omega (arith, first_same 59 34 r ((b ++ 34 ∷ []) ++ s) (sym h.stands ∙ k.stands)))
 one_begin bytes end_mark end_mark r s h k = (refl, ap (drop 1) (sym h.stands ∙ k.stands))
 
 -- ---- spaces
@@ -151,7 +148,7 @@ begins_unspaced bytes (word []) rest h = absurd (omega (arith, h.is_token.0))
 begins_unspaced bytes (word (x ∷ w)) rest h =
     let first = All-head IsWordByte x w h.is_token.2 in
     subst BeginsUnspaced (sym h.stands) (λ e. omega (arith, first.low, e))
-begins_unspaced bytes (text w) rest h = subst BeginsUnspaced (sym h.stands) (λ e. omega (arith, e))
+begins_unspaced bytes (quoted w) rest h = subst BeginsUnspaced (sym h.stands) (λ e. omega (arith, e))
 begins_unspaced bytes end_mark rest h = subst BeginsUnspaced (sym h.stands) (λ e. omega (arith, e))
 
 -- ---- what comes next
@@ -164,20 +161,20 @@ steps_one before bytes t u r s h k =
 pub stuck_steps : (before : Token) (bytes : List ℕ) (n : ℕ) (t : Token) (r : List ℕ) → IsStuck before bytes n → NextIs before bytes t r → ⊥
 stuck_steps before bytes n t r h k =
     let o = spaces_one n k.spaces h.back k.back h.unspaced (begins_unspaced k.back t r k.begins) (sym h.cut ∙ k.cut) in
-    h.bad t (unwrapped h.back t r (subst (λ x. Begins x t r) (sym o.1) k.begins)) (subst (λ m. MayFollow before m t) (sym o.0) k.follows)
+    h.bad t r (subst (λ x. Begins x t r) (sym o.1) k.begins) (subst (λ m. MayFollow before m t) (sym o.0) k.follows)
 
 -- ---- what the tokenizer found
 
-pub stuck_at : (before : Token) (bytes : List ℕ) (n : ℕ) → IsRun (λ b. b ≡ 32) bytes n → n < length bytes → ((t : Token) → BeginsWith (drop n bytes) t → ¬ MayFollow before n t) → IsStuck before bytes n
+pub stuck_at : (before : Token) (bytes : List ℕ) (n : ℕ) → IsRun (λ b. b ≡ 32) bytes n → n < length bytes → ((t : Token) (rest : List ℕ) → Begins (drop n bytes) t rest → ¬ MayFollow before n t) → IsStuck before bytes n
 stuck_at before bytes n h some bad = record { back = drop n bytes; cut = spaces_cut bytes n h; unspaced = some_unspaced (drop n bytes) (omega (arith, length-drop n bytes, some)) (run_stops (λ b. b ≡ 32) bytes n h); bad = bad }
 
 pub steps_at : (before : Token) (bytes : List ℕ) (n : ℕ) (t : Token) (rest : List ℕ) → IsRun (λ b. b ≡ 32) bytes n → Begins (drop n bytes) t rest → MayFollow before n t → NextIs before bytes t rest
 steps_at before bytes n t rest h begins follows = record { spaces = n; back = drop n bytes; cut = spaces_cut bytes n h; begins = begins; follows = follows }
 
 -- an operand directly after an operand is bad, whichever it is
-pub joined_bad : (before : Token) (back : List ℕ) (t : Token) (rest : List ℕ) → IsOperandToken before → IsOperandToken t → Begins back t rest → (u : Token) → BeginsWith back u → ¬ MayFollow before 0 u
-joined_bad before back t rest one two h u k follows =
-    let o = one_begin back t u rest k.rest h (record { is_token = k.is_token; stands = k.stands; whole = k.whole }) in
+pub joined_bad : (before : Token) (back : List ℕ) (t : Token) (rest : List ℕ) → IsOperandToken before → IsOperandToken t → Begins back t rest → (u : Token) (other : List ℕ) → Begins back u other → ¬ MayFollow before 0 u
+joined_bad before back t rest one two h u other k follows =
+    let o = one_begin back t u rest other h k in
     omega (arith, follows one (subst IsOperandToken o.0 two))
 
 pub done_at : (bytes : List ℕ) (n : ℕ) → IsRun (λ b. b ≡ 32) bytes n → length bytes ≤ n → bytes ≡ replicate n 32

@@ -1,5 +1,5 @@
 -- No text is refused in two ways, want of memory aside, and no operation.
-use Rattle.std.proofs.Common.{◌≡◌, ◌≢◌, ℕ, ◌<◌, ◌≤◌, List, [], ◌∷◌, ◌++◌, length, map, inl, inr, refl, ap, subst, sym, ◌∙◌, arith}
+use Rattle.std.proofs.Common.{◌≡◌, ◌≢◌, ℕ, ◌<◌, ◌≤◌, List, [], ◌∷◌, ◌++◌, map, inl, inr, refl, ap, subst, sym, ◌∙◌, arith}
 use Rattle.std.specs.Prelude.{All, AllPairs}
 use Rattle.std.specs.List.{slice_split}
 use Rattle.std.proofs.lemmas.Bool.{cases_lt}
@@ -17,11 +17,11 @@ use Rattle.pb_epd.specs.declared.refusal.PutError.TheVariants as put
 use Rattle.pb_epd.specs.Epd.{EpdRecord}
 use Rattle.pb_epd.specs.Operation.{IsOperand}
 use Rattle.pb_epd.specs.Refusal.{BeginOtherwise, Cut, IsDueEpd, IsDuePut, IsFirstDueEpd, IsFirstDuePut, IsNamed, is_end}
-use Rattle.pb_epd.specs.Token.{Token, end_mark, word}
+use Rattle.pb_epd.specs.Token.{end_mark, word}
 use Rattle.pb_epd.proofs.Bad.{bad_one}
 use Rattle.pb_epd.proofs.Dues.{epd_place, put_place}
 use Rattle.pb_epd.proofs.Lists.{one_pairs_break}
-use Rattle.pb_epd.proofs.Texts.{four_are}
+use Rattle.pb_epd.proofs.Texts.{same_words}
 use Rattle.pb_epd.proofs.TokenLists.{tokens_one}
 
 -- ---- a text: what comes before
@@ -66,19 +66,11 @@ none_before bytes x y h some less = absurd (omega (arith, some, less, first_plac
 
 -- ---- a text: one cause
 
-one_four : (four other : List (List ℕ)) (us vs : List Token) → length four ≡ 4 → length other ≡ 4 → map word four ++ us ≡ map word other ++ vs → (four ≡ other) × (us ≡ vs)
-one_four four (a ∷ b ∷ c ∷ d ∷ []) us vs l m e = four_are a b c d vs four us l e
-one_four four [] us vs l m e = absurd (omega (arith, m))
-one_four four (a ∷ []) us vs l m e = absurd (omega (arith, m))
-one_four four (a ∷ b ∷ []) us vs l m e = absurd (omega (arith, m))
-one_four four (a ∷ b ∷ c ∷ []) us vs l m e = absurd (omega (arith, m))
-one_four four (a ∷ b ∷ c ∷ d ∷ v ∷ more) us vs l m e = absurd (omega (arith, m))
-
 -- a line is cut in one way
 one_cut : (bytes : List ℕ) (j k : Cut bytes) → (j.four ≡ k.four) × (j.ended ≡ k.ended)
 one_cut bytes j k =
     let same = tokens_one end_mark (map word j.four ++ j.rest) (map word k.four ++ k.rest) bytes j.tokens k.tokens in
-    let f = one_four j.four k.four j.rest k.rest j.four_words k.four_words same in
+    let f = same_words j.four k.four j.rest k.rest (j.four_words ∙ sym k.four_words) same in
     (f.0, (same_from_push j.ended k.ended j.unended k.unended (sym j.cut ∙ ap (slice_split is_end) f.1 ∙ k.cut)).0)
 
 one_cause : (bytes : List ℕ) (x y : EpdError) → epd_place x < 7 → epd_place x ≡ epd_place y → IsDueEpd x bytes → IsDueEpd y bytes → x ≡ y

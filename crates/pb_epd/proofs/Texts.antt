@@ -16,7 +16,7 @@ use Rattle.pb_epd.specs.Token.{Token, word, end_mark, Tokens, TokensAfter, IsBad
 use Rattle.pb_epd.specs.Operation.{Operation, operation_tokens}
 use Rattle.pb_epd.specs.Epd.{EpdRecord, IsEpd, EpdText}
 use Rattle.pb_epd.specs.Refusal.{BeginOtherwise, Cut, IsDueEpd, IsFirstDueEpd, IsNamed, is_end}
-use Rattle.pb_epd.specs.Reading.{HasTokens, FourFollow, AreOperations, AreNamed, RefusesTokens}
+use Rattle.pb_epd.specs.Reading.{HasTokens, Follow, AreOperations, AreNamed, RefusesTokens}
 use Rattle.pb_epd.proofs.Lists.{contains_head, contains_none, pairs_unbroken}
 use Rattle.pb_epd.proofs.Dues.{epd_place, first_epd, memory_first}
 use Rattle.pb_epd.proofs.TokenLists.{tokens_one}
@@ -24,29 +24,15 @@ use Rattle.pb_epd.proofs.Bad.{bad_none}
 use Rattle.pb_epd.proofs.Groups.{all_named, begin_otherwise, group_of, last_group, operations_cut}
 use Rattle.pb_epd.specs.Refusal.{IsFourWords}
 
-word_is : (a b : List ℕ) (ts us : List Token) → word a ∷ ts ≡ word b ∷ us → a ≡ b
-word_is a b ts us e = cc
-
-tail_is : (a b : Token) (ts us : List Token) → a ∷ ts ≡ b ∷ us → ts ≡ us
-tail_is a b ts us e = cc
-
-pub four_are : (a b c d : List ℕ) (others : List Token) (four : List (List ℕ)) (rest : List Token) → length four ≡ 4 → map word four ++ rest ≡ word a ∷ word b ∷ word c ∷ word d ∷ others → (four ≡ a ∷ b ∷ c ∷ d ∷ []) × (rest ≡ others)
-four_are a b c d others [] rest len e = absurd (omega (arith, len))
-four_are a b c d others (w ∷ []) rest len e = absurd (omega (arith, len))
-four_are a b c d others (w ∷ x ∷ []) rest len e = absurd (omega (arith, len))
-four_are a b c d others (w ∷ x ∷ y ∷ []) rest len e = absurd (omega (arith, len))
-four_are a b c d others (w ∷ x ∷ y ∷ z ∷ []) rest len e =
-    let e1 = tail_is (word w) (word a) (word x ∷ word y ∷ word z ∷ rest) (word b ∷ word c ∷ word d ∷ others) e in
-    let e2 = tail_is (word x) (word b) (word y ∷ word z ∷ rest) (word c ∷ word d ∷ others) e1 in
-    let e3 = tail_is (word y) (word c) (word z ∷ rest) (word d ∷ others) e2 in
-    let s0 = word_is w a (word x ∷ word y ∷ word z ∷ rest) (word b ∷ word c ∷ word d ∷ others) e in
-    let s1 = word_is x b (word y ∷ word z ∷ rest) (word c ∷ word d ∷ others) e1 in
-    let s2 = word_is y c (word z ∷ rest) (word d ∷ others) e2 in
-    let s3 = word_is z d rest others e3 in (
-      ap (λ (v : List ℕ). v ∷ x ∷ y ∷ z ∷ []) s0 ∙ ap (λ (v : List ℕ). a ∷ v ∷ y ∷ z ∷ []) s1 ∙ ap (λ (v : List ℕ). a ∷ b ∷ v ∷ z ∷ []) s2 ∙ ap (λ (v : List ℕ). a ∷ b ∷ c ∷ v ∷ []) s3,
-      tail_is (word z) (word d) rest others e3,
-    )
-four_are a b c d others (w ∷ x ∷ y ∷ z ∷ v ∷ more) rest len e = absurd (omega (arith, len))
+pub same_words : (xs ys : List (List ℕ)) (us vs : List Token) → length xs ≡ length ys → map word xs ++ us ≡ map word ys ++ vs → (xs ≡ ys) × (us ≡ vs)
+same_words [] [] us vs len e = (refl, e)
+same_words [] (y ∷ ys) us vs len e = absurd (omega (arith, len))
+same_words (x ∷ xs) [] us vs len e = absurd (omega (arith, len))
+same_words (x ∷ xs) (y ∷ ys) us vs len e =
+    let first : x ≡ y = cc (e) in
+    let tails : map word xs ++ us ≡ map word ys ++ vs = cc (e) in
+    let s = same_words xs ys us vs (omega (arith, len)) tails in
+    (ap (λ (w : List ℕ). w ∷ xs) first ∙ ap (λ (ws : List (List ℕ)). y ∷ ws) s.0, s.1)
 
 -- ---- a line of whole tokens
 
@@ -63,14 +49,14 @@ token_first bytes at bad = first_epd (epd.Token at) bytes bad first
     first epd.Fields lt = absurd (omega (arith, lt))
     first _ lt = absurd (omega (arith, lt))
 
-module _ (bytes a b c d : List ℕ) (others : List Token) (tokens : Tokens (word a ∷ word b ∷ word c ∷ word d ∷ others) bytes) where
+module _ (bytes : List ℕ) (four : List (List ℕ)) (others : List Token) (size : length four ≡ 4) (tokens : Tokens (map word four ++ others) bytes) where
   abbrev pub is_cut : (ended : List (List Token)) (unended : List Token) → slice_split is_end others ≡ ended ++ unended ∷ [] → Cut bytes
-  is_cut ended unended cut = record { four = a ∷ b ∷ c ∷ d ∷ []; rest = others; ended = ended; unended = unended; four_words = refl; tokens = tokens; cut = cut }
+  is_cut ended unended cut = record { four = four; rest = others; ended = ended; unended = unended; four_words = size; tokens = tokens; cut = cut }
 
-  cut_is : (k : Cut bytes) → (k.four ≡ a ∷ b ∷ c ∷ d ∷ []) × (slice_split is_end others ≡ k.ended ++ k.unended ∷ [])
+  cut_is : (k : Cut bytes) → (k.four ≡ four) × (slice_split is_end others ≡ k.ended ++ k.unended ∷ [])
   cut_is k =
-      let same = tokens_one end_mark (map word k.four ++ k.rest) (word a ∷ word b ∷ word c ∷ word d ∷ others) bytes k.tokens tokens in
-      let f = four_are a b c d others k.four k.rest k.four_words same in
+      let same = tokens_one end_mark (map word k.four ++ k.rest) (map word four ++ others) bytes k.tokens tokens in
+      let f = same_words k.four four k.rest others (k.four_words ∙ sym size) same in
       (f.0, ap (slice_split is_end) (sym f.1) ∙ k.cut)
 
   abbrev pub some_cut : Cut bytes
@@ -79,8 +65,8 @@ module _ (bytes a b c d : List ℕ) (others : List Token) (tokens : Tokens (word
   pub fields_not_due : NotDue epd.Fields bytes
   fields_not_due due = due some_cut
 
-  pub setup_not_due : (p : Position) (e : FenError) → IsSetup p → a ∷ b ∷ c ∷ d ∷ [] ≡ setup_fields p → NotDue (epd.Setup e) bytes
-  setup_not_due p e lawful spells due = setup_never_due p (a ∷ b ∷ c ∷ d ∷ []) e lawful spells (subst (IsFirstDue of_setup e) (cut_is due.0).0 due.1)
+  pub setup_not_due : (p : Position) (e : FenError) → IsSetup p → four ≡ setup_fields p → NotDue (epd.Setup e) bytes
+  setup_not_due p e lawful spells due = setup_never_due p four e lawful spells (subst (IsFirstDue of_setup e) (cut_is due.0).0 due.1)
 
   pub opcode_not_due : (n : ℕ) (ended : List (List Token)) (unended : List Token) → AreNamed others ended unended → NotDue (epd.Opcode n) bytes
   opcode_not_due n ended unended h due =
@@ -94,14 +80,14 @@ module _ (bytes a b c d : List ℕ) (others : List Token) (tokens : Tokens (word
   -- ---- the first that is due
 
   none_before_setup : (y : EpdError) → epd_place y < 3 → NotDue y bytes
-  none_before_setup (epd.Token at) lt = token_not_due bytes (word a ∷ word b ∷ word c ∷ word d ∷ others) at tokens
+  none_before_setup (epd.Token at) lt = token_not_due bytes (map word four ++ others) at tokens
   none_before_setup epd.Fields lt = fields_not_due
   none_before_setup _ lt = absurd (omega (arith, lt))
 
-  pub setup_first : (e : FenError) → IsFirstDue of_setup e (a ∷ b ∷ c ∷ d ∷ []) → IsFirstDueEpd (epd.Setup e) bytes
+  pub setup_first : (e : FenError) → IsFirstDue of_setup e four → IsFirstDueEpd (epd.Setup e) bytes
   setup_first e h = first_epd (epd.Setup e) bytes (some_cut, h) none_before_setup
 
-  module _ (p : Position) (lawful : IsSetup p) (spells : a ∷ b ∷ c ∷ d ∷ [] ≡ setup_fields p) where
+  module _ (p : Position) (lawful : IsSetup p) (spells : four ≡ setup_fields p) where
     none_before_opcode : (y : EpdError) → epd_place y < 4 → NotDue y bytes
     none_before_opcode (epd.Setup e) lt = setup_not_due p e lawful spells
     none_before_opcode (epd.Token at) lt = none_before_setup (epd.Token at) (omega arith)
@@ -143,13 +129,12 @@ fields_first bytes ts tokens none = first_epd epd.Fields bytes (λ k. none k.fou
 
 -- ---- a record that was read
 
-pub text_found : (e : EpdRecord) (bytes a b c d : List ℕ) (ts us : List Token) (p : Position) → Tokens ts bytes → ts ≡ word a ∷ word b ∷ word c ∷ word d ∷ us → a ∷ b ∷ c ∷ d ∷ [] ≡ setup_fields p → e.setup ≡ p → AreOperations us e.operations → EpdText e bytes
-text_found e bytes a b c d ts us p tokens is fields same h = record {
+pub text_found : (e : EpdRecord) (bytes : List ℕ) (four : List (List ℕ)) (ts us : List Token) (p : Position) → Tokens ts bytes → ts ≡ map word four ++ us → four ≡ setup_fields p → e.setup ≡ p → AreOperations us e.operations → EpdText e bytes
+text_found e bytes four ts us p tokens is fields same h = record {
   operations = h.operations;
   lawful = h.lawful;
-  distinct = h.distinct;
-  same = h.same;
-  tokens = subst (λ w. Tokens w bytes) (is ∙ ap (λ w. word a ∷ word b ∷ word c ∷ word d ∷ w) h.is ∙ ap (λ four. map word four ++ flat_map operation_tokens h.operations) (fields ∙ ap setup_fields (sym same))) tokens;
+  held = h.held;
+  tokens = subst (λ w. Tokens w bytes) (is ∙ ap (λ w. map word four ++ w) h.is ∙ ap (λ ws. map word ws ++ flat_map operation_tokens h.operations) (fields ∙ ap setup_fields (sym same))) tokens;
 }
 
 -- ---- the text of a record
@@ -164,23 +149,23 @@ module _ (e : EpdRecord) (bytes : List ℕ) (lawful : IsEpd e) (h : EpdText e by
   no_repeat : (n : ℕ) → NotDue (epd.Repeated n) bytes
   no_repeat n due =
       let k = due.0 in
-      let f = cut_is bytes _ _ _ _ _ h.tokens k in
+      let f = cut_is bytes (setup_fields e.setup) (flat_map operation_tokens h.operations) refl h.tokens k in
       let same = same_from_push (map group_of h.operations) k.ended [] k.unended (sym text_named.cut ∙ f.1) in
-      pairs_unbroken BeginOtherwise k.ended n (subst (AllPairs BeginOtherwise) same.0 (begin_otherwise h.operations h.distinct)) due.1
+      pairs_unbroken BeginOtherwise k.ended n (subst (AllPairs BeginOtherwise) same.0 (begin_otherwise h.operations h.held.distinct)) due.1
 
   -- no refusal but want of memory is due
   pub text_not_due : (x : EpdError) → x ≢ epd.Memory → NotDue x bytes
   text_not_due (epd.Token at) other = token_not_due bytes (map word (setup_fields e.setup) ++ flat_map operation_tokens h.operations) at h.tokens
-  text_not_due epd.Fields other = fields_not_due bytes _ _ _ _ _ h.tokens
-  text_not_due (epd.Setup f) other = setup_not_due bytes _ _ _ _ _ h.tokens e.setup f lawful.setup refl
-  text_not_due (epd.Opcode n) other = opcode_not_due bytes _ _ _ _ _ h.tokens n (map group_of h.operations) [] text_named
-  text_not_due epd.Unended other = unended_not_due bytes _ _ _ _ _ h.tokens (map group_of h.operations) text_named
+  text_not_due epd.Fields other = fields_not_due bytes (setup_fields e.setup) (flat_map operation_tokens h.operations) refl h.tokens
+  text_not_due (epd.Setup f) other = setup_not_due bytes (setup_fields e.setup) (flat_map operation_tokens h.operations) refl h.tokens e.setup f lawful.setup refl
+  text_not_due (epd.Opcode n) other = opcode_not_due bytes (setup_fields e.setup) (flat_map operation_tokens h.operations) refl h.tokens n (map group_of h.operations) [] text_named
+  text_not_due epd.Unended other = unended_not_due bytes (setup_fields e.setup) (flat_map operation_tokens h.operations) refl h.tokens (map group_of h.operations) text_named
   text_not_due (epd.Repeated n) other = no_repeat n
   text_not_due epd.Memory other = absurd (other refl)
 
 -- want of memory may come at the text of a record
 pub text_memory : (e : EpdRecord) (bytes : List ℕ) → IsEpd e → EpdText e bytes → IsFirstDueEpd epd.Memory bytes
-text_memory e bytes lawful h = memory_first bytes (some_cut bytes _ _ _ _ _ h.tokens)
+text_memory e bytes lawful h = memory_first bytes (some_cut bytes (setup_fields e.setup) (flat_map operation_tokens h.operations) refl h.tokens)
     (e.setup, lawful.setup, refl)
 
 -- ---- the text of a record without operations
@@ -191,25 +176,32 @@ none_from_none held (o ∷ operations) there none = absurd (contains_none o (sub
 
 pub bare_is_four_words : (e : EpdRecord) (bytes : List ℕ) → EpdText e bytes → e.operations ≡ [] → IsFourWords bytes
 bare_is_four_words e bytes h none =
-    let bare = none_from_none e.operations h.operations (λ o. (h.same o).0) none in
+    let bare = none_from_none e.operations h.operations (λ o. (h.held.same o).0) none in
     (setup_fields e.setup, refl, subst (λ w. Tokens (map word (setup_fields e.setup) ++ flat_map operation_tokens w) bytes) bare h.tokens)
 
 -- ---- what the reader answers
 
-module _ (bytes a b c d rest : List ℕ) (next : (ts : List Token) → Tokens ts bytes → FourFollow a b c d rest ts) where
-  pub setup_refused : (e : FenError) → IsFirstDue of_setup e (a ∷ b ∷ c ∷ d ∷ []) → (ts : List Token) → Tokens ts bytes → IsFirstDueEpd (epd.Setup e) bytes
+module _ (bytes : List ℕ) (four : List (List ℕ)) (last : Token) (rest : List ℕ) (size : length four ≡ 4) (next : (ts : List Token) → Tokens ts bytes → Follow (map word four) last ts rest) where
+  pub setup_refused : (e : FenError) → IsFirstDue of_setup e four → (ts : List Token) → Tokens ts bytes → IsFirstDueEpd (epd.Setup e) bytes
   setup_refused e h ts tokens =
       let f = next ts tokens in
-      setup_first bytes a b c d f.others (subst (λ w. Tokens w bytes) f.is tokens) e h
+      setup_first bytes four f.others size (subst (λ w. Tokens w bytes) f.is tokens) e h
 
-  module _ (p : Position) (lawful : IsSetup p) (spells : a ∷ b ∷ c ∷ d ∷ [] ≡ setup_fields p) where
-    pub found_all : (HasTokens (word d) rest → HasTokens end_mark bytes) → (e : EpdRecord) → (e.setup ≡ p) × IsEpd e × HasTokens (word d) rest × ((vs : List Token) → TokensAfter (word d) vs rest → AreOperations vs e.operations) → IsEpd e × EpdText e bytes
+  module _ (p : Position) (lawful : IsSetup p) (spells : four ≡ setup_fields p) where
+    pub found_all : (HasTokens last rest → HasTokens end_mark bytes) → (e : EpdRecord) → (e.setup ≡ p) × IsEpd e × HasTokens last rest × ((vs : List Token) → TokensAfter last vs rest → AreOperations vs e.operations) → IsEpd e × EpdText e bytes
     found_all back e h =
         let whole = back h.2 in
         let f = next whole.0 whole.1 in
-        (h.1, text_found e bytes a b c d whole.0 f.others p whole.1 f.is spells h.0 (h.3 f.others f.after))
+        (h.1, text_found e bytes four whole.0 f.others p whole.1 f.is spells h.0 (h.3 f.others f.after))
 
-    pub refused_all : (x : EpdError) → ((vs : List Token) → TokensAfter (word d) vs rest → RefusesTokens x vs) → (ts : List Token) → Tokens ts bytes → IsFirstDueEpd x bytes
+    pub refused_all : (x : EpdError) → ((vs : List Token) → TokensAfter last vs rest → RefusesTokens x vs) → (ts : List Token) → Tokens ts bytes → IsFirstDueEpd x bytes
     refused_all x h ts tokens =
         let f = next ts tokens in
-        refused_first bytes a b c d f.others (subst (λ w. Tokens w bytes) f.is tokens) p lawful spells x (h f.others f.after)
+        refused_first bytes four f.others size (subst (λ w. Tokens w bytes) f.is tokens) p lawful spells x (h f.others f.after)
+
+  -- four words alone have no operation
+  pub no_memory : (x : EpdError) → ((ts : List Token) → TokensAfter last ts rest → RefusesTokens x ts) → x ≡ epd.Memory → ¬ IsFourWords bytes
+  no_memory x refused is alone =
+      let f = next (map word alone.0) alone.2 in
+      let same = same_words alone.0 four [] f.others (alone.1 ∙ sym size) (append-nil (map word alone.0) ∙ f.is) in
+      subst (λ y. RefusesTokens y f.others) is (refused f.others f.after) (sym same.1)

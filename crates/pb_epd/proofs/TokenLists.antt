@@ -1,7 +1,7 @@
 -- Lists of tokens that stand in bytes: no bytes have two.
 use Rattle.std.proofs.Common.{◌≡◌, ◌≢◌, ℕ, zero, suc, ◌+◌, ◌≤◌, List, [], ◌∷◌, ◌++◌, replicate, refl, sym, ap, subst, ◌∙◌, arith, add-one}
 use Rattle.std.proofs.lemmas.List.{append_assoc, append-nil, replicate-append-replicate, replicate_more}
-use Rattle.pb_epd.specs.Token.{Token, word, text, end_mark, IsToken, IsWordByte, TokensAfter, token_text}
+use Rattle.pb_epd.specs.Token.{Token, word, quoted, end_mark, IsToken, IsWordByte, TokensAfter, token_text}
 use Rattle.pb_epd.specs.Lexeme.{MayFollow, IsWholeBefore, BeginsWithWordByte, NextIs, IsStuck}
 use Rattle.pb_epd.specs.Reading.{Follow}
 use Rattle.pb_epd.proofs.Lexing.{spaces_alone, steps_one, stuck_steps, begins_unspaced, no_word_end}
@@ -21,13 +21,13 @@ only_spaces_begin (suc n) h = no_word_space h
 
 pub after_spaces : (t : Token) (n : ℕ) (bytes : List ℕ) → 1 ≤ n → IsWholeBefore t (replicate n 32 ++ bytes)
 after_spaces (word w) n bytes some = spaces_begin n bytes some
-after_spaces (text w) n bytes some = tt
+after_spaces (quoted w) n bytes some = tt
 after_spaces end_mark n bytes some = tt
 
 word_whole : (w : List ℕ) (ts : List Token) (rest : List ℕ) → TokensAfter (word w) ts rest → ¬ BeginsWithWordByte rest
 word_whole w [] rest h = λ k. only_spaces_begin h.0 (subst BeginsWithWordByte h.1 k)
 word_whole w (word u ∷ ts) rest h = λ k. spaces_begin h.0 (u ++ h.1) (h.3 (λ e. cc (e)) (λ e. cc (e))) (subst BeginsWithWordByte h.4 k)
-word_whole w (text u ∷ ts) rest h = λ k. spaces_begin h.0 ((34 ∷ (u ++ 34 ∷ [])) ++ h.1) (h.3 (λ e. cc (e)) (λ e. cc (e))) (subst BeginsWithWordByte h.4 k)
+word_whole w (quoted u ∷ ts) rest h = λ k. spaces_begin h.0 ((34 ∷ (u ++ 34 ∷ [])) ++ h.1) (h.3 (λ e. cc (e)) (λ e. cc (e))) (subst BeginsWithWordByte h.4 k)
 word_whole w (end_mark ∷ ts) rest h = λ k. before_end h.0 h.1 (subst BeginsWithWordByte h.4 k)
   where
     before_end : (n : ℕ) (r : List ℕ) → BeginsWithWordByte (replicate n 32 ++ 59 ∷ r) → ⊥
@@ -36,7 +36,7 @@ word_whole w (end_mark ∷ ts) rest h = λ k. before_end h.0 h.1 (subst BeginsWi
 
 pub tokens_whole : (t : Token) (ts : List Token) (rest : List ℕ) → TokensAfter t ts rest → IsWholeBefore t rest
 tokens_whole (word w) ts rest h = word_whole w ts rest h
-tokens_whole (text w) ts rest h = tt
+tokens_whole (quoted w) ts rest h = tt
 tokens_whole end_mark ts rest h = tt
 
 -- ---- the first token of a list, and the others
@@ -54,7 +54,7 @@ pub steps_tokens : (before t : Token) (ts : List Token) (bytes rest : List ℕ) 
 steps_tokens before t ts bytes rest h k = (h.spaces, rest, h.begins.is_token, h.follows, h.cut ∙ ap (λ w. replicate h.spaces 32 ++ w) h.begins.stands, k)
 
 -- where a token comes first, it is the first of the list
-pub found_first : (before t : Token) (ts : List Token) (bytes rest : List ℕ) → TokensAfter before ts bytes → NextIs before bytes t rest → Follow t ts rest
+pub found_first : (before t : Token) (ts : List Token) (bytes rest : List ℕ) → TokensAfter before ts bytes → NextIs before bytes t rest → Follow (t ∷ []) t ts rest
 found_first before t [] bytes rest h k = absurd (spaces_alone h.0 k.spaces k.back (begins_unspaced k.back t rest k.begins) (sym h.1 ∙ k.cut))
 found_first before t (u ∷ ts) bytes rest h k =
     let o = steps_one before bytes u t h.1 rest (tokens_steps before u ts bytes h) k in

@@ -1,5 +1,5 @@
 -- What the parts of the reader tell of the tokens of a line.
-use Rattle.std.specs.Prelude.{◌≡◌, ◌≢◌, ◌<◌, ◌↔◌, ℕ, ◌+◌, List, [], ◌∷◌, ◌++◌, length}
+use Rattle.std.specs.Prelude.{◌≡◌, ◌≢◌, ◌<◌, ℕ, ◌+◌, List, [], ◌∷◌, ◌++◌, length}
 use Rattle.std.specs.Prelude.{map, flat_map, All, AllPairs, Contains, MatchOption, Option}
 use Rattle.std.specs.List.{slice_split}
 use Rattle.pb_board.specs.Refusal.{BreaksAt}
@@ -9,9 +9,10 @@ use Rattle.pb_epd.specs.declared.read.NextOperation.{NextOperation}
 use Rattle.pb_epd.specs.declared.read.NextOperation.TheVariants as next
 use Rattle.pb_epd.specs.declared.refusal.EpdError.{EpdError}
 use Rattle.pb_epd.specs.declared.refusal.EpdError.TheVariants as epd
-use Rattle.pb_epd.specs.Token.{Token, word, end_mark, TokensAfter}
+use Rattle.pb_epd.specs.Token.{Token, end_mark, TokensAfter}
 use Rattle.pb_epd.specs.Lexeme.{IsOperandToken}
 use Rattle.pb_epd.specs.Operation.{Operation, IsOperand, IsOperation}
+use Rattle.pb_epd.specs.Epd.{AreDistinct, AreHeld}
 use Rattle.pb_epd.specs.Operation.{operand_token, operation_tokens}
 use Rattle.pb_epd.specs.Refusal.{is_end, BeginOtherwise, IsNamed}
 
@@ -19,29 +20,16 @@ use Rattle.pb_epd.specs.Refusal.{is_end, BeginOtherwise, IsNamed}
 abbrev pub HasTokens : Token → List ℕ → Type 0
 HasTokens before bytes = (ts : List Token) × TokensAfter before ts bytes
 
--- this token is the first of the list, and the others follow it
-pub record Follow (t : Token) (ts : List Token) (rest : List ℕ) : Type 0 where
+-- these tokens begin the list, and the others follow their last one, and are the rest
+pub record Follow (first : List Token) (last : Token) (ts : List Token)
+    (rest : List ℕ) : Type 0 where
   pub others : List Token
-  pub is : ts ≡ t ∷ others
-  pub after : TokensAfter t others rest
-
--- these words are the first four of the list, and the others follow them
-pub record FourFollow (placement turn castling en_passant rest : List ℕ)
-    (ts : List Token) : Type 0 where
-  pub others : List Token
-  pub is : ts ≡ word placement ∷ word turn ∷ word castling ∷ word en_passant ∷ others
-  pub after : TokensAfter (word en_passant) others rest
+  pub is : ts ≡ first ++ others
+  pub after : TokensAfter last others rest
 
 -- words and texts alone
 abbrev pub AreOperands : List Token → Type 0
 AreOperands ts = All IsOperandToken ts
-
--- these operands, an end, and others that follow it
-pub record EndsWithOperands (ts : List Token) (operands : List Operand)
-    (rest : List ℕ) : Type 0 where
-  pub others : List Token
-  pub is : ts ≡ map operand_token operands ++ end_mark ∷ others
-  pub after : TokensAfter end_mark others rest
 
 -- the bytes begin with lawful operands and an end, and they are tokens if what follows is
 pub record EndsSoundly (before : Token) (bytes : List ℕ) (operands : List Operand)
@@ -49,7 +37,8 @@ pub record EndsSoundly (before : Token) (bytes : List ℕ) (operands : List Oper
   pub shorter : length rest < length bytes
   pub lawful : All IsOperand operands
   pub back : HasTokens end_mark rest → HasTokens before bytes
-  pub tokens : (ts : List Token) → TokensAfter before ts bytes → EndsWithOperands ts operands rest
+  pub tokens : (ts : List Token) → TokensAfter before ts bytes
+      → Follow (map operand_token operands ++ end_mark ∷ []) end_mark ts rest
 
 -- an ended operation that does not begin with an opcode
 pub record BeginsUnnamed (ts : List Token) : Type 0 where
@@ -59,18 +48,12 @@ pub record BeginsUnnamed (ts : List Token) : Type 0 where
   pub operands : AreOperands group
   pub unnamed : ¬ IsNamed group
 
--- this operation, and others that follow its end
-pub record BeginsWithOperation (ts : List Token) (o : Operation) (rest : List ℕ) : Type 0 where
-  pub others : List Token
-  pub is : ts ≡ operation_tokens o ++ others
-  pub after : TokensAfter end_mark others rest
-
 abbrev pub NextFrom : NextOperation → List Token → Type 0
 NextFrom next.Done ts = ts ≡ []
 NextFrom next.Unended ts = (ts ≢ []) × AreOperands ts
 NextFrom next.Unnamed ts = BeginsUnnamed ts
 NextFrom (next.Operation opcode operands rest) ts =
-    BeginsWithOperation ts (opcode.now, operands.items) rest.now
+    Follow (operation_tokens (opcode.now, operands.items)) end_mark ts rest.now
 
 -- an operation is lawful and takes some bytes, and the bytes are tokens if what follows it is
 abbrev pub IsSound : NextOperation → Token → List ℕ → Type 0
@@ -81,17 +64,12 @@ IsSound (next.Operation opcode operands rest) before bytes =
     (length rest.now < length bytes) × IsOperation (opcode.now, operands.items)
     × (HasTokens end_mark rest.now → HasTokens before bytes)
 
--- the tokens are lawful operations with distinct opcodes that are, as a map, these
-pub record AreOperations (ts : List Token) (map : List Operation) : Type 0 where
+-- the tokens are lawful operations that are these
+pub record AreOperations (ts : List Token) (these : List Operation) : Type 0 where
   pub operations : List Operation
   pub is : ts ≡ flat_map operation_tokens operations
   pub lawful : All IsOperation operations
-  pub distinct : AllPairs (λ o p. o.0 ≢ p.0) operations
-  pub same : (o : Operation) → Contains operations o ↔ Contains map o
-
--- no opcode stands twice
-abbrev pub AreDistinct : List Operation → Type 0
-AreDistinct operations = AllPairs (λ o p. o.0 ≢ p.0) operations
+  pub held : AreHeld operations these
 
 -- the n-th operation is the first whose opcode stood before
 pub record RepeatsAt (n : ℕ) (operations : List Operation) : Type 0 where
@@ -103,11 +81,6 @@ pub record RepeatsAt (n : ℕ) (operations : List Operation) : Type 0 where
   pub distinct : AreDistinct front
   pub operands : List Operand
   pub earlier : Contains front (o.0, operands)
-
--- they are distinct and, as a map, those that are held
-pub record AreHeld (operations held : List Operation) : Type 0 where
-  pub distinct : AreDistinct operations
-  pub same : (o : Operation) → Contains operations o ↔ Contains held o
 
 abbrev pub Standing : Option ℕ → List Operation → List Operation → Type 0
 Standing repeated operations held =

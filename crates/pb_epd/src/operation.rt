@@ -1,11 +1,11 @@
 //! Operations: which opcodes and operands are lawful.
 
 ghost use Rattle.std.specs.Prelude.{◌≡◌, ◌↔◌, ◌+◌, List, All, IsTrue, MatchOption};
-ghost use Rattle.pb_epd.specs.Token.{IsToken, text as text_token, word};
+ghost use Rattle.pb_epd.specs.Token.{IsToken, quoted, word};
 ghost use Rattle.pb_epd.specs.Operation.{IsOpcode, IsOperand};
 ghost use Rattle.pb_board.specs.Refusal.{BreaksAt};
 
-use crate::token::{LONGEST, text_run, word_run};
+use crate::token::{LONGEST, quoted_run, word_run};
 use std::marker::Model;
 
 /// Holds the bytes of a word or a text.
@@ -69,10 +69,10 @@ fn is_word(bytes: &[u8]) -> bool
     !bytes.is_empty() && bytes.len() <= LONGEST && word_run(bytes) == bytes.len()
 }
 
-fn is_text(bytes: &[u8]) -> bool
-    ensures { IsTrue result ↔ IsToken (text_token bytes.now) }
+fn is_quoted(bytes: &[u8]) -> bool
+    ensures { IsTrue result ↔ IsToken (quoted bytes.now) }
 {
-    bytes.len() <= LONGEST && text_run(bytes) == bytes.len()
+    bytes.len() <= LONGEST && quoted_run(bytes) == bytes.len()
 }
 
 fn is_lawful(operand: &Operand) -> bool
@@ -80,7 +80,7 @@ fn is_lawful(operand: &Operand) -> bool
 {
     match operand {
         Operand::Word(bytes) => is_word(bytes.as_bytes()),
-        Operand::Text(bytes) => is_text(bytes.as_bytes()),
+        Operand::Text(bytes) => is_quoted(bytes.as_bytes()),
     }
 }
 

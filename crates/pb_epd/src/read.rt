@@ -1,15 +1,13 @@
 //! Reads EPD records.
 
-ghost use Rattle.std.specs.Prelude.{◌≡◌, ◌≢◌, ◌∷◌, ◌++◌, ◌+◌, ◌^◌, ◌<◌, ◌≤◌, [], ℕ, List, All};
-ghost use Rattle.std.specs.Prelude.{length, map, IfOk, IfErr, IfSome, MatchOption, MatchResult};
-ghost use Rattle.std.specs.Prelude.{OnErr, OnOk};
+ghost use Rattle.std.specs.Prelude.{◌≡◌, ◌≢◌, ◌∷◌, ◌+◌, ◌^◌, ◌<◌, [], List, IfOk, IfErr};
+ghost use Rattle.std.specs.Prelude.{MatchOption, MatchResult, OnErr, OnOk};
 ghost use Rattle.pb_epd.specs.Token.{Token, word, end_mark, Tokens, TokensAfter};
-ghost use Rattle.pb_epd.specs.Lexeme.{IsOperandToken, token_of};
+ghost use Rattle.pb_epd.specs.Lexeme.{token_of};
 ghost use Rattle.pb_epd.specs.Epd.{EpdRecord, IsEpd, EpdText};
-ghost use Rattle.pb_epd.specs.Operation.{IsOpcode, IsOperand, IsOperation, operand_token};
+ghost use Rattle.pb_epd.specs.Operation.{IsOpcode, IsOperation, operand_token};
 ghost use Rattle.pb_epd.specs.Refusal.{IsFirstDueEpd, IsFourWords, IsNamed};
-ghost use Rattle.pb_epd.specs.Reading.{HasTokens, EndsSoundly, Follow, FourFollow};
-ghost use Rattle.pb_epd.specs.Reading.{EndsWithOperands, AreOperands, NextFrom, IsSound};
+ghost use Rattle.pb_epd.specs.Reading.{HasTokens, EndsSoundly, AreOperands, NextFrom, IsSound};
 ghost use Rattle.pb_epd.specs.Reading.{AreOperations, RefusesTokens, StandsWith};
 ghost use Rattle.pb_epd.specs.declared.refusal.EpdError.TheVariants as epd;
 
@@ -42,50 +40,13 @@ struct SoFar {
     repeated: Option<usize>,
 }
 
-fn next_word<'a>(before: Lexeme<'_>, text: &'a [u8]) -> Option<(&'a [u8], &'a [u8])>
-    ensures next { MatchOption result
-        ((bytes : List ℕ) (ts : List Token) → ¬ TokensAfter (token_of before.entry)
-        (word bytes ∷ ts) text.now)
-        (λ cut. (ts : List Token) → TokensAfter (token_of before.entry) ts text.now
-        → Follow (word cut.0.now) ts cut.1.now) }
-    ensures back { IfSome result (λ cut. HasTokens (word cut.0.now) cut.1.now
-        → HasTokens (token_of before.entry) text.now) }
-{
-    let Next::Found(token, rest) = next_token(before, text) else {
-        return None;
-    };
-    let Lexeme::Word(bytes) = token else {
-        return None;
-    };
-    Some((bytes, rest))
-}
-
-/// The last is what follows the words.
-type FourWords<'a> = (&'a [u8], &'a [u8], &'a [u8], &'a [u8], &'a [u8]);
-
-fn four_words(text: &[u8]) -> Option<FourWords<'_>>
-    ensures next { MatchOption result
-        ((four : List (List ℕ)) (ts : List Token) → length four ≡ 4
-        → ¬ Tokens (map word four ++ ts) text.now)
-        (λ f. (ts : List Token) → Tokens ts text.now
-        → FourFollow f.0.now f.1.now f.2.now f.3.now f.4.now ts) }
-    ensures back { IfSome result (λ f. HasTokens (word f.3.now) f.4.now
-        → HasTokens end_mark text.now) }
-{
-    let (placement, rest) = next_word(Lexeme::End, text)?;
-    let (turn, rest) = next_word(Lexeme::Word(placement), rest)?;
-    let (castling, rest) = next_word(Lexeme::Word(turn), rest)?;
-    let (en_passant, rest) = next_word(Lexeme::Word(castling), rest)?;
-    Some((placement, turn, castling, en_passant, rest))
-}
-
 fn operand_of(alloc: Global, token: Lexeme<'_>) -> Result<Option<Operand>, AllocError>
     ensures { IfOk result (λ r. MatchOption r (token_of token.entry ≡ end_mark) (λ o.
         token_of token.entry ≡ operand_token o)) }
 {
     let operand = match token {
         Lexeme::Word(bytes) => Operand::Word(OperandBytes::of(bytes.to_vec(alloc)?)),
-        Lexeme::Text(bytes) => Operand::Text(OperandBytes::of(bytes.to_vec(alloc)?)),
+        Lexeme::Quoted(bytes) => Operand::Text(OperandBytes::of(bytes.to_vec(alloc)?)),
         Lexeme::End => return Ok(None),
     };
     Ok(Some(operand))
@@ -229,14 +190,25 @@ fn read_tokens(alloc: Global, text: &[u8]) -> Result<Epd, EpdError>
         → IsFirstDueEpd x text.now) }
     ensures memory { IfErr result (λ x. x ≡ epd.Memory → ¬ IsFourWords text.now) }
 {
-    let Some((placement, turn, castling, en_passant, rest)) = four_words(text) else {
-        return Err(EpdError::Fields);
-    };
-    let setup = match read_setup([placement, turn, castling, en_passant]) {
+    let mut four = [text; 4];
+    let mut last = Lexeme::End;
+    let mut rest = text;
+    for n in 0..4 {
+        let Next::Found(token, after) = next_token(last, rest) else {
+            return Err(EpdError::Fields);
+        };
+        let Lexeme::Word(bytes) = token else {
+            return Err(EpdError::Fields);
+        };
+        four[n] = bytes;
+        last = token;
+        rest = after;
+    }
+    let setup = match read_setup(four) {
         Ok(setup) => setup,
         Err(error) => return Err(EpdError::Setup(error)),
     };
-    read_operations(alloc, setup, Lexeme::Word(en_passant), rest)
+    read_operations(alloc, setup, last, rest)
 }
 
 /// Reads the record that the text spells (PGN Standard 16.2), its operations in any order.

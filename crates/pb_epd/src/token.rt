@@ -1,10 +1,11 @@
 //! The tokens of an EPD line: words, quoted texts and ends, with spaces around them.
 
 ghost use Rattle.std.specs.Prelude.{◌≡◌, ◌↔◌, ◌<◌, IsTrue, ◌≢◌, ◌++◌, ◌∷◌, List, ℕ, MatchOption};
-ghost use Rattle.pb_epd.specs.Token.{IsWordByte, IsTextByte, Token, text as text_token, word};
+ghost use Rattle.pb_epd.specs.Token.{IsWordByte, IsQuotedByte, Token, quoted, word};
 ghost use Rattle.pb_epd.specs.Token.{Tokens, IsToken, IsBadAt};
 ghost use Rattle.pb_epd.specs.Run.{IsRun};
-ghost use Rattle.pb_epd.specs.Lexeme.{IsOperandToken, BeginsWith, token_of, Begins, IsNext};
+ghost use Rattle.pb_board.specs.Fields.{space};
+ghost use Rattle.pb_epd.specs.Lexeme.{IsOperandToken, token_of, Begins, IsNext};
 
 /// Lines are long, so a byte is judged by one look-up: `y` if a word may have it.
 static WORD_BYTES: [u8; 256] = *b"\
@@ -23,14 +24,14 @@ fn is_word_byte(byte: u8) -> bool
     WORD_BYTES[byte as usize] == b'y'
 }
 
-fn is_text_byte(byte: u8) -> bool
-    ensures { IsTrue result ↔ IsTextByte byte }
+fn is_quoted_byte(byte: u8) -> bool
+    ensures { IsTrue result ↔ IsQuotedByte byte }
 {
     (32..=126).contains(&byte) && byte != b'"'
 }
 
 pub(crate) fn space_run(text: &[u8]) -> usize
-    ensures { IsRun (λ b. b ≡ 32) text.now result }
+    ensures { IsRun (λ b. b ≡ space) text.now result }
 {
     text.iter()
         .position(|byte| *byte != b' ')
@@ -45,11 +46,11 @@ pub(crate) fn word_run(text: &[u8]) -> usize
         .unwrap_or(text.len())
 }
 
-pub(crate) fn text_run(text: &[u8]) -> usize
-    ensures { IsRun IsTextByte text.now result }
+pub(crate) fn quoted_run(text: &[u8]) -> usize
+    ensures { IsRun IsQuotedByte text.now result }
 {
     text.iter()
-        .position(|byte| !is_text_byte(*byte))
+        .position(|byte| !is_quoted_byte(*byte))
         .unwrap_or(text.len())
 }
 
@@ -58,7 +59,7 @@ pub(crate) const LONGEST: usize = 255;
 #[derive(Clone, Copy)]
 pub(crate) enum Lexeme<'a> {
     Word(&'a [u8]),
-    Text(&'a [u8]),
+    Quoted(&'a [u8]),
     End,
 }
 
@@ -79,7 +80,8 @@ impl Lexeme<'_> {
 }
 
 fn word_at(text: &[u8]) -> Option<(&[u8], &[u8])>
-    ensures { MatchOption result ((bytes : List ℕ) → ¬ BeginsWith text.now (word bytes))
+    ensures { MatchOption result ((bytes rest : List ℕ)
+        → ¬ Begins text.now (word bytes) rest)
         (λ cut. Begins text.now (word cut.0.now) cut.1.now) }
 {
     let length = word_run(text);
@@ -90,11 +92,11 @@ fn word_at(text: &[u8]) -> Option<(&[u8], &[u8])>
 }
 
 fn quoted_at(text: &[u8]) -> Option<(&[u8], &[u8])>
-    ensures { MatchOption result ((bytes rest : List ℕ) → IsToken (text_token bytes)
+    ensures { MatchOption result ((bytes rest : List ℕ) → IsToken (quoted bytes)
         → text.now ≢ bytes ++ 34 ∷ rest)
-        (λ cut. IsToken (text_token cut.0.now) × (text.now ≡ cut.0.now ++ 34 ∷ cut.1.now)) }
+        (λ cut. IsToken (quoted cut.0.now) × (text.now ≡ cut.0.now ++ 34 ∷ cut.1.now)) }
 {
-    let length = text_run(text);
+    let length = quoted_run(text);
     if length > LONGEST || length == text.len() || text[length] != b'"' {
         return None;
     }
@@ -102,7 +104,7 @@ fn quoted_at(text: &[u8]) -> Option<(&[u8], &[u8])>
 }
 
 fn token_at(text: &[u8]) -> Option<(Lexeme<'_>, &[u8])>
-    ensures { MatchOption result ((t : Token) → ¬ BeginsWith text.now t)
+    ensures { MatchOption result ((t : Token) (rest : List ℕ) → ¬ Begins text.now t rest)
         (λ cut. Begins text.now (token_of cut.0) cut.1.now) }
 {
     let (first, rest) = text.split_first()?;
@@ -110,7 +112,7 @@ fn token_at(text: &[u8]) -> Option<(Lexeme<'_>, &[u8])>
         b';' => Some((Lexeme::End, rest)),
         b'"' => {
             let (quoted, rest) = quoted_at(rest)?;
-            Some((Lexeme::Text(quoted), rest))
+            Some((Lexeme::Quoted(quoted), rest))
         }
         _ => {
             let (word, rest) = word_at(text)?;

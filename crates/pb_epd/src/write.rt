@@ -27,7 +27,7 @@ fn put_operand(out: &mut Vec<u8>, operand: &Operand) -> Result<(), AllocError>
 }
 
 fn put_operation(out: &mut Vec<u8>, opcode: &[u8], operands: &[Operand]) -> Result<(), AllocError>
-    ensures { OnOk result (out.new.items ≡ out.old.items ++ 32
+    ensures { OnOk result (out.new.items ≡ out.old.items ++ space
         ∷ operation_text (opcode.now, operands.now)) }
 {
     out.push(b' ')?;

@@ -7,11 +7,10 @@ use Rattle.pb_epd.specs.ByteOrder.{IsBytesBelow}
 use Rattle.pb_epd.proofs.Order.{below_itself, both_below}
 use Rattle.pb_games.specs.Submissions.{Submission}
 use Rattle.pb_poly.specs.declared.book.Entry.{Entry}
-use Rattle.pb_accepted.specs.Accepting.{Answer, Run}
-use Rattle.pb_accepted.specs.Basis.{Basis}
+use Rattle.pb_accepted.specs.Accepting.{Answer, Run, NoRepeats, SameMembers}
+use Rattle.pb_accepted.specs.Rules.{Basis}
 use Rattle.pb_accepted.specs.Counting.{counted}
 use Rattle.pb_export.specs.Exporting.{StandsBefore, Listed, IsListed, IsListing, ExportLines, text_of_lines, ExportText}
-use Rattle.pb_accepted.specs.Laws.{NoRepeats, SameMembers}
 use Rattle.pb_accepted.proofs.BookLaws.{one_book, same_book}
 use Rattle.pb_board.proofs.InOrder.{same_in_order}
 use Rattle.pb_accepted.proofs.Steps.{once}

@@ -22,11 +22,10 @@ use Rattle.pb_poly.specs.declared.book.Entry.{Entry}
 use Rattle.pb_io.specs.declared.source.Failed.{Failed}
 use Rattle.pb_poly.specs.Found.{Found}
 use Rattle.pb_poly.proofs.Finding.{found_is_one}
-use Rattle.pb_accepted.specs.Basis.{Basis}
+use Rattle.pb_accepted.specs.Rules.{Basis}
 use Rattle.pb_accepted.specs.Ledger.{LedgerState}
 use Rattle.pb_export.specs.Exporting.{ExportLines, ExportText, Exports, ExportsUntil, IsListed, Listed, StandsBefore, text_of_lines, with_book_moves}
-use Rattle.pb_export.specs.Listing.{PutsFront, PutsListing, book_line, lines_of, text_of}
-use Rattle.pb_export.specs.Setups.{HasMoves, InFieldOrder, IsListedAs, IsListingOfLedger, ListsSetups, all_setups, moves_of, setups_before}
+use Rattle.pb_export.specs.Setups.{PutsFront, PutsListing, book_line, lines_of, text_of, HasMoves, InFieldOrder, IsListedAs, IsListingOfLedger, ListsSetups, all_setups, moves_of, setups_before}
 use Rattle.pb_export.specs.declared.exporting.ExportFault.{ExportFault}
 use Rattle.pb_export.specs.declared.exporting.ExportFault.TheVariants as fault
 use Rattle.pb_export.specs.declared.setups.Listing.{Listing}
@@ -175,8 +174,7 @@ module _ (l : LedgerState) (listing : Listing) (h : IsListingOfLedger l listing)
     are = its_lines;
     counted = puts.counted ∙ sym is_told.many ∙ sym (length-map is_told.listed (λ (y : Listed). y.line));
     put = subst (Appends sink.bytes new.bytes) (sym is_told.lines) (Appends-kept sink.bytes now.bytes new.bytes (text_of listing) puts.put flush.bytes);
-    handed_on = (flush.failed, flush.flushed);
-    flushes = flush.flushes ∙ ap next_count (not_flushed sink now puts.awaits);
+    handed_on = ((flush.failed, flush.flushed), flush.flushes ∙ ap next_count (not_flushed sink now puts.awaits));
   }
 
   -- what was put is a front of the text

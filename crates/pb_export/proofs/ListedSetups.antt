@@ -24,8 +24,7 @@ use Rattle.pb_poly.specs.declared.book.Entry.{Entry}
 use Rattle.pb_poly.specs.Found.{Found}
 use Rattle.pb_export.specs.Setups.{HasMoves, IsListedAs, ListsSetups, all_setups, moves_of, setups_before}
 use Rattle.pb_export.specs.declared.setups.ListedSetup.{ListedSetup}
-use Rattle.pb_accepted.specs.Holding.{IsLedger}
-use Rattle.pb_accepted.specs.Ledger.{LedgerState}
+use Rattle.pb_accepted.specs.Ledger.{IsLedger, LedgerState}
 use Rattle.pb_accepted.proofs.GivenPoints.{length-plies_from}
 
 -- ---- one text, one setup

@@ -8,8 +8,7 @@ use Rattle.std.proofs.lemmas.List.{flat_map_more, take-append-drop, take_all, ta
 use Rattle.pb_io.specs.Sink.{AwaitsFlush, Put, SinkState}
 use Rattle.pb_io.specs.declared.source.Failed.{Failed}
 use Rattle.pb_io.proofs.FlushLemmas.{AwaitsFlush-put, AwaitsFlush-trans, not_flushed}
-use Rattle.pb_export.specs.Listing.{PutsFront, PutsListing, book_line, lines_of, text_of}
-use Rattle.pb_export.specs.Setups.{moves_of}
+use Rattle.pb_export.specs.Setups.{PutsFront, PutsListing, book_line, lines_of, text_of, moves_of}
 use Rattle.pb_export.specs.declared.exporting.ExportFault.TheVariants as fault
 use Rattle.pb_export.specs.declared.setups.Listing.{Listing}
 use Rattle.pb_export.specs.declared.setups.ListedSetup.{ListedSetup}

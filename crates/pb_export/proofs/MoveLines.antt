@@ -11,7 +11,7 @@ use Rattle.pb_epd.specs.Operation.{operation_text}
 use Rattle.pb_moves.specs.Moved.{Moved}
 use Rattle.pb_moves.specs.Spelling.{spelling}
 use Rattle.pb_export.specs.Exporting.{move_and_weight, with_book_moves}
-use Rattle.pb_export.specs.Listing.{book_line, spaced_move}
+use Rattle.pb_export.specs.Setups.{book_line, spaced_move}
 
 -- what is written of one move more
 pub moves_more : (moves : List (Moved × ℕ)) (i : ℕ) (p : Moved × ℕ) (out half new : List ℕ) → i < length moves → p ≡ get_or moves i p

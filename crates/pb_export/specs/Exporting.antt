@@ -14,12 +14,11 @@ use Rattle.pb_games.specs.Submissions.{Submission, plies}
 use Rattle.pb_moves.specs.Moved.{Moved}
 use Rattle.pb_moves.specs.Spelling.{spelling}
 use Rattle.pb_poly.specs.Found.{Found}
-use Rattle.pb_io.specs.Count.{next_count}
-use Rattle.pb_io.specs.Sink.{AwaitsFlush, HandedOn, SinkState}
+use Rattle.pb_io.specs.Sink.{AwaitsFlush, HandedOnOnce, SinkState}
 use Rattle.pb_io.specs.declared.fault.Fault.{Fault}
 use Rattle.pb_io.specs.declared.fault.Fault.TheVariants as run
 use Rattle.pb_poly.specs.declared.book.Entry.{Entry}
-use Rattle.pb_accepted.specs.Basis.{Basis}
+use Rattle.pb_accepted.specs.Rules.{Basis}
 use Rattle.pb_accepted.specs.Counting.{IsBookOf}
 use Rattle.pb_accepted.specs.Ledger.{LedgerState}
 use Rattle.pb_export.specs.declared.exporting.ExportFault.{ExportFault}
@@ -88,8 +87,7 @@ pub record Exports (ledger : LedgerState) (sink sink' : SinkState) (count : ℕ)
   pub are : ExportLines ledger.basis ledger.accepted lines
   pub counted : count ≡ length lines
   pub put : Appends sink.bytes sink'.bytes (text_of_lines lines)
-  pub handed_on : HandedOn sink'
-  pub flushes : sink'.flushes ≡ next_count sink.flushes
+  pub handed_on : HandedOnOnce sink sink'
 
 -- what a fault says of the sink: nothing was handed on
 abbrev pub FaultOf : ExportFault → SinkState → SinkState → Type 0

@@ -1,16 +1,18 @@
 //! The book of a ledger as EPD lines.
 
-ghost use Rattle.std.specs.Prelude.{◌≡◌, ◌<◌, ◌^◌, All, IfErr, IfOk, length};
+ghost use Rattle.std.specs.Prelude.{◌≡◌, ◌<◌, ◌^◌, All, IfErr, IfOk, length, ◌∷◌, ◌++◌, OnOk};
+ghost use Rattle.std.specs.Prelude.{flat_map};
 ghost use Rattle.pb_export.specs.Exporting.{Exports, ExportsUntil, fault_of_export};
-ghost use Rattle.pb_export.specs.Listing.{PutsFront, PutsListing};
-ghost use Rattle.pb_export.specs.Setups.{HasMoves, IsListingOfLedger};
+ghost use Rattle.pb_export.specs.Setups.{PutsFront, PutsListing, HasMoves, IsListingOfLedger};
+ghost use Rattle.pb_export.specs.Setups.{book_line, spaced_move};
 ghost use Rattle.pb_export.specs.declared.exporting.ExportFault.TheVariants as fault;
 
-use crate::book_moves::put_line;
 use crate::indexed_book::IndexedBook;
 use crate::setups::Listing;
+use itoa::Buffer;
 use pb_accepted::Ledger;
 use pb_io::{Failed, Fault, Sink};
+use pb_moves::Move;
 use pb_points::Tally;
 use std::alloc::{AllocError, Global};
 use thiserror::Error;
@@ -101,4 +103,37 @@ fn put_lines<K: Sink>(alloc: Global, listing: &Listing, sink: &mut K) -> Result<
         sink.put(line.as_slice())?;
     }
     Ok(listing.setups.len() as u32)
+}
+
+/// Makes the line, with its LF, in the room of another one.
+pub(crate) fn put_line(
+    line: &mut Vec<u8>,
+    fields: &[u8],
+    moves: &[(Move, u16)],
+) -> Result<(), AllocError>
+    ensures { OnOk result (line.new.items ≡ book_line fields.now moves.now) }
+{
+    line.clear();
+    line.extend_from_slice(fields)?;
+    line.extend_from_slice(b" bkm")?;
+    put_moves(line, moves)?;
+    line.extend_from_slice(b";\n")
+}
+
+fn put_moves(line: &mut Vec<u8>, moves: &[(Move, u16)]) -> Result<(), AllocError>
+    ensures { OnOk result (line.new.items ≡ line.old.items ++ flat_map spaced_move moves.now) }
+{
+    let mut digits = Buffer::new();
+    for (m, weight) in moves {
+        put_spaced(line, m.text().as_bytes())?;
+        put_spaced(line, digits.format(*weight).as_bytes())?;
+    }
+    Ok(())
+}
+
+fn put_spaced(line: &mut Vec<u8>, text: &[u8]) -> Result<(), AllocError>
+    ensures { OnOk result (line.new.items ≡ line.old.items ++ 32 ∷ text.now) }
+{
+    line.push(b' ')?;
+    line.extend_from_slice(text)
 }

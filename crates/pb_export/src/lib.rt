@@ -8,7 +8,6 @@
 //! ```
 #![tactic(auto)]
 
-mod book_moves;
 mod exporting;
 mod indexed_book;
 pub mod laws;

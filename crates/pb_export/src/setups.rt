@@ -1,8 +1,7 @@
 //! The setups that stand before the moves of games and for which a book has moves.
 
-ghost use Rattle.std.specs.Prelude.{◌≡◌, ◌≤◌, ◌<◌, ◌^◌, ◌==◌, ◌++◌, ◌∷◌, [], ℕ, All};
-ghost use Rattle.std.specs.Prelude.{Contains, IfOk, IsTrue, filter, List, OnOk};
-ghost use Rattle.std.specs.Prelude.{length, map};
+ghost use Rattle.std.specs.Prelude.{◌≡◌, ◌≤◌, ◌<◌, ◌^◌, ◌==◌, ◌++◌, ◌∷◌, [], ℕ, All, Contains};
+ghost use Rattle.std.specs.Prelude.{IfOk, IsTrue, filter, List, OnOk, length, map};
 ghost use Rattle.pb_board.specs.Text.{setup_text};
 ghost use Rattle.pb_games.specs.Submissions.{IsLegalGame};
 ghost use Rattle.pb_moves.specs.Moved.{Moved};
@@ -184,7 +183,7 @@ fn keyed_setups(alloc: Global, table: &Table, game: &Game) -> Result<KeyedSetups
         match effect_of(&setup, *m) {
             Some(effect) => {
                 key = key_next(table, key, &setup, *m, &effect);
-                effect.apply(&mut setup, *m);
+                effect.apply(&mut setup);
             }
             // The moves of a game that is held are legal.
             None => unreachable!(),

@@ -4,9 +4,9 @@ ghost use Rattle.std.specs.Prelude.{◌≡◌, IfErr, OnErr, OnOk, false, true};
 ghost use Rattle.pb_commands.specs.declared.store.StoreError.TheVariants.{Write};
 ghost use Rattle.pb_files.specs.Ends.{IsSynced};
 
+use crate::file_end::SystemFile;
 use crate::holding::{hold, is_same, lock, resolve, sync_folder};
-use crate::opening::{opened, told};
-use crate::system_file::SystemFile;
+use crate::opening::{opened, tell_fault};
 use pb_commands::StoreError;
 use pb_messages::{Cause, Named};
 use std::fs::{self, File, OpenOptions};
@@ -19,30 +19,40 @@ use std::path::PathBuf;
 const ANYBODY: u32 = 0o666;
 
 /// A name that this run alone gives to a new file. It holds what has the name, and beside that the
-/// draft: `.NAME.pbook`, which goes unless it gets the name.
+/// draft: `.NAME.pbook`.
+#[derive(Drop)]
 pub(crate) struct Draft<'a> {
     named: Named<'a>,
     path: PathBuf,
-    draft: PathBuf,
     old: Option<File>,
     reads: bool,
+    draft: Made<'a>,
+}
+
+/// What was made under this name, which goes unless it gets another one.
+struct Made<'a> {
+    rt: &'a HostRuntime,
+    path: PathBuf,
     // None until it is made, and where it could not be given the name, and so stays.
     file: Option<File>,
 }
 
-impl Drop for Draft<'_> {
+impl Made<'_> {
+    /// Whether it is this run's still: another may have made one where this is removed.
+    fn is_there(&self) -> bool {
+        let found = fs::symlink_metadata(self.rt, &self.path);
+        let file = self.file.as_ref();
+        file.is_some_and(|file| is_same(file.metadata(), found))
+    }
+}
+
+impl Drop for Made<'_> {
     fn drop(self) {
-        if self.is_there() {
-            let _ = fs::remove_file(self.named.messages.rt, &self.draft);
+        let is_there = self.is_there();
+        let Made { rt, path, file: _ } = self;
+        if is_there {
+            let _ = fs::remove_file(rt, &path);
         }
-        let Draft {
-            named: _,
-            path: _,
-            draft: _,
-            old: _,
-            reads: _,
-            file: _,
-        } = self;
     }
 }
 
@@ -53,74 +63,61 @@ impl<'a> Draft<'a> {
         let rt = named.messages.rt;
         let path = opened(named, resolve(rt, named.name))?;
         let old = match fs::metadata(rt, named.name) {
-            Ok(told) if !told.is_file() && !told.is_dir() => return Ok(None),
+            Ok(metadata) if !metadata.is_file() && !metadata.is_dir() => return Ok(None),
             Err(error) if error.kind() == NotFound => None,
-            _ => {
-                let held = hold(rt, OpenOptions::new().read(reads).write(true), &path);
-                Some(opened(named, held)?)
-            }
+            _ => Some(hold(rt, OpenOptions::new().read(reads).write(true), &path)),
         };
-        let draft = opened(named, draft_path(rt, &path))?;
         let mut claimed = Draft {
             named,
-            path,
-            draft,
-            old,
+            old: opened(named, old.transpose())?,
             reads,
-            file: None,
+            draft: Made {
+                rt,
+                path: opened(named, draft_path(rt, &path))?,
+                file: None,
+            },
+            path,
         };
-        let made = claimed.file();
-        claimed.opened(made)?;
+        let file = claimed.file();
+        claimed.opened(file)?;
         Ok(Some(claimed))
     }
 
     /// Gives what was opened as the draft, or tells that it can't be: by the file's name where the
     /// folder of both isn't there.
-    fn opened<T>(&self, answer: io::Result<T>) -> Result<T, StoreError> {
+    fn opened(&self, file: io::Result<File>) -> Result<File, StoreError> {
         let Named { messages, name } = self.named;
-        match answer {
-            Err(error) if error.kind() != NotFound => {
-                opened(Named::new(messages, self.draft.as_str()), Err(error))
-            }
-            answer => opened(Named::new(messages, name), answer),
+        if file.as_ref().is_err_and(|error| error.kind() == NotFound) {
+            return opened(Named::new(messages, name), file);
         }
+        opened(Named::new(messages, self.draft.path.as_str()), file)
     }
 
     /// Makes the draft, in the place of one that a run has left that was killed: owner, permissions
     /// and links are its own. It is as private as the old file from the first, since whoever may
     /// open it empty reads it later.
     fn make(&mut self) -> io::Result<()> {
-        let rt = self.named.messages.rt;
-        match hold(rt, OpenOptions::new().read(true).write(true), &self.draft) {
-            Err(error) if error.kind() == NotFound => {}
-            left => {
-                // It is locked until its name is gone, so no other run has it.
-                let _left = left?;
-                fs::remove_file(rt, &self.draft)?;
-            }
+        let Made { rt, path, file } = &mut self.draft;
+        let left = hold(rt, OpenOptions::new().read(true).write(true), path);
+        // It is locked until its name is gone, so no other run has it.
+        match left.and_then(|_left| fs::remove_file(rt, &*path)) {
+            Err(error) if error.kind() != NotFound => return Err(error),
+            _ => {}
         }
         let old = self.old.as_ref().map(File::metadata).transpose()?;
+        let mode = old.as_ref().map_or(ANYBODY, MetadataExt::mode);
         let mut options = OpenOptions::new();
-        options.read(true).write(true).create_new(true);
-        options.mode(old.as_ref().map_or(ANYBODY, MetadataExt::mode));
-        let file = self.file.insert(options.open(rt, &self.draft)?);
-        lock(rt, file, &self.draft)
-    }
-
-    /// Whether the draft is this run's still: another may have made one where this is removed.
-    fn is_there(&self) -> bool {
-        let found = fs::symlink_metadata(self.named.messages.rt, &self.draft);
-        let file = self.file.as_ref();
-        file.is_some_and(|file| is_same(file.metadata(), found))
+        options.read(true).write(true).create_new(true).mode(mode);
+        lock(rt, file.insert(options.open(rt, &*path)?), path)
     }
 
     /// Gives the file of the draft, which is made anew where somebody has removed it, as private as
     /// the old file is by now.
     pub(crate) fn file(&mut self) -> io::Result<File> {
-        if !self.is_there() {
+        if !self.draft.is_there() {
             self.make()?;
         }
-        let file = copy(&self.file, "its draft is gone")?;
+        let file = copy(&self.draft.file, "its draft is gone")?;
         if let Some(old) = &self.old {
             let (old, new) = (old.metadata()?, file.metadata()?);
             if old.dev() != new.dev() {
@@ -149,14 +146,14 @@ impl<'a> Draft<'a> {
         };
         let (Named { messages, name }, path) = (self.named, &self.path);
         match fs::metadata(messages.rt, path) {
-            Ok(told) if told.len() != old.stream_position()? => {}
+            Ok(metadata) if metadata.len() != old.stream_position()? => {}
             _ => return Ok(()),
         }
         let kept = format!(in messages.rt.alloc(); "{}.changed", path.as_str())?;
         let kept = kept.as_str();
         let linked = fs::hard_link(messages.rt, path, kept);
         let why = io::Error::other("another program has changed it");
-        told(Named::new(messages, kept), linked, why)?;
+        tell_fault(Named::new(messages, kept), linked, why)?;
         messages.tell(&format_args!("{name}: another program has changed it; {kept} keeps that"));
         Ok(())
     }
@@ -167,7 +164,7 @@ impl<'a> Draft<'a> {
         ensures named { OnOk result (file.new ≡ record file.old { named = true }) }
         ensures failed { OnErr result (file.new ≡ file.old) }
     {
-        fs::rename(self.named.messages.rt, &self.draft, &self.path)?;
+        fs::rename(self.draft.rt, &self.draft.path, &self.path)?;
         file.is_named = true;
         Ok(())
     }
@@ -181,7 +178,7 @@ impl<'a> Draft<'a> {
         ensures failed { IfErr result (λ why. why ≡ Write) }
     {
         let Named { messages, name } = self.named;
-        if !self.is_there() {
+        if !self.draft.is_there() {
             self.named.fail(&io::Error::other("its draft is gone"));
             return Err(StoreError::Write);
         }
@@ -190,8 +187,8 @@ impl<'a> Draft<'a> {
             kept => kept,
         };
         if let Err(error) = renamed {
-            self.file = None;
-            let (cause, draft) = (Cause(&error), self.draft.as_str());
+            self.draft.file = None;
+            let (cause, draft) = (Cause(&error), self.draft.path.as_str());
             let until = format_args!("until the next run over {name} removes it");
             messages.tell(&format_args!("{name}: {cause}; the new one is {draft}, {until}"));
             return Err(StoreError::Write);
@@ -203,7 +200,7 @@ impl<'a> Draft<'a> {
     pub(crate) fn sync_name(&self, _file: &SystemFile<'a>) -> io::Result<()>
         requires { _file.now.named ≡ true }
     {
-        sync_folder(self.named.messages.rt, &self.path)
+        sync_folder(self.draft.rt, &self.path)
     }
 }
 
@@ -218,10 +215,8 @@ pub fn draft_of(rt: &HostRuntime, name: &str) -> io::Result<PathBuf> {
 
 /// Fails where the path doesn't end in a file's name.
 fn draft_path(rt: &HostRuntime, path: &PathBuf) -> io::Result<PathBuf> {
-    let name = path
-        .file_name()
-        .filter(|name| path.as_str().ends_with(*name))
-        .ok_or(io::Error::other("a file has to be named"))?;
+    let name = path.file_name().filter(|it| path.as_str().ends_with(*it));
+    let name = name.ok_or(io::Error::other("a file has to be named"))?;
     let name = format!(in rt.alloc(); ".{name}.pbook")?;
     Ok(path.with_file_name(rt.alloc(), name.as_str())?)
 }

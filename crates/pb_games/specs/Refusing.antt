@@ -1,8 +1,7 @@
 -- Why a line is refused by itself, whatever games are held: the first reason that is due.
 use Rattle.std.specs.Prelude.{◌≡◌, ◌≢◌, ℕ, ◌<◌, List, [], ◌∷◌, ◌++◌, length, map, All}
-use Rattle.std.specs.Str.Lines.{strip_carriage_return}
 use Rattle.pb_board.specs.declared.refusal.FenError.{FenError}
-use Rattle.pb_board.specs.Fields.{field, fields, space, tab}
+use Rattle.pb_board.specs.Fields.{field, fields, space}
 use Rattle.pb_board.specs.Position.{Record, IsRecord}
 use Rattle.pb_board.specs.Refusal.{BreaksAt, IsDueFen, IsFirstOf, fen_errors}
 use Rattle.pb_board.specs.Text.{fen_text}
@@ -13,6 +12,7 @@ use Rattle.pb_moves.specs.Played.{AreLegal, IsSpelled}
 use Rattle.pb_games.specs.declared.game.Outcome.{Outcome}
 use Rattle.pb_games.specs.declared.refusal.Refusal.{Refusal}
 use Rattle.pb_games.specs.declared.refusal.Refusal.TheVariants as refusal
+use Rattle.pb_games.specs.Cuts.{fields_of}
 use Rattle.pb_games.specs.Ids.{IsId}
 use Rattle.pb_games.specs.Results.{outcome_text}
 use Rattle.pb_games.specs.Tokens.{tokens_of}
@@ -50,7 +50,7 @@ in_order e m n =
 -- the line by itself is refused so: this refusal is due, and none before it, whatever their causes
 -- and numbers
 pub record Refuses (line : List ℕ) (r : Refusal) : Type 0 where
-  pub due : IsDue line (fields tab (strip_carriage_return line)) r
+  pub due : IsDue line (fields_of line) r
   pub first : (e : FenError) (m n : ℕ) (before after : List Refusal)
       → in_order e m n ≡ before ++ r ∷ after
-      → All (λ d. ¬ IsDue line (fields tab (strip_carriage_return line)) d) before
+      → All (λ d. ¬ IsDue line (fields_of line) d) before

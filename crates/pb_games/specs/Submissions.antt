@@ -2,6 +2,7 @@
 use Rattle.std.specs.Prelude.{◌≡◌, ℕ, ◌≤◌, List, [], ◌∷◌, length, map, All}
 use Rattle.std.specs.List.{join_with_byte}
 use Rattle.std.specs.Str.Lines.{strip_carriage_return}
+use Rattle.pb_board.specs.Fields.{space, tab}
 use Rattle.pb_board.specs.Position.{IsRecord, Position}
 use Rattle.pb_board.specs.Text.{fen_text}
 use Rattle.pb_moves.specs.Attacks.{IsPlayable}
@@ -19,7 +20,7 @@ Submission = List ℕ × Game
 
 -- the spellings of the moves, joined by single spaces
 abbrev pub moves_text : List Moved → List ℕ
-moves_text moves = join_with_byte 32 (map spelling moves)
+moves_text moves = join_with_byte space (map spelling moves)
 
 -- the bounds of a game
 pub record IsGame (g : Game) : Type 0 where
@@ -31,8 +32,8 @@ pub record IsGame (g : Game) : Type 0 where
 -- a TAB between each two
 abbrev pub submission_text : Submission → List ℕ
 submission_text s =
-    join_with_byte 9 (s.0 ∷ outcome_text s.1.outcome ∷ fen_text s.1.start
-    ∷ join_with_byte 32 (map spelling s.1.moves) ∷ [])
+    join_with_byte tab (s.0 ∷ outcome_text s.1.outcome ∷ fen_text s.1.start
+    ∷ moves_text s.1.moves ∷ [])
 
 -- the moves of the game, each with the setup before it
 abbrev pub plies : Game → List Ply

@@ -12,7 +12,7 @@ use Rattle.pb_moves.specs.Spelling.{spelling}
 -- the tokens of a field: what stands between its spaces; an empty field has none
 abbrev pub tokens_of : List ℕ → List (List ℕ)
 tokens_of [] = []
-tokens_of (c ∷ cs) = fields 32 (c ∷ cs)
+tokens_of (c ∷ cs) = fields space (c ∷ cs)
 
 -- the tokens of a text that is still to be cut, if there is one
 abbrev pub tokens_left : Option (Bor (List ℕ)) → List (List ℕ)

@@ -2,7 +2,7 @@
 
 ghost use Rattle.std.specs.Prelude.{◌≡◌, ◌≢◌, ◌≤◌, ◌∷◌, [], IfErr, IfOk, IfSome, IsOk, MatchOption};
 ghost use Rattle.std.specs.Prelude.{length, ◌↔◌, IsTrue};
-ghost use Rattle.pb_board.specs.Fields.{fields, tab, space};
+ghost use Rattle.pb_board.specs.Fields.{fields, space};
 ghost use Rattle.pb_games.specs.Cuts.{IsCut, fields_of};
 ghost use Rattle.pb_games.specs.Ids.{IsId};
 ghost use Rattle.pb_games.specs.declared.fields.LineFields.{LineFields};

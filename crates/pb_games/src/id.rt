@@ -1,10 +1,10 @@
 //! Ids of submissions.
 
-ghost use Rattle.std.specs.Prelude.{◌≡◌, ◌≤◌, ◌↔◌, All, IsTrue, Ok, SomeIff, length};
+ghost use Rattle.std.specs.Prelude.{◌≡◌, ◌↔◌, IsTrue, Ok, SomeIff};
 ghost use Rattle.std.specs.Cmp.Rules.{comparing, hashing};
 ghost use Rattle.std.specs.Str.{bytes_eq};
 ghost use Rattle.std.proofs.Common.{rules};
-ghost use Rattle.pb_games.specs.Ids.{IsId, IsPrintable, hashed};
+ghost use Rattle.pb_games.specs.Ids.{IsId, hashed};
 
 use pb_board::Text;
 use std::alloc::AllocError;
@@ -72,13 +72,7 @@ impl Id {
 pub(crate) fn is_id(bytes: &[u8]) -> bool
     ensures { IsTrue result ↔ IsId bytes.now }
 {
-    !bytes.is_empty() && bytes.len() <= MAX_LEN && are_printable(bytes)
-}
-
-fn are_printable(bytes: &[u8]) -> bool
-    ensures { IsTrue result ↔ All IsPrintable bytes.now }
-{
-    bytes.iter().all(|byte| *byte >= 33 && *byte <= 126)
+    !bytes.is_empty() && bytes.len() <= MAX_LEN && bytes.iter().all(u8::is_ascii_graphic)
 }
 
 impl PartialEq for Id {

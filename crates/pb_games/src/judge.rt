@@ -44,8 +44,6 @@ pub fn judge_fields<'a, P: MoveVisitor>(
     requires { (line : List ℕ) × IsCut line fields }
     ensures found { (line : List ℕ) → IsCut line fields.entry
         → IfOk result (λ s. Submits line s) }
-    ensures only { (line : List ℕ) → IsCut line fields.entry
-        → (s : Submission) → Submits line s → result ≡ Ok s }
     ensures refused { (line : List ℕ) → IsCut line fields.entry
         → IfErr result (λ e. Refuses line e) }
     ensures holds { IfOk result

@@ -1,21 +1,18 @@
 //! Laws of submissions, their lines and their refusals, and of equality (`==`).
 
-ghost use Rattle.std.specs.Prelude.{◌≡◌, ◌≤◌, ◌≢◌, ◌∷◌, [], ℕ, List, length, All};
+ghost use Rattle.std.specs.Prelude.{◌≡◌, ℕ, List};
 ghost use Rattle.pb_board.specs.Equality.{IsEquality};
 ghost use Rattle.pb_board.specs.declared.piece.Colour.TheVariants.{White};
-ghost use Rattle.pb_board.specs.Fields.{fields, tab};
-ghost use Rattle.pb_board.specs.Text.{fen_text};
 ghost use Rattle.pb_moves.specs.Attacks.{InCheck};
 ghost use Rattle.pb_games.specs.declared.judge.TheConstants.{MAX_PLIES};
 ghost use Rattle.pb_games.specs.declared.fields.TheConstants.{MAX_BYTES};
 ghost use Rattle.pb_games.specs.declared.id.TheConstants.{MAX_LEN};
 ghost use Rattle.pb_games.specs.declared.refusal.Refusal.{Refusal};
 ghost use Rattle.pb_games.specs.declared.refusal.Refusal.TheVariants.{Conflict, Full, Memory};
-ghost use Rattle.pb_games.specs.Submissions.{Submits, last_setup, Submission, IsGame, moves_text};
+ghost use Rattle.pb_games.specs.Submissions.{Submits, last_setup, Submission, IsGame};
 ghost use Rattle.pb_games.specs.Submissions.{submission_text};
 ghost use Rattle.pb_games.specs.Worked.{worked_line, worked_submission};
 ghost use Rattle.pb_games.specs.Ids.{IsId};
-ghost use Rattle.pb_games.specs.Results.{outcome_text};
 ghost use Rattle.pb_games.specs.Refusing.{Refuses};
 
 use crate::game::Outcome;
@@ -34,16 +31,6 @@ pub fn limits()
 pub fn one_submission()
     ensures { (s t : Submission) → IsId s.0 → IsGame s.1 → IsId t.0 → IsGame t.1
         → submission_text s ≡ submission_text t → s ≡ t }
-{}
-
-/// States that a text is short, has no end of a line in it, and no TAB but those between fields.
-pub fn plain_text()
-    ensures short { (s : Submission) → IsId s.0 → IsGame s.1 → length (submission_text s) ≤ 6311 }
-    ensures one_line { (s : Submission) → IsId s.0 → IsGame s.1
-        → All (λ b. (b ≢ 10) × (b ≢ 13)) (submission_text s) }
-    ensures no_tab { (s : Submission) → IsId s.0 → IsGame s.1
-        → fields tab (submission_text s)
-        ≡ s.0 ∷ outcome_text s.1.outcome ∷ fen_text s.1.start ∷ moves_text s.1.moves ∷ [] }
 {}
 
 /// States that a line is refused by itself neither for what is held nor for want of memory.

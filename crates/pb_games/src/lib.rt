@@ -14,14 +14,12 @@ mod judge;
 pub mod laws;
 mod line;
 mod refusal;
-mod repeat;
 mod visitor;
 
 pub use fields::{LineFields, cut_line};
-pub use game::{Game, MoveList, Outcome};
+pub use game::{Game, MoveList, Outcome, repeats};
 pub use id::Id;
 pub use judge::{MAX_PLIES, check_line, judge_fields};
 pub use line::{Line, Plies};
 pub use refusal::Refusal;
-pub use repeat::repeats;
 pub use visitor::{MoveVisitor, NoVisitor};

@@ -6,8 +6,7 @@ use Rattle.std.proofs.Math.Seq.{take-append_seam, take-length}
 use Rattle.std.proofs.lemmas.List.{drop_more}
 use Rattle.std.specs.Io.KnownBytes.{Appends, Keeps}
 use Rattle.std.specs.Result.{IsErr}
-use Rattle.pb_io.specs.Sink.{Lasts, Put, SinkState}
-use Rattle.pb_io.specs.Parts.{pieces_joined}
+use Rattle.pb_io.specs.Sink.{Lasts, Put, SinkState, pieces_joined}
 
 -- what lasts, by two steps
 pub Lasts-trans : (old mid new : Option (List ℕ)) → Lasts old mid → Lasts mid new → Lasts old new

@@ -4,9 +4,8 @@ ghost use Rattle.std.specs.Prelude.{◌≡◌, ◌≤◌, ℕ, List, ◌++◌, l
 ghost use Rattle.std.specs.Bool.{Decides};
 ghost use Rattle.std.specs.List.{join_with_byte};
 ghost use Rattle.pb_io.specs.Lines.{ended_lines, line_feed, line_limit, line_pieces, lines};
-ghost use Rattle.pb_io.specs.Reads.{chunk_len};
+ghost use Rattle.pb_io.specs.Source.{chunk_len, Fill, HandsOut, SourceState};
 ghost use Rattle.pb_io.specs.Count.{next_count};
-ghost use Rattle.pb_io.specs.Source.{Fill, HandsOut, SourceState};
 ghost use Rattle.pb_io.specs.declared.fault.Fault.{Fault};
 ghost use Rattle.pb_io.specs.declared.fault.ReadFault.{ReadFault};
 ghost use Rattle.pb_io.specs.declared.lines.TheConstants.{LINE_LIMIT};

@@ -15,8 +15,7 @@ use Rattle.pb_poly.specs.Entry.{IsEntry}
 use Rattle.pb_poly.specs.declared.book.Entry.{Entry}
 use Rattle.pb_poly.proofs.Entries.{book_bytes-append}
 use Rattle.pb_accepted.specs.Counting.{IsBook, counted, stretch}
-use Rattle.pb_accepted.specs.Holding.{IsLedger}
-use Rattle.pb_accepted.specs.Ledger.{LedgerState}
+use Rattle.pb_accepted.specs.Ledger.{IsLedger, LedgerState}
 use Rattle.pb_accepted.proofs.BookLaws.{one_book}
 use Rattle.pb_accepted.proofs.BookStretches.{front_stretch, joined_stretch, no_stretch, whole_stretch}
 use Rattle.pb_accepted.proofs.SomeBooks.{some_book_of_ledger}

@@ -1,7 +1,6 @@
 -- What a call did at a sink, told with another type of errors.
 use Rattle.std.proofs.Common.{ℕ, List, Ok, Err}
-use Rattle.pb_io.specs.Sink.{Put, SinkState}
-use Rattle.pb_io.specs.Writes.{Writes}
+use Rattle.pb_io.specs.Sink.{Put, SinkState, Writes}
 
 module _ {E F : Type 0} (old new : SinkState) (e : E) (f : F) (bytes : List ℕ) where
   pub writes_not : Writes old new (Err e) bytes → Writes old new (Err f) bytes

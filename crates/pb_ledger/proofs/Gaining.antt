@@ -6,14 +6,13 @@ use Rattle.std.proofs.lemmas.Grind.{flat_map-append}
 use Rattle.std.proofs.lemmas.List.{append-nil, length-append, length_push, map-append}
 use Rattle.std.specs.Str.Lines.{strip_carriage_return}
 use Rattle.pb_board.specs.LineEnd.{with_end}
-use Rattle.pb_io.specs.Sink.{HandedOn, SinkState}
-use Rattle.pb_io.specs.Writes.{Writes}
+use Rattle.pb_io.specs.Sink.{HandedOn, SinkState, Writes}
 use Rattle.pb_games.specs.Submissions.{Submission, submission_text}
 use Rattle.pb_accepted.specs.Accepting.{Answer, Step}
 use Rattle.pb_accepted.proofs.Steps.{refusal_step, step_to}
 use Rattle.pb_ledger.specs.Journal.{GameLines}
 use Rattle.pb_accepted.specs.Ledger.{LedgerState}
-use Rattle.pb_ledger.specs.Journaling.{Gains}
+use Rattle.pb_ledger.specs.Collecting.{Gains}
 use Rattle.pb_ledger.specs.Change.{from_to}
 
 -- ---- the lines of games

@@ -21,8 +21,7 @@ use Rattle.pb_games.specs.Submissions.{Submits, IsSubmission, Submission, submis
 use Rattle.pb_games.proofs.Texts.{fields_back, lawful_submission, short_line}
 use Rattle.pb_accepted.specs.Accepting as steps
 use Rattle.pb_accepted.specs.Accepting.{Answer, Run, Step}
-use Rattle.pb_ledger.specs.Games.{games_text, has_one_end, has_shape, text_of_games}
-use Rattle.pb_ledger.specs.Journal.{Replays, seal, Journals, GameLines, mending}
+use Rattle.pb_ledger.specs.Journal.{games_text, has_one_end, has_shape, text_of_games, Replays, seal, Journals, GameLines, mending}
 use Rattle.pb_ledger.specs.Saving.{header, Saved}
 use Rattle.pb_ledger.proofs.Journals.{five_fields, tabs, tabs_quiet}
 use Rattle.pb_ledger.proofs.LinesPut.{lines_alone, quiet_ended, quiet_strip}

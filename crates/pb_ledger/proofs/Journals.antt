@@ -24,7 +24,7 @@ use Rattle.pb_games.proofs.Dues.{first_due, none_at_first}
 use Rattle.pb_games.proofs.Headers.{shape_refused}
 use Rattle.pb_accepted.specs.Accepting as steps
 use Rattle.pb_accepted.specs.Accepting.{Answer, Run}
-use Rattle.pb_accepted.specs.Holding.{HaveOwnIds}
+use Rattle.pb_accepted.specs.Replying.{HaveOwnIds}
 use Rattle.pb_accepted.proofs.Replies.{HaveOwnIds-Takes}
 use Rattle.pb_accepted.proofs.Runs.{HaveOwnIds-nil}
 use Rattle.pb_accepted.proofs.Steps.{one_step, runs_join, step_to}

@@ -1,9 +1,6 @@
 mod Answering
 pub mod Booked
-mod Broken
 mod Collected
-mod CollectorLine
-pub mod Continued
 mod Failures
 mod Gaining
 mod GamesHeld
@@ -13,6 +10,5 @@ pub mod Lasting
 pub mod Loaded
 mod Picked
 pub mod Replayed
-pub mod SavedForms
 pub mod SavedLoading
 mod Torn

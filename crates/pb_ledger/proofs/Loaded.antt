@@ -1,41 +1,77 @@
 -- From the lines that the loader took to what was loaded.
+use Rattle.std.proofs.Common.{◌≡◌, ◌≢◌, ◌∙◌, ℕ, Bool, true, false, if◌then◌else◌, List, [], ◌∷◌, ◌++◌, Ok, Err, All, IsOk, refl, ap, subst, ◌+◌, ◌*◌, ◌^◌, ◌<◌, ◌≤◌, ◌⊎◌, not, length, Option, None, Some, Result, IsTrue, sym, inl, inr, arith}
 use Rattle.std.specs.Prelude.{IsErr, MatchOption, bytes_eq, nat_lt, unwrap_or}
-use Rattle.std.proofs.Common.{if◌then◌else◌, ◌≡◌, ◌≢◌, ℕ, ◌+◌, ◌*◌, ◌^◌, ◌<◌, ◌≤◌, ◌⊎◌, Bool, true, false, not, List, [], ◌∷◌, ◌++◌, length, Option, None, Some, Result, Ok, Err, All, IsOk, IsTrue, refl, sym, ap, subst, ◌∙◌, inl, inr, arith}
+use Rattle.std.proofs.lemmas.List.Elements.{All-head, All-tail, All-cons, All-nil}
+use Rattle.pb_games.specs.Submissions.{Submission}
+use Rattle.pb_games.specs.declared.refusal.Refusal.TheVariants.{Memory}
+use Rattle.pb_accepted.specs.Accepting.{Answer, Run, Step, answer_of}
+use Rattle.pb_accepted.specs.Replying.{HaveOwnIds}
+use Rattle.pb_accepted.proofs.Replies.{HaveOwnIds-Takes}
+use Rattle.pb_accepted.proofs.Steps.{one_step, step_to, refusal_step}
+use Rattle.pb_ledger.specs.Saving.{is_header, submission_lines, Judged, LoadsGame, LoadsLine, headed, header, load_error, submission, Breaks, Loads, LoadsUntil, has_header}
 use Rattle.std.specs.Borrow.{Bor, MutBor}
-use Rattle.std.proofs.lemmas.List.Elements.{All-cons, All-nil}
 use Rattle.std.proofs.lemmas.List.{length_push}
 use Rattle.std.proofs.lemmas.Bool.{false_from_ne_true, ltb-false, ltb-true}
 use Rattle.std.proofs.lemmas.Slice.Eq.{bytes_eq-Decides}
 use Rattle.std.specs.Str.Lines.{strip_carriage_return}
 use Rattle.pb_board.proofs.LineEnds.{cases_return}
 use Rattle.pb_io.specs.Count.{next_count}
-use Rattle.pb_io.specs.Source.{SourceState}
+use Rattle.pb_io.specs.Source.{SourceState, chunk_len}
 use Rattle.pb_io.specs.Lines.{IsLine, ended_lines, line_limit, lines}
-use Rattle.pb_io.specs.Reads.{chunk_len}
 use Rattle.pb_io.specs.LineTask.{AtEnd, AtLine, ReadUntil, StopsAtLast, TakesAll, TakesStream, TakesUntil, either}
 use Rattle.pb_io.specs.declared.fault.ReadFault.{ReadFault}
 use Rattle.pb_io.specs.declared.fault.ReadFault.TheVariants as fault
 use Rattle.pb_io.proofs.EndLemmas.{AtLine-weaker}
 use Rattle.pb_io.proofs.TaskLemmas.{takes-lines, takes-until}
-use Rattle.pb_games.specs.Submissions.{Submission}
 use Rattle.pb_games.specs.declared.refusal.Refusal.{Refusal}
 use Rattle.pb_games.specs.declared.refusal.Refusal.TheVariants as refusal
-use Rattle.pb_accepted.specs.Accepting.{Answer, Run, Step, answer_of}
 use Rattle.pb_accepted.specs.declared.ledger.Accepted.{Accepted}
-use Rattle.pb_accepted.specs.Ledger.{LedgerState}
+use Rattle.pb_accepted.specs.Ledger.{KeepsRest, LedgerState}
 use Rattle.pb_accepted.proofs.Runs.{HaveOwnIds-nil}
-use Rattle.pb_accepted.proofs.Steps.{refusal_step, step_to}
-use Rattle.pb_ledger.specs.declared.loading.Loader.{Loader}
-use Rattle.pb_ledger.specs.declared.loading.LoadError.{LoadError}
-use Rattle.pb_ledger.specs.declared.loading.LoadError.TheVariants as error
-use Rattle.pb_ledger.specs.Lending.{SameLedger}
-use Rattle.pb_ledger.specs.Loader.{Judged, LoadsGame, LoadsLine, header, load_error, submission}
-use Rattle.pb_ledger.specs.Saving as saving
-use Rattle.pb_ledger.specs.Making.{Makes, Wants}
-use Rattle.pb_ledger.specs.Loading.{Breaks, Loads, LoadsUntil, has_header, is_header, submission_lines}
+use Rattle.pb_ledger.specs.declared.saving.Loader.{Loader}
+use Rattle.pb_ledger.specs.declared.saving.LoadError.{LoadError}
+use Rattle.pb_ledger.specs.declared.saving.LoadError.TheVariants as error
+use Rattle.pb_ledger.specs.Change.{SameLedger, Makes, Wants, from_to}
 use Rattle.pb_ledger.proofs.Answering.{step_by}
-use Rattle.pb_ledger.proofs.Broken.{not_both, submission_push, unbroken}
-use Rattle.pb_ledger.specs.Change.{from_to}
+
+-- ---- lines of which the last one makes no game
+
+pub not_both : (r : Answer) → IsOk r → IsErr r → ⊥
+not_both (Ok n) ok err = let no : false ≡ true = err in cc
+not_both (Err e) ok err = let no : false ≡ true = ok in cc
+
+remembered : (r : Answer) → IsOk r → r ≢ Err Memory
+remembered (Ok n) ok = λ q. (cc)
+remembered (Err e) ok = let no : false ≡ true = ok in cc
+
+-- where a line leaves what the lines before it made, and memory wasn't wanting, no run of them all
+-- makes more, and none is without a refusal unless the line is taken
+pub unbroken : (cap : ℕ) (A B C : List Submission) (L : List (List ℕ)) (line : List ℕ) (Q R : List Answer) (r : Answer) → HaveOwnIds A → Run cap A L Q B → All IsOk Q
+    → Step cap B line r B → r ≢ Err Memory → Run cap A (L ++ line ∷ []) R C → All IsOk R → IsOk r × (C ≡ B)
+unbroken most A B C [] line [] [] r own run fine step other run' fine' = absurd run'
+unbroken most A B C [] line [] (q ∷ []) r own run fine step other run' fine' =
+    let here = subst (λ (X : List Submission). Step most X line r B) run step in
+    let ok = All-head IsOk q [] fine' in
+    let one = one_step most A line q r run'.0 B own run'.1 here (remembered q ok) other in
+    (subst IsOk one.0 ok, run'.2 ∙ one.1)
+unbroken most A B C [] line [] (q ∷ p ∷ R) r own run fine step other run' fine' = absurd run'.2
+unbroken most A B C [] line (q ∷ Q) R r own run fine step other run' fine' = absurd run
+unbroken most A B C (l ∷ L) line [] R r own run fine step other run' fine' = absurd run
+unbroken most A B C (l ∷ L) line (q ∷ Q) [] r own run fine step other run' fine' = absurd run'
+unbroken most A B C (l ∷ L) line (q ∷ Q) (p ∷ R) r own run fine step other run' fine' =
+    let M : List Submission = run.0 in
+    let same = one_step most A l p q run'.0 M own run'.1 run.1 (remembered p (All-head IsOk p R fine')) (remembered q (All-head IsOk q Q fine)) in
+    unbroken most M B C L line Q R r (HaveOwnIds-Takes A l q M (step_to most A l q M run.1).1 own) run.2 (All-tail IsOk q Q fine) step other
+    (subst (λ (X : List Submission). Run most X (L ++ line ∷ []) R C) same.1 run'.2) (All-tail IsOk p R fine')
+
+-- one line more has to be a submission, where it is no header
+onto : (b : Bool) (x : List ℕ) (ls ms : List (List ℕ)) → (if b then ls ++ ms else x ∷ (ls ++ ms)) ≡ (if b then ls else x ∷ ls) ++ ms
+onto true x ls ms = refl
+onto false x ls ms = refl
+
+pub submission_push : (before : List (List ℕ)) (line : List ℕ) → (before ≡ [] → is_header line ≡ false) → submission_lines (before ++ line ∷ []) ≡ submission_lines before ++ line ∷ []
+submission_push [] line none = ap (λ b. if b then [] else line ∷ []) (none refl)
+submission_push (x ∷ before) line none = onto (is_header x) x before (line ∷ [])
 
 -- ---- one line
 
@@ -48,9 +84,9 @@ same_or_longer most A line r B h = elim (step_to most A line r B h).1 [
 
 -- a long line is no header
 pub long_line : (line : List ℕ) → line_limit < length line → is_header line ≡ false
-long_line line long = false_from_ne_true _ (λ is. short ((bytes_eq-Decides (strip_carriage_return line) saving.header).0 is))
+long_line line long = false_from_ne_true _ (λ is. short ((bytes_eq-Decides (strip_carriage_return line) header).0 is))
   where
-    short : strip_carriage_return line ≡ saving.header → ⊥
+    short : strip_carriage_return line ≡ header → ⊥
     short same =
         elim (cases_return line) [
           | inl whole ↦ omega (arith, long, ap length (whole ∙ same))
@@ -59,8 +95,8 @@ long_line line long = false_from_ne_true _ (λ is. short ((bytes_eq-Decides (str
 
 -- a line is judged by what is shown of it
 pub header_shown : (line : Option (Bor (List ℕ))) (none shown : Bor (List ℕ)) (text whole : List ℕ) (is : Bool) → IsLine line whole → none.now ≡ [] → shown ≡ unwrap_or line none
-    → text ≡ strip_carriage_return shown.now → is ≡ bytes_eq text saving.header → is_header whole ≡ is
-header_shown line none shown text whole is cut empty shows strips says = by_line line cut shows ∙ ap (λ xs. bytes_eq xs saving.header) (sym strips) ∙ sym says
+    → text ≡ strip_carriage_return shown.now → is ≡ bytes_eq text header → is_header whole ≡ is
+header_shown line none shown text whole is cut empty shows strips says = by_line line cut shows ∙ ap (λ xs. bytes_eq xs header) (sym strips) ∙ sym says
   where
     by_line : (line : Option (Bor (List ℕ))) → IsLine line whole → shown ≡ unwrap_or line none → is_header whole ≡ is_header shown.now
     by_line None long shows = long_line whole long ∙ sym (ap is_header (ap (λ (b : Bor (List ℕ)). b.now) shows ∙ empty))
@@ -106,10 +142,10 @@ header_before (x ∷ before) line none = refl
 
 -- the ledger that is lent
 pub SameLedger-refl : (s : MutBor LedgerState) → SameLedger s s
-SameLedger-refl s = record { lent = refl; basis = refl; cap = refl }
+SameLedger-refl s = record { lent = refl; rest = refl }
 
 pub SameLedger-then : (s m t : MutBor LedgerState) → SameLedger s m → SameLedger m t → SameLedger s t
-SameLedger-then s m t h k = record { lent = k.lent ∙ h.lent; basis = k.basis ∙ h.basis; cap = k.cap ∙ h.cap }
+SameLedger-then s m t h k = record { lent = k.lent ∙ h.lent; rest = k.rest ∙ ap (λ (l : LedgerState). record l { accepted = t.now.accepted }) h.rest }
 
 -- what is so at a line whatever the lines are
 done_at : {P : Type 0} {fills : ℕ} {old new : SourceState} → AtLine fills old new (λ _. P) → P
@@ -121,12 +157,12 @@ module _ {T : Type 0} where
   pub submitted_so : (s : Loader T) (ledger : LedgerState) (n : ℕ) (line : Option (Bor (List ℕ))) (whole : List ℕ) (full : Result Accepted Refusal) (result : Result (Unit {0}) LoadError)
       → n ≡ next_count s.lines → (s.lines ≡ 0 → is_header whole ≡ false) → IsLine line whole
       → MatchOption line ((full ≡ Err refusal.Long) × (ledger ≡ s.ledger.now)) (λ bytes. Step s.ledger.now.cap s.ledger.now.accepted bytes.now (answer_of full) ledger.accepted)
-      → ledger.basis ≡ s.ledger.now.basis → ledger.cap ≡ s.ledger.now.cap
+      → KeepsRest s.ledger.now ledger
       → (Step s.ledger.now.cap s.ledger.now.accepted whole (answer_of full) ledger.accepted → Judged s.is_saved n s.ledger.now.accepted ledger.accepted (answer_of full) result)
       → LoadsLine s whole result (record { ledger = record s.ledger { now = ledger }; lines = n; is_saved = s.is_saved })
-  submitted_so s ledger n line whole full result counted other is step basis cap judges =
+  submitted_so s ledger n line whole full result counted other is step rest judges =
       let step = step_by s.ledger.now ledger line whole full is step in
-      submission other (record { answer = answer_of full; step = step; judged = judges step; lines = counted; saved = refl; keeps = record { lent = refl; basis = basis; cap = cap } })
+      submission other (record { answer = answer_of full; step = step; judged = judges step; lines = counted; saved = refl; keeps = record { lent = refl; rest = rest } })
 
   -- lines that were taken as submissions
   pub record Taken (s t : Loader T) (ls : List (List ℕ)) : Type 0 where
@@ -144,7 +180,7 @@ module _ {T : Type 0} where
   Taken-more : (s m t : Loader T) (line : List ℕ) (ls : List (List ℕ)) → LoadsGame s line (Ok tt) m → Taken m t ls → Taken s t (line ∷ ls)
   Taken-more s m t line ls one rest = record {
     answers = one.answer ∷ rest.answers;
-    run = (m.ledger.now.accepted, one.step, subst (λ most. Run most m.ledger.now.accepted ls rest.answers t.ledger.now.accepted) one.keeps.cap rest.run);
+    run = (m.ledger.now.accepted, one.step, subst (λ most. Run most m.ledger.now.accepted ls rest.answers t.ledger.now.accepted) (ap (λ (l : LedgerState). l.cap) one.keeps.rest) rest.run);
     taken = All-cons IsOk one.answer rest.answers one.judged.0 rest.taken;
     new = λ h. let first = one.judged.1 h in let others = rest.new (subst IsTrue (sym one.saved) h) in omega (arith, first, others);
     saved = rest.saved ∙ one.saved;
@@ -154,7 +190,7 @@ module _ {T : Type 0} where
 
   -- no line after the first is a header
   submitted : (s t : Loader T) (line : List ℕ) (answer : Result (Unit {0}) LoadError) → 1 ≤ s.lines → LoadsLine s line answer t → LoadsGame s line answer t
-  submitted s t line answer some (header zero is _ same) = absurd (omega (arith, zero, some))
+  submitted s t line answer some (headed zero is _ same) = absurd (omega (arith, zero, some))
   submitted s t line answer some (submission other one) = one
 
   later : (s t : Loader T) (ls : List (List ℕ)) → 1 ≤ s.lines → TakesAll LoadsLine s ls t → Taken s t ls
@@ -220,7 +256,7 @@ module _ {T : Type 0} where
     whole t (line ∷ ls) h = by h.1
       where
         by : LoadsLine s line (Ok tt) h.0 → Whole s t (line ∷ ls)
-        by (header zero is answer same) = Whole-saved t line ls is (subst (λ (m : Loader T). Taken m t ls) same (later h.0 t ls (omega (arith, ap (λ (m : Loader T). m.lines) same)) h.2))
+        by (headed zero is answer same) = Whole-saved t line ls is (subst (λ (m : Loader T). Taken m t ls) same (later h.0 t ls (omega (arith, ap (λ (m : Loader T). m.lines) same)) h.2))
         by (submission other one) = Whole-old t line ls (other fresh.0) (Taken-more s h.0 t line ls one (later h.0 t ls (omega (arith, one.lines)) h.2))
 
   -- lines that were taken, and one more that stopped the loader
@@ -247,7 +283,7 @@ module _ {T : Type 0} where
           → Step s.ledger.now.cap t.ledger.now.accepted line answer t.ledger.now.accepted
       step_after answer h same =
           subst (λ B. Step s.ledger.now.cap B line answer t.ledger.now.accepted) (sym same)
-          (subst (λ most. Step most m.ledger.now.accepted line answer t.ledger.now.accepted) w.keeps.cap h)
+          (subst (λ most. Step most m.ledger.now.accepted line answer t.ledger.now.accepted) (ap (λ (l : LedgerState). l.cap) w.keeps.rest) h)
 
       -- with the last line they make nothing
       breaks : (answer : Answer) → Step s.ledger.now.cap t.ledger.now.accepted line answer t.ledger.now.accepted → answer ≢ Err refusal.Memory
@@ -283,7 +319,7 @@ module _ {T : Type 0} where
           )
 
     stopped_by : (e : LoadError) (before : List (List ℕ)) (line : List ℕ) (m : Loader T) → ls ≡ before ++ line ∷ [] → Whole s m before → LoadsLine m line (Err e) t → Stopped s t e ls × SameLedger s.ledger t.ledger
-    stopped_by e before line m are w (header zero is answer same) = let no : Err e ≡ Ok tt = answer in cc
+    stopped_by e before line m are w (headed zero is answer same) = let no : Err e ≡ Ok tt = answer in cc
     stopped_by e before line m are w (submission other sub) =
         (stopped_so before line m are w other e sub, SameLedger-then s.ledger m.ledger t.ledger w.keeps sub.keeps)
 

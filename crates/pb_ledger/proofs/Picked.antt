@@ -17,11 +17,9 @@ use Rattle.pb_io.specs.declared.fault.ReadFault.{ReadFault}
 use Rattle.pb_io.specs.declared.fault.ReadFault.TheVariants as read
 use Rattle.pb_io.specs.declared.source.Failed.{Failed}
 use Rattle.pb_io.proofs.FlushLemmas.{AwaitsFlush-put, AwaitsFlush-trans, not_flushed}
-use Rattle.pb_ledger.specs.Streams.{AllCame, Puts}
-use Rattle.pb_ledger.specs.Games.{PicksAll, PicksButOne, PicksUntil, games_text, has_shape, text_of_games}
-use Rattle.pb_ledger.specs.Change.{from_to}
-use Rattle.pb_ledger.specs.Picker.{PicksLine, passed, put, torn}
-use Rattle.pb_ledger.specs.declared.games.Picker.{Picker}
+use Rattle.pb_ledger.specs.Change.{AllCame, Puts, from_to}
+use Rattle.pb_ledger.specs.Journal.{PicksAll, PicksButOne, PicksUntil, games_text, has_shape, text_of_games, PicksLine, passed, put, unfinished}
+use Rattle.pb_ledger.specs.declared.journal.Picker.{Picker}
 use Rattle.pb_ledger.proofs.Torn.{noted}
 
 -- ---- the text of lines
@@ -44,7 +42,7 @@ module _ {K W : Type 0} (state : K → SinkState) where
     pub picks : Puts (from_to (Sink s) (Sink t)) (text_of_games ls)
     pub awaits : AwaitsFlush (Sink s) (Sink t)
     pub lent : t.sink.ghost_name ≡ s.sink.ghost_name
-    pub whole : t.is_torn ≡ s.is_torn
+    pub whole : t.left_out ≡ s.left_out
 
   Taken-none : (s : Picker K W) → Taken s s []
   Taken-none s = record { picks = Appends-nil (Sink s).bytes; awaits = inl refl; lent = refl; whole = refl }
@@ -62,7 +60,7 @@ module _ {K W : Type 0} (state : K → SinkState) where
     lent = rest.lent ∙ ap (λ (x : MutBor K). x.ghost_name) same;
     whole = rest.whole ∙ whole;
   }
-  Taken-more s m t line ls (torn bad ok same is) rest = cc
+  Taken-more s m t line ls (unfinished bad ok same is) rest = cc
 
   taken : (s t : Picker K W) (ls : List (List ℕ)) → TakesAll takes s ls t → Taken s t ls
   taken s t [] h = subst (λ (x : Picker K W). Taken s x []) (sym h) (Taken-none s)
@@ -70,10 +68,10 @@ module _ {K W : Type 0} (state : K → SinkState) where
 
   -- bytes after the last LF are noted
   notes : (s t : Picker K W) (piece : List ℕ) (answer : Result (Unit {0}) Fault) → PicksLine state s piece false answer t
-      → (answer ≡ Ok tt) × (t.is_torn ≡ true) × (t.sink ≡ s.sink)
+      → (answer ≡ Ok tt) × (t.left_out ≡ true) × (t.sink ≡ s.sink)
   notes s t piece answer (put bad shape one stops lent is) = cc
   notes s t piece answer (passed bad shape ok same is) = cc
-  notes s t piece answer (torn bad ok same is) = (ok, is, same)
+  notes s t piece answer (unfinished bad ok same is) = (ok, is, same)
 
   -- ---- the whole of a stream
 
@@ -110,21 +108,21 @@ module _ {K W : Type 0} (state : K → SinkState) where
       lent = lent ∙ first.lent;
     }
     stopped ls before line m e are first (passed is shape ok same whole) = let no : Err e ≡ Ok tt = ok in cc
-    stopped ls before line m e are first (torn is ok same whole) = let no : Err e ≡ Ok tt = ok in cc
+    stopped ls before line m e are first (unfinished is ok same whole) = let no : Err e ≡ Ok tt = ok in cc
 
-    module _ (whole : s.is_torn ≡ false) where
+    module _ (whole : s.left_out ≡ false) where
       -- all bytes came, the games that they hold were put and await a flush, and this is whether
       -- bytes were left behind the last LF
       pub record PutsAll (answer : Result (Unit {0}) Fault) : Type 0 where
         pub ok : answer ≡ Ok tt
-        pub all : AllCame fills (from_to old new) (λ bytes. Puts (from_to (Sink s) (Sink t)) (games_text bytes) × (t.is_torn ≡ is_torn bytes))
+        pub all : AllCame fills (from_to old new) (λ bytes. Puts (from_to (Sink s) (Sink t)) (games_text bytes) × (t.left_out ≡ is_torn bytes))
         pub awaits : AwaitsFlush (Sink s) (Sink t)
         pub lent : t.sink.ghost_name ≡ s.sink.ghost_name
 
       pub puts_all : (answer : Result (Unit {0}) Fault) → TakesStream (PicksLine state) fills old new s answer t → PutsAll answer
       puts_all answer h =
           let m = h.taken.middle in let all = taken s m (ended_lines h.came) h.taken.lines in
-          let end = noted (PicksLine state) (λ (x : Picker K W). x.is_torn) (λ (x : Picker K W). x.sink) notes m t (last_piece h.came) answer (all.whole ∙ whole) h.taken.torn in record {
+          let end = noted (PicksLine state) (λ (x : Picker K W). x.left_out) (λ (x : Picker K W). x.sink) notes m t (last_piece h.came) answer (all.whole ∙ whole) h.taken.torn in record {
             ok = end.ok;
             all = record {
               came = h.came;
@@ -144,7 +142,7 @@ module _ {K W : Type 0} (state : K → SinkState) where
 
       -- and then a flush
       module _ (sink' : SinkState) (h : PutsAll (Ok tt)) where
-        pub picked : (u : Unit {0}) → Flush {E = Failed} (Sink t) sink' (Ok u) → PicksAll fills (from_to old new) (from_to (Sink s) sink') t.is_torn
+        pub picked : (u : Unit {0}) → Flush {E = Failed} (Sink t) sink' (Ok u) → PicksAll fills (from_to old new) (from_to (Sink s) sink') t.left_out
         picked u flush = (
           record { came = h.all.came; reads = h.all.reads; done = (Appends-kept _ _ _ _ h.all.done.0 flush.bytes, h.all.done.1) },
           ((flush.failed, flush.flushed), flush.flushes ∙ ap next_count (not_flushed (Sink s) (Sink t) h.awaits)),

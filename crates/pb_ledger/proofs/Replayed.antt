@@ -2,11 +2,10 @@
 use Rattle.std.proofs.Common.{◌≡◌, ◌≢◌, ◌∙◌, ℕ, Bool, true, false, List, [], ◌∷◌, ◌++◌, Option, Bor, MutBor, Result, Ok, Err, All, ap, inl, inr, refl, subst, sym}
 use Rattle.std.specs.Prelude.{MatchOption}
 use Rattle.std.proofs.lemmas.List.Elements.{All-cons, All-nil}
-use Rattle.pb_io.specs.Sink.{SinkState}
+use Rattle.pb_io.specs.Sink.{SinkState, Writes}
 use Rattle.pb_io.specs.Source.{SourceState}
 use Rattle.pb_io.specs.Lines.{IsLine, ended_lines, last_piece}
 use Rattle.pb_io.specs.LineTask.{ReadUntil, TakesAll, TakesStream, TakesUntil, ended}
-use Rattle.pb_io.specs.Writes.{Writes}
 use Rattle.pb_io.specs.Fault.{fault_of_read}
 use Rattle.pb_io.specs.declared.fault.Fault.{Fault}
 use Rattle.pb_io.specs.declared.fault.Fault.TheVariants as fault
@@ -17,16 +16,12 @@ use Rattle.pb_games.specs.declared.refusal.Refusal.{Refusal}
 use Rattle.pb_games.specs.declared.refusal.Refusal.TheVariants as refusal
 use Rattle.pb_accepted.specs.Accepting.{Answer, Run, Step, answer_of}
 use Rattle.pb_accepted.specs.declared.ledger.Accepted.{Accepted}
-use Rattle.pb_accepted.specs.Ledger.{LedgerState}
+use Rattle.pb_accepted.specs.Ledger.{KeepsRest, LedgerState}
 use Rattle.pb_accepted.proofs.Steps.{refusal_step}
-use Rattle.pb_ledger.specs.Journal.{Replays, seal}
-use Rattle.pb_ledger.specs.Making.{Wants}
-use Rattle.pb_ledger.specs.Lending.{SameLedger}
-use Rattle.pb_ledger.specs.declared.replaying.Replayer.{Replayer}
-use Rattle.pb_ledger.specs.Replayer.{ReplaysLine, Stops, submits, torn}
-use Rattle.pb_ledger.specs.Replaying.{HoldsAll, ReplaysAll, ReplaysUntil}
+use Rattle.pb_ledger.specs.Journal.{Replays, seal, ReplaysLine, Stops, submits, unended, HoldsAll, ReplaysAll, ReplaysUntil}
+use Rattle.pb_ledger.specs.Change.{Wants, SameLedger, from_to}
+use Rattle.pb_ledger.specs.declared.journal.Replayer.{Replayer}
 use Rattle.pb_ledger.proofs.Answering.{step_by}
-use Rattle.pb_ledger.specs.Change.{from_to}
 use Rattle.pb_ledger.proofs.Failures.{writes_so}
 use Rattle.pb_ledger.proofs.Loaded.{SameLedger-refl, SameLedger-then}
 use Rattle.pb_ledger.proofs.Torn.{noted}
@@ -42,10 +37,10 @@ module _ {T W : Type 0} where
   pub submitted_so : (s : Replayer T W) (ledger : LedgerState) (watcher : MutBor W) (n : ℕ) (line : Option (Bor (List ℕ))) (whole : List ℕ) (is_ended : Bool) (full : Result Accepted Refusal)
       (result : Result (Unit {0}) Fault) → is_ended ≡ true → IsLine line whole
       → MatchOption line ((full ≡ Err refusal.Long) × (ledger ≡ s.ledger.now)) (λ bytes. Step s.ledger.now.cap s.ledger.now.accepted bytes.now (answer_of full) ledger.accepted)
-      → ledger.basis ≡ s.ledger.now.basis → ledger.cap ≡ s.ledger.now.cap → Stops (answer_of full) result
+      → KeepsRest s.ledger.now ledger → Stops (answer_of full) result
       → ReplaysLine s whole is_ended result (record { ledger = record s.ledger { now = ledger }; watcher = watcher; lines = n; is_torn = s.is_torn })
-  submitted_so s ledger watcher n line whole is_ended full result ends is step basis cap stops =
-      submits ends (record { answer = answer_of full; step = step_by s.ledger.now ledger line whole full is step; stops = stops; keeps = record { lent = refl; basis = basis; cap = cap }; whole = refl })
+  submitted_so s ledger watcher n line whole is_ended full result ends is step rest stops =
+      submits ends (record { answer = answer_of full; step = step_by s.ledger.now ledger line whole full is step; stops = stops; keeps = record { lent = refl; rest = rest }; whole = refl })
 
   abbrev takes : Replayer T W → List ℕ → Result (Unit {0}) Fault → Replayer T W → Type 0
   takes = ended ReplaysLine
@@ -64,12 +59,12 @@ module _ {T W : Type 0} where
   Taken-more : (s m t : Replayer T W) (line : List ℕ) (ls : List (List ℕ)) → ReplaysLine s line true (Ok tt) m → Taken m t ls → Taken s t (line ∷ ls)
   Taken-more s m t line ls (submits is one) rest = record {
     answers = one.answer ∷ rest.answers;
-    run = (m.ledger.now.accepted, one.step, subst (λ most. Run most m.ledger.now.accepted ls rest.answers t.ledger.now.accepted) one.keeps.cap rest.run);
+    run = (m.ledger.now.accepted, one.step, subst (λ most. Run most m.ledger.now.accepted ls rest.answers t.ledger.now.accepted) (ap (λ (l : LedgerState). l.cap) one.keeps.rest) rest.run);
     remembered = All-cons (λ r. r ≢ Err refusal.Memory) one.answer rest.answers one.stops rest.remembered;
     keeps = SameLedger-then s.ledger m.ledger t.ledger one.keeps rest.keeps;
     whole = rest.whole ∙ one.whole;
   }
-  Taken-more s m t line ls (torn bad ok is) rest = cc
+  Taken-more s m t line ls (unended bad ok is) rest = cc
 
   taken : (s t : Replayer T W) (ls : List (List ℕ)) → TakesAll takes s ls t → Taken s t ls
   taken s t [] h = subst (λ (x : Replayer T W). Taken s x []) (sym h) (Taken-none s)
@@ -79,7 +74,7 @@ module _ {T W : Type 0} where
   notes : (s t : Replayer T W) (piece : List ℕ) (answer : Result (Unit {0}) Fault) → ReplaysLine s piece false answer t
       → (answer ≡ Ok tt) × (t.is_torn ≡ true) × (t.ledger ≡ s.ledger)
   notes s t piece answer (submits bad one) = cc
-  notes s t piece answer (torn is ok same) = (ok, ap (λ (x : Replayer T W). x.is_torn) same, ap (λ (x : Replayer T W). x.ledger) same)
+  notes s t piece answer (unended is ok same) = (ok, ap (λ (x : Replayer T W). x.is_torn) same, ap (λ (x : Replayer T W). x.ledger) same)
 
   -- ---- from no games on
 
@@ -116,7 +111,7 @@ module _ {T W : Type 0} where
     stopped ls before line m e are all (submits is one) =
         let step = subst (λ r. Step m.ledger.now.cap m.ledger.now.accepted line r t.ledger.now.accepted) one.stops.0 one.step in
         let same : t.ledger.now.accepted ≡ m.ledger.now.accepted = refusal_step m.ledger.now.cap m.ledger.now.accepted line refusal.Memory t.ledger.now.accepted step in
-        let here = subst (λ most. Step most m.ledger.now.accepted line (Err refusal.Memory) t.ledger.now.accepted) all.keeps.cap step in (
+        let here = subst (λ most. Step most m.ledger.now.accepted line (Err refusal.Memory) t.ledger.now.accepted) (ap (λ (l : LedgerState). l.cap) all.keeps.rest) step in (
           one.stops.1,
           record {
             before = before;
@@ -129,7 +124,7 @@ module _ {T W : Type 0} where
           },
           SameLedger-then s.ledger m.ledger t.ledger all.keeps one.keeps,
         )
-    stopped ls before line m e are all (torn bad ok is) = let bad : Err e ≡ Ok tt = ok in cc
+    stopped ls before line m e are all (unended bad ok is) = let bad : Err e ≡ Ok tt = ok in cc
 
     module _ (whole : s.is_torn ≡ false) where
       -- the stream was read to its end

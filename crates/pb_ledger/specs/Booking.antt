@@ -1,14 +1,12 @@
 -- The book of a ledger as the bytes of a file, which are put part by part.
 use Rattle.std.specs.Prelude.{◌≡◌, ℕ, ◌-◌, ◌^◌, min, true, List, length, take, Result, Err, IfOk}
 use Rattle.std.specs.Result.{result_map_both}
-use Rattle.pb_io.specs.Sink.{AwaitsFlush, Lasts, SinkState}
-use Rattle.pb_io.specs.Writes.{Writes}
+use Rattle.pb_io.specs.Sink.{AwaitsFlush, Lasts, SinkState, Writes}
 use Rattle.pb_poly.specs.Book.{BookBytes}
 use Rattle.pb_poly.specs.declared.book.Entry.{Entry}
 use Rattle.pb_accepted.specs.Counting.{IsBookOf}
 use Rattle.pb_accepted.specs.Ledger.{LedgerState}
-use Rattle.pb_ledger.specs.Change.{Change, across}
-use Rattle.pb_ledger.specs.Streams.{Puts}
+use Rattle.pb_ledger.specs.Change.{Change, across, Puts}
 use Rattle.pb_export.specs.declared.exporting.ExportFault.{ExportFault}
 use Rattle.pb_export.specs.declared.exporting.ExportFault.TheVariants as fault
 

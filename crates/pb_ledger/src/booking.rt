@@ -1,6 +1,6 @@
 //! The book of a ledger as the bytes of a file.
 
-ghost use Rattle.std.specs.Prelude.{◌≡◌, ◌-◌, ◌^◌, ℕ, List, IfOk, OnErr, OnOk, length, min};
+ghost use Rattle.std.specs.Prelude.{OnErr, OnOk};
 ghost use Rattle.pb_io.specs.Sink.{Put};
 ghost use Rattle.pb_poly.specs.Book.{book_bytes};
 ghost use Rattle.pb_ledger.specs.Booking.{PutsOn, WritesBook};

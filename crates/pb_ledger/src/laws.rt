@@ -7,41 +7,34 @@ ghost use Rattle.std.specs.Prelude.{length};
 ghost use Rattle.pb_board.specs.LineEnd.{with_end};
 ghost use Rattle.pb_io.specs.Lines.{line_feed, lines};
 ghost use Rattle.pb_io.specs.LineTask.{AtEnd, AtFault, AtNoEnd};
-ghost use Rattle.pb_io.specs.Sink.{AwaitsFlush, SinkState};
+ghost use Rattle.pb_io.specs.Sink.{AwaitsFlush, HandedOnOnce, SinkState};
 ghost use Rattle.pb_io.specs.Source.{SourceState};
 ghost use Rattle.pb_io.specs.declared.fault.Fault.TheVariants as fault;
 ghost use Rattle.pb_ledger.specs.Collecting.{CollectsStream, CollectsUntil};
-ghost use Rattle.pb_ledger.specs.Streams.{HandsOn};
+ghost use Rattle.pb_ledger.specs.Change.{Change, IsSame, across, Makes};
 ghost use Rattle.pb_poly.specs.Book.{BookBytes};
 ghost use Rattle.pb_poly.specs.Reading.{Tells};
 ghost use Rattle.pb_poly.specs.declared.book.Entry.{Entry};
 ghost use Rattle.pb_games.specs.Submissions.{Submission, IsSubmission, submission_text};
-ghost use Rattle.pb_accepted.specs.Basis.{Basis};
+ghost use Rattle.pb_accepted.specs.Rules.{Basis};
 ghost use Rattle.pb_accepted.specs.Counting.{IsBook, counted};
-ghost use Rattle.pb_accepted.specs.Holding.{HaveOwnIds};
-ghost use Rattle.pb_accepted.specs.Laws.{SameMembers};
 ghost use Rattle.pb_accepted.specs.Ledger.{LedgerState};
-ghost use Rattle.pb_accepted.specs.Accepting.{Answer, OneGame, Run, Taken};
-ghost use Rattle.pb_accepted.specs.Replies.{replies as replies_to};
+ghost use Rattle.pb_accepted.specs.Replying.{HaveOwnIds};
+ghost use Rattle.pb_accepted.specs.Accepting.{SameMembers, Answer, OneGame, Run, Taken};
+ghost use Rattle.pb_accepted.specs.Accepting.{replies as replies_to};
 ghost use Rattle.pb_export.specs.Exporting.{ExportText};
-ghost use Rattle.pb_ledger.specs.declared.loading.LoadError.{LoadError};
-ghost use Rattle.pb_ledger.specs.Games.{games_text};
-ghost use Rattle.pb_ledger.specs.Journal.{Journals, GameLines, mending};
-ghost use Rattle.pb_ledger.specs.Saving.{Saved};
-ghost use Rattle.pb_ledger.specs.Loading.{Loads, LoadsUntil};
-ghost use Rattle.pb_ledger.specs.Change.{Change, IsSame, across};
-ghost use Rattle.pb_ledger.specs.Making.{Makes};
-ghost use Rattle.pb_ledger.specs.declared.loading.LoadError.TheVariants.{Endless, Memory, Read};
+ghost use Rattle.pb_ledger.specs.declared.saving.LoadError.{LoadError};
+ghost use Rattle.pb_ledger.specs.Journal.{games_text, Journals, GameLines, mending};
+ghost use Rattle.pb_ledger.specs.Saving.{Saved, Loads, LoadsUntil};
+ghost use Rattle.pb_ledger.specs.declared.saving.LoadError.TheVariants.{Endless, Memory, Read};
 
-use crate::loading::LoadError;
-use crate::totals::Totals;
+use crate::collecting::Totals;
+use crate::saving::LoadError;
 pub use pb_accepted::laws::{
     books, distinct, numbers, one_game, one_line, premises, replies, runs, worked,
 };
 pub use pb_export::laws::exports;
-pub use pb_games::laws::{
-    one_refusal, one_submission, plain_text, refused_by_itself, refused_is_unlawful,
-};
+pub use pb_games::laws::{one_refusal, one_submission, refused_by_itself, refused_is_unlawful};
 
 /// Where no id names two games, runs that took the same submissions have one book and one export,
 /// in whatever order these came.
@@ -59,7 +52,7 @@ pub fn same_submissions()
 pub fn collected()
     ensures handed_on { (fills : ℕ) (source : Change SourceState) (sink : Change SinkState)
         (ledger : Change LedgerState) (totals : Totals)
-        → CollectsStream fills source sink ledger totals → HandsOn sink }
+        → CollectsStream fills source sink ledger totals → across HandedOnOnce sink }
     ensures read { (fills : ℕ) (source : Change SourceState) (sink : Change SinkState)
         (ledger : Change LedgerState) → CollectsUntil fills source sink ledger fault.Read
         → across AwaitsFlush sink }

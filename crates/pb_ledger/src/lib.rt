@@ -11,26 +11,16 @@
 
 mod booking;
 mod collecting;
-mod collector;
-mod games;
+mod journal;
 pub mod laws;
-mod loading;
-mod replaying;
 mod saving;
-mod submitting;
-mod totals;
-mod watcher;
 
 pub use booking::save_book;
-pub use collecting::{CollectFault, collect, collect_journaled};
-pub use games::pick_games;
-pub use loading::{LoadError, load};
+pub use collecting::{CollectFault, Totals, collect, collect_journaled};
+pub use journal::{SEALED, Watcher, pick_games, replay};
 pub use pb_accepted::{
     Accepted, Game, Id, Ledger, Line, ListTally, MAX_CAP, MAX_LEAST, MAX_PLIES, MapTally, MoveList,
     Outcome, Plies, Refusal, Reply, Row, Rules, Tally, check_line, scale,
 };
 pub use pb_export::{ExportFault, export};
-pub use replaying::replay;
-pub use saving::{HEADER, save};
-pub use totals::Totals;
-pub use watcher::{SEALED, Watcher};
+pub use saving::{HEADER, LoadError, load, save};

@@ -67,13 +67,14 @@ pub fn is_legal(setup: &Setup, m: Move) -> bool
 }
 
 impl Effect {
+    ghost use Rattle.pb_moves.specs.Moved.{Moved};
     ghost use Rattle.pb_moves.specs.Successor.{after};
 
-    /// Plays the move in place.
+    /// Plays the move that does this, in place.
     #[inline(always)]
-    pub fn apply(self, setup: &mut Setup, m: Move)
-        requires { IsEffect setup.old m self }
-        ensures { setup.new ≡ after setup.old m }
+    pub fn apply(self, setup: &mut Setup)
+        requires { (m : Moved) × IsEffect setup.old m self }
+        ensures { (m : Moved) → IsEffect setup.old m self → setup.new ≡ after setup.old m }
     {
         setup.move_pieces(self.first, self.second, self.rights, self.ep);
     }

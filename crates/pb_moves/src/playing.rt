@@ -21,7 +21,7 @@ pub fn try_play(setup: &mut Setup, m: Move) -> bool
 {
     match legal_effect(setup, m) {
         Some(effect) => {
-            effect.apply(setup, m);
+            effect.apply(setup);
             true
         }
         None => false,

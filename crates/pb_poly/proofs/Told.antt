@@ -1,7 +1,7 @@
 -- What is read of a table file and of a book from a source that tells its bytes.
 use Rattle.std.proofs.Common.{◌≡◌, ◌∙◌, ℕ, ◌≤◌, List, ◌++◌, Some, Result, Ok, Err, ap, append_assoc, arith, length, length-append, refl, inl, inr, subst, sym, true}
 use Rattle.std.specs.Prelude.{⊤, MatchResult}
-use Rattle.pb_io.specs.Reads.{ReadsAll, chunk_len}
+use Rattle.pb_io.specs.Source.{ReadsAll, chunk_len}
 use Rattle.pb_io.specs.Source.{SourceState}
 use Rattle.pb_io.specs.declared.fault.ReadFault.TheVariants as read
 use Rattle.pb_poly.specs.Book.{IsBookFile}

@@ -3,7 +3,7 @@ use Rattle.std.proofs.Common.{◌≡◌, ◌∙◌, ℕ, ◌≤◌, List, [], �
 use Rattle.std.specs.Prelude.{IfSome}
 use Rattle.std.specs.Io.KnownBytes.{Consumes, IsAtEnd}
 use Rattle.pb_io.specs.Source.{HandsOut, SourceState}
-use Rattle.pb_io.specs.Reads.{Reads, ReadsAll, ReadsOn, ReadsToFault}
+use Rattle.pb_io.specs.Source.{Reads, ReadsAll, ReadsOn, ReadsToFault}
 use Rattle.pb_poly.specs.Reading.{Tells}
 
 -- what came is a front of what was told

@@ -13,8 +13,6 @@ pub mod TableReading
 pub use Rattle.pb_io.specs.Count
 pub use Rattle.pb_io.specs.LineTask
 pub use Rattle.pb_io.specs.Lines
-pub use Rattle.pb_io.specs.Reads
-pub use Rattle.pb_io.specs.Sink
 pub use Rattle.pb_io.specs.Source
-pub use Rattle.pb_io.specs.Writes
+pub use Rattle.pb_io.specs.Sink
 pub use Rattle.pb_io.specs.declared.source.Failed

@@ -3,7 +3,7 @@ use Rattle.std.specs.Prelude.{◌≡◌, ℕ, ◌<◌, ◌⊎◌, List, [], ◌�
 use Rattle.std.specs.Prelude.{All, Result, Ok, Err, length, Some, false}
 use Rattle.pb_board.specs.Refusal.{BreaksAt}
 use Rattle.pb_io.specs.Source.{SourceState}
-use Rattle.pb_io.specs.Reads.{chunk_len}
+use Rattle.pb_io.specs.Source.{chunk_len}
 use Rattle.pb_poly.specs.declared.book.Entry.{Entry}
 use Rattle.pb_poly.specs.declared.reading.BookError.{BookError}
 use Rattle.pb_poly.specs.declared.reading.BookError.TheVariants.{Unsorted, Cut, Read}
@@ -13,10 +13,10 @@ use Rattle.pb_poly.specs.Book.{BookBytes, IsBookFile, NeverFall, book_bytes}
 use Rattle.pb_poly.specs.Streams.{ReadsTo, Extent, at_end, at_fault, at_no_end, so_far}
 
 -- the bytes are those of these entries, whose keys never fall, and less than a whole entry
-pub record Splits (came : List ℕ) (entries : List Entry) (piece : List ℕ) : Type 0 where
+pub record Splits (came : List ℕ) (entries : List Entry) (part : List ℕ) : Type 0 where
   pub bounds : All IsEntry entries
-  pub bytes : came ≡ book_bytes entries ++ piece
-  pub partial : length piece < 16
+  pub bytes : came ≡ book_bytes entries ++ part
+  pub partial : length part < 16
   pub ordered : NeverFall entries
 
 -- the bytes of a book, read in this way, come to these entries or to this fault
@@ -24,12 +24,12 @@ abbrev pub BookIs : Extent → List ℕ → Result (List Entry) BookError → Ty
 BookIs at_end bytes (Ok entries) = IsBookFile entries bytes
 BookIs so_far bytes (Err (Unsorted n)) =
     (entries : List Entry) × BookBytes entries bytes × BreaksAt NeverFall entries n
-BookIs at_end bytes (Err (Cut n)) = (entries : List Entry) × (piece : List ℕ)
-    × Splits bytes entries piece × (0 < n) × (n ≡ length piece)
+BookIs at_end bytes (Err (Cut n)) = (entries : List Entry) × (part : List ℕ)
+    × Splits bytes entries part × (0 < n) × (n ≡ length part)
 BookIs at_fault bytes (Err Read) =
-    (entries : List Entry) × (piece : List ℕ) × Splits bytes entries piece
+    (entries : List Entry) × (part : List ℕ) × Splits bytes entries part
 BookIs at_no_end bytes (Err Endless) =
-    (entries : List Entry) × (piece : List ℕ) × Splits bytes entries piece
+    (entries : List Entry) × (part : List ℕ) × Splits bytes entries part
 BookIs so_far bytes (Err Memory) =
     (before : List Entry) × (entry : Entry) × IsBookFile (before ++ entry ∷ []) bytes
 BookIs way bytes result = ⊥

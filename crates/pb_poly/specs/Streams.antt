@@ -1,7 +1,7 @@
 -- How far a source was read that a call fills at most so often, into slices of at most `room`
 -- bytes.
 use Rattle.std.specs.Prelude.{ℕ, List}
-use Rattle.pb_io.specs.Reads.{ReadsAll, ReadsFront, ReadsOn, ReadsSome, ReadsToFault}
+use Rattle.pb_io.specs.Source.{ReadsAll, ReadsFront, ReadsOn, ReadsSome, ReadsToFault}
 use Rattle.pb_io.specs.Source.{SourceState}
 
 -- to its end, to a fault, until the fills were used up, just so far, or so far at least

@@ -1,12 +1,11 @@
 //! Books: entries in the order of their keys, their bytes, and what they hold for a setup.
 
-ghost use Rattle.std.specs.Prelude.{◌≡◌, ◌≤◌, ◌+◌, ◌++◌, length, take, ◌==◌, All, MatchOption};
-ghost use Rattle.std.specs.Prelude.{take_while, IfOk};
+ghost use Rattle.std.specs.Prelude.{◌≡◌, ◌≤◌, length, ◌==◌, All, MatchOption, take_while, IfOk};
 ghost use Rattle.pb_io.specs.Sink.{Put};
 ghost use Rattle.pb_poly.specs.Book.{book_bytes, NeverFall};
 ghost use Rattle.pb_poly.specs.Entry.{IsEntry, entry_bytes};
 ghost use Rattle.pb_board.specs.Refusal.{BreaksAt};
-ghost use Rattle.pb_io.specs.Writes.{Writes};
+ghost use Rattle.pb_io.specs.Sink.{Writes};
 ghost use Rattle.pb_poly.specs.Found.{Found};
 
 use crate::code::move_of;
@@ -43,8 +42,7 @@ impl Entry {
         bytes
     }
 
-    pub(crate) fn from_bytes(bytes: &[u8]) -> Entry
-        requires { length bytes.now ≡ 16 }
+    pub(crate) fn from_bytes(bytes: &[u8; ENTRY_LEN]) -> Entry
         ensures bytes { entry_bytes result ≡ bytes.now }
         ensures rules { IsEntry result }
     {
@@ -70,23 +68,15 @@ pub fn write_entry<K: Sink>(sink: &mut K, entry: &Entry) -> Result<(), Failed>
 /// The most entries that are put at once.
 pub const ENTRIES_AT_ONCE: usize = 64;
 
-#[inline(always)]
-fn copy_behind(room: &mut [u8; 1024], len: usize, bytes: &[u8; ENTRY_LEN])
-    requires { len + 16 ≤ 1024 }
-    ensures { take (len + 16) room.new ≡ take len room.old ++ bytes.now }
-{
-    room[len..len + ENTRY_LEN].copy_from_slice(bytes);
-}
-
 /// Puts the bytes of at most 64 entries at once.
 pub fn write_entries<K: Sink>(sink: &mut K, entries: &[Entry]) -> Result<(), Failed>
     requires { length entries.now ≤ 64 }
     ensures { Put (K.state sink.old) (K.state sink.new) result (book_bytes entries.now) }
 {
-    let mut room = [0; 1024];
+    let mut room = [0; ENTRIES_AT_ONCE * ENTRY_LEN];
     let mut len = 0;
     for entry in entries {
-        copy_behind(&mut room, len, &entry.to_bytes());
+        room[len..len + ENTRY_LEN].copy_from_slice(&entry.to_bytes());
         len += ENTRY_LEN;
     }
     sink.put(&room[..len])

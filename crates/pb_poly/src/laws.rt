@@ -20,7 +20,7 @@ ghost use Rattle.pb_poly.specs.declared.table.TableFault.{TableFault};
 use crate::book::Entry;
 use crate::reading::BookError;
 use crate::table::{TableError, TableFault};
-pub use pb_io::laws::{lines_begin, lines_few, pieces_join};
+pub use pb_io::laws::{lines_begin, pieces_join};
 
 /// The limit is the number that `write_entries` asks for.
 pub fn limits()

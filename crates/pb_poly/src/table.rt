@@ -1,14 +1,13 @@
 //! Tables of the random numbers that keys are made of, and their files.
 
-ghost use Rattle.std.specs.Prelude.{◌≡◌, ◌+◌, ◌<◌, ℕ, List, ◌∷◌, All, IfOk, IfErr, MatchOption};
+ghost use Rattle.std.specs.Prelude.{◌≡◌, ◌+◌, ◌<◌, ℕ, List, ◌∷◌, IfOk, IfErr, MatchOption};
 ghost use Rattle.std.specs.Prelude.{MatchResult, length, slice_index, ◌≤◌, Err, take};
-ghost use Rattle.std.specs.List.{AllZip};
 ghost use Rattle.pb_io.specs.Lines.{lines};
 ghost use Rattle.pb_poly.specs.Table.{IsDueTable, IsRandomLine, IsTable, SpellsRandom, TableText};
 ghost use Rattle.pb_poly.specs.Table.{IsTableFile, table_limit};
 ghost use Rattle.pb_poly.specs.declared.table.TableError.TheVariants.{Memory};
 ghost use Rattle.pb_poly.specs.Reading.{Tells};
-ghost use Rattle.pb_io.specs.Reads.{ReadsAll};
+ghost use Rattle.pb_io.specs.Source.{ReadsAll};
 ghost use Rattle.pb_poly.specs.TableReading.{ReadsTable};
 ghost use Rattle.pb_io.specs.declared.fault.ReadFault.TheVariants.{Memory};
 ghost use Rattle.pb_poly.specs.declared.table.TableFault.TheVariants.{Fault};
@@ -16,7 +15,7 @@ ghost use Rattle.pb_poly.specs.declared.table.TableFault.TheVariants.{Fault};
 use memchr::memchr;
 use pb_board::without_return;
 use pb_io::{ReadFault, Source};
-use std::alloc::{AllocError, Global};
+use std::alloc::Global;
 use std::marker::Model;
 use thiserror::Error;
 

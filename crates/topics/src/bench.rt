@@ -96,7 +96,7 @@ fn key_of_game(table: &Table, game: &[Move]) -> u64 {
         match legal_effect(&setup, *m) {
             Some(effect) => {
                 key = key_next(table, key, &setup, *m, &effect);
-                effect.apply(&mut setup, *m);
+                effect.apply(&mut setup);
             }
             None => return key,
         }

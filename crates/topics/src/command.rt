@@ -1,6 +1,6 @@
 //! Each command over the ends that a word of the row names, such as `input=reader:5 output=room:9`.
 //! With `put=hidden` what was put isn't told, and with `next=told` the next three bytes of the
-//! input are.
+//! input are. Options are words of it too, as `plies=2 weight=3` of `tree`.
 
 use crate::collecting::{self, Passed};
 use crate::ends::{Output, fills_in, is_told, rules_in};
@@ -107,9 +107,11 @@ fn run(page: &mut Page, call: &[&str]) -> Done {
             let mut book = source_in(ends, "input", "reader:3", file.as_bytes());
             run_probe(alloc, &mut table, &mut book, fen, &mut sink, fills)
         }
-        ("tree", [table, plies, least, fen, entries @ ..]) => {
+        ("tree", [table, fen, entries @ ..]) => {
             let file = file_of(alloc, entries)?;
-            let (fen, plies, least) = (fen.as_bytes(), small_of(plies), small_of(least));
+            let fen = fen.as_bytes();
+            let plies = small_of(end_of(ends, "plies", "4"));
+            let least = small_of(end_of(ends, "weight", "0"));
             let mut table = source_in(ends, "table", "reader:1000", table.as_bytes());
             let mut book = source_in(ends, "input", "reader:3", file.as_bytes());
             unless_stopped(answer_tree(

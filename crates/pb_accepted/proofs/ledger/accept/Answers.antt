@@ -3,7 +3,7 @@ use Rattle.std.specs.Str.{bytes_eq}
 use Rattle.indexmap.proofs.CallerLemmas.{insert_entry-new}
 use Rattle.pb_points.specs.Tally.{Held}
 use Rattle.pb_accepted.specs.declared.ply_points.PlyPoints.{PlyPoints}
-use Rattle.pb_accepted.specs.Holding.{lost, rowed, with_ply_points}
+use Rattle.pb_accepted.specs.Ledger.{lost, rowed, with_ply_points}
 use Rattle.pb_accepted.proofs.Places.{absent_from_new}
 use Rattle.pb_accepted.proofs.ledger.accept.Goals as goal
 

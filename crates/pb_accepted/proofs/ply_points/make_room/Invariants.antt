@@ -1,5 +1,5 @@
 use Rattle.std.proofs.Common.{◌≡◌, ◌≤◌, length, take}
-use Rattle.pb_accepted.specs.Holding.{lost}
+use Rattle.pb_accepted.specs.Ledger.{lost}
 use Rattle.pb_accepted.proofs.GivenPoints.{Ensured}
 use Rattle.pb_accepted.proofs.ply_points.make_room.Given as goal
 

@@ -1,9 +1,8 @@
 use Rattle.std.proofs.Common.{rules}
 use Rattle.std.specs.Prelude.{Some, codes}
 use Rattle.std.proofs.lemmas.Result.{IfOk-weaker}
-use Rattle.pb_cli.specs.Built.{HasRule}
+use Rattle.pb_cli.specs.CommandLine.{HasRule, argument_or, option}
 use Rattle.clap.specs.declared.builder.value_parser.ValueParser.TheVariants.{Unsigned}
-use Rattle.pb_cli.specs.CommandLine.{argument_or, option}
 use Rattle.pb_cli.proofs.Commands.{IsCommand-arg}
 use Rattle.pb_cli.proofs.grammar.tree.Goals as goal
 

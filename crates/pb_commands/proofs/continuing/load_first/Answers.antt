@@ -1,7 +1,7 @@
 use Rattle.std.proofs.Common.{◌∙◌, inr}
 use Rattle.std.proofs.lemmas.Result.{err_from_is_err_and}
-use Rattle.pb_commands.specs.declared.refusal.Refused.TheVariants.{Ledger}
-use Rattle.pb_commands.proofs.Taking.{found_so, same_but_games, stops_told}
+use Rattle.pb_commands.specs.declared.stop.Refused.TheVariants.{Ledger}
+use Rattle.pb_commands.proofs.Taking.{found_so, stops_told}
 use Rattle.pb_commands.proofs.continuing.load_first.Goals as goal
 
 pub returns-in_err-accept : goal.returns-in_err-accept
@@ -17,4 +17,4 @@ returns g c =
     let loaded = c.load-loaded.ensures in
     let found = found_so Ledger c.load-loaded.result c.map_err.result _ c.map_err.ensures.cases c.in_ok-accept.ensures.0 in
     let all = rw found at loaded.ok in
-    ((c.in_ok-ledger.ledger, opened.0, all.0, same_but_games c.in_ok-ledger.ledger c.load-loaded.new.ledger loaded.basis loaded.cap), c.in_ok-accept.ensures.1 ∙ opened.1)
+    ((c.in_ok-ledger.ledger, opened.0, all.0, loaded.rest), c.in_ok-accept.ensures.1 ∙ opened.1)

@@ -1,9 +1,10 @@
-use Rattle.std.proofs.Common.{◌∙◌, ◌+◌, [], ◌∷◌, ◌++◌, ap, append-nil, append_assoc, arith, not, sym}
+use Rattle.std.proofs.Common.{◌∙◌, ◌+◌, [], ◌∷◌, ◌++◌, ap, append-nil, append_assoc, arith, not}
+use Rattle.std.proofs.Common.{sym}
 use Rattle.std.proofs.lemmas.List.{length_push}
 use Rattle.std.proofs.lemmas.List.Elements.{All-push, All-same}
 use Rattle.pb_board.proofs.Breaks.{all_breaks}
 use Rattle.pb_moves.specs.Played.{IsSpelled}
-use Rattle.pb_commands.specs.Line.{texts}
+use Rattle.pb_commands.specs.FenShown.{texts}
 use Rattle.pb_commands.proofs.Moves.{is_spelt, isnt_spelt, texts_from, texts_past}
 use Rattle.pb_commands.proofs.fen.misspelt.Goals as goal
 

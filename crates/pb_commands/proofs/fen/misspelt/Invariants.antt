@@ -1,6 +1,6 @@
 use Rattle.std.proofs.Common.{◌≡◌, ℕ, List, All, ◌++◌, drop, length}
 use Rattle.pb_moves.specs.Played.{IsSpelled}
-use Rattle.pb_commands.specs.Line.{texts}
+use Rattle.pb_commands.specs.FenShown.{texts}
 use Rattle.pb_commands.proofs.fen.misspelt.Given as goal
 
 -- the move texts before this one spell moves

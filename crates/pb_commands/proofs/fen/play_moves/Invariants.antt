@@ -2,7 +2,7 @@ use Rattle.std.proofs.Common.{◌≡◌, ℕ, List, All, ◌++◌, drop, length}
 use Rattle.std.specs.List.{AllZip}
 use Rattle.pb_moves.specs.Moved.{Moved}
 use Rattle.pb_moves.specs.Played.{IsSpelled, Plays, Spells}
-use Rattle.pb_commands.specs.Line.{texts}
+use Rattle.pb_commands.specs.FenShown.{texts}
 use Rattle.pb_commands.proofs.fen.play_moves.Given as goal
 
 -- the move texts before this one spell moves that lead to this record

@@ -1,7 +1,7 @@
 use Rattle.std.proofs.Common.{Ok, rules}
 use Rattle.pb_commands.proofs.Shown.{moves_played}
-use Rattle.pb_commands.specs.Line.{texts}
-use Rattle.pb_commands.specs.RecordJudged.{AsRecord}
+use Rattle.pb_commands.specs.FenShown.{texts}
+use Rattle.pb_commands.specs.Judged.{AsRecord}
 use Rattle.pb_commands.proofs.fen.record_after.Goals as goal
 
 pub returns : goal.returns

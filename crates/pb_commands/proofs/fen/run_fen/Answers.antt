@@ -1,5 +1,4 @@
-use Rattle.pb_commands.specs.FenShown.{FenShown}
-use Rattle.pb_commands.specs.Line.{texts}
+use Rattle.pb_commands.specs.FenShown.{FenShown, texts}
 use Rattle.pb_commands.proofs.Stopping.{run_taken}
 use Rattle.pb_commands.proofs.fen.run_fen.Goals as goal
 

@@ -1,9 +1,8 @@
 use Rattle.std.proofs.Common.{◌≡◌, Err, Ok, refl, subst}
 use Rattle.std.proofs.lemmas.Result.{err_from_is_err_and}
 use Rattle.pb_io.specs.Sink.{SinkState}
-use Rattle.pb_commands.specs.Judged.{Verdict}
-use Rattle.pb_commands.specs.LookupRun.{LooksUp}
-use Rattle.pb_commands.specs.Refused.{StopsOrEnds}
+use Rattle.pb_commands.specs.Judged.{Verdict, StopsOrEnds}
+use Rattle.pb_commands.specs.LookupShown.{LooksUp}
 use Rattle.pb_commands.proofs.Stopping.{none_had}
 use Rattle.pb_commands.proofs.lookup.answer_lookup.Goals as goal
 

@@ -43,4 +43,4 @@ pub returns : goal.returns
 returns g c =
     let so_far = c.loop-m.invariant.written in
     let is = ap (λ xs. so_far.0 ++ xs) (sym (further_end c.in-Some.others.now c.loop-m.m-index c.loop-m-test.false)) ∙ so_far.2 in
-    put_last _ _ _ c.put.result so_far.0 _ _ so_far.1 is c.loop-m.invariant.failed c.loop-m.invariant.lasts c.loop-m.invariant.flushes c.put.ensures
+    put_last _ _ _ c.put-2.result so_far.0 _ _ so_far.1 is c.loop-m.invariant.failed c.loop-m.invariant.lasts c.loop-m.invariant.flushes c.put-2.ensures

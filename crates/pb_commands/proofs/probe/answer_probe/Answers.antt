@@ -1,8 +1,9 @@
 use Rattle.std.proofs.Common.{◌∙◌, Err}
 use Rattle.std.proofs.lemmas.Result.{err_from_is_err_and}
-use Rattle.pb_commands.specs.RecordJudged.{AsRecord}
-use Rattle.pb_commands.specs.declared.refusal.Refused.TheVariants.{Fen}
-use Rattle.pb_commands.proofs.Probing.{as_record, at_fault, at_memory, at_moves, at_record, none_probed}
+use Rattle.pb_commands.specs.Judged.{AsRecord}
+use Rattle.pb_commands.specs.declared.stop.Refused.TheVariants.{Fen}
+use Rattle.pb_commands.proofs.Probing.{as_record, at_fault, at_memory, at_moves, at_record}
+use Rattle.pb_commands.proofs.Probing.{none_probed}
 use Rattle.pb_commands.proofs.Stopping.{accepted, refused}
 use Rattle.pb_commands.proofs.probe.answer_probe.Goals as goal
 

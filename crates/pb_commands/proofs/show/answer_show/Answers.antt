@@ -3,8 +3,8 @@ use Rattle.std.proofs.lemmas.Result.{err_from_is_err_and}
 use Rattle.pb_io.specs.Sink.{SinkState}
 use Rattle.pb_poly.specs.Reading.{ReadsBook}
 use Rattle.pb_commands.specs.BookShown.{BookShown}
-use Rattle.pb_commands.specs.Refused.{StopsOrEnds}
-use Rattle.pb_commands.specs.declared.refusal.Refused.TheVariants.{Book}
+use Rattle.pb_commands.specs.Judged.{StopsOrEnds}
+use Rattle.pb_commands.specs.declared.stop.Refused.TheVariants.{Book}
 use Rattle.pb_commands.proofs.Showing.{at_fault, at_refusal}
 use Rattle.pb_commands.proofs.Stopping.{accepted, refused}
 use Rattle.pb_commands.proofs.show.answer_show.Goals as goal

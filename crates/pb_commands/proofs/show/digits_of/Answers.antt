@@ -1,6 +1,6 @@
 use Rattle.std.proofs.Common.{◌∙◌, ap, sym}
 use Rattle.hex.specs.Hex.{encode_lower}
-use Rattle.pb_commands.specs.Hexadecimal.{hexadecimal}
+use Rattle.pb_commands.specs.BookShown.{hexadecimal}
 use Rattle.pb_commands.proofs.Hexadecimals.{digits_of_bytes}
 use Rattle.pb_commands.proofs.show.digits_of.Goals as goal
 

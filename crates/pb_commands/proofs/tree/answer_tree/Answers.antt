@@ -2,10 +2,9 @@ use Rattle.std.proofs.Common.{◌∙◌, Err, Ok, refl, subst, true}
 use Rattle.std.proofs.lemmas.Result.{err_from_is_err_and}
 use Rattle.pb_board.specs.Position.{Position}
 use Rattle.pb_io.specs.Sink.{SinkState}
-use Rattle.pb_commands.specs.RecordJudged.{AsRecord}
-use Rattle.pb_commands.specs.Tree.{PutsTree, Tree}
-use Rattle.pb_commands.specs.TreeRun.{GrowsTree}
-use Rattle.pb_commands.specs.declared.refusal.Refused.TheVariants.{Fen}
+use Rattle.pb_commands.specs.Judged.{AsRecord}
+use Rattle.pb_commands.specs.Tree.{PutsTree, Tree, GrowsTree}
+use Rattle.pb_commands.specs.declared.stop.Refused.TheVariants.{Fen}
 use Rattle.pb_commands.proofs.Probing.{as_record}
 use Rattle.pb_commands.proofs.Stopping.{accepted, none_had, refused}
 use Rattle.pb_commands.proofs.Trees.{tree_flushed, tree_is_one, tree_unput}

@@ -1,8 +1,8 @@
-use Rattle.std.proofs.Common.{◌<◌, drop, length, sym, subst, refl, arith}
+use Rattle.std.proofs.Common.{ℕ, List, ◌<◌, drop, length, sym, subst, refl, arith}
 use Rattle.std.proofs.lemmas.Bool.{false≢true}
 use Rattle.std.proofs.lemmas.List.{take_rest}
 use Rattle.pb_epd.specs.Token.{Token}
-use Rattle.pb_epd.specs.Lexeme.{MayFollow, BeginsWith, token_of, Begins}
+use Rattle.pb_epd.specs.Lexeme.{MayFollow, token_of, Begins}
 use Rattle.pb_epd.proofs.Lexing.{stuck_at, steps_at, joined_bad, done_at}
 use Rattle.pb_epd.proofs.token.next_token.Goals.{else-spaces-eq0-via-then-spaces-eq0+then-is_operand+else-is_operand-2, else-spaces-eq0-via-then-spaces-eq0+else-is_operand, else-spaces-eq0-via-else-spaces-eq0}
 use Rattle.pb_epd.proofs.token.next_token.Goals as goal
@@ -14,7 +14,7 @@ pub returns-in_default : goal.returns-in_default
 returns-in_default c =
     let h = c.space_run-spaces.ensures in
     let lt : c.space_run-spaces.result < length c.args.text.now = omega (arith, h.fits, c.if-spaces-text.false) in
-    stuck_at _ _ _ h lt (λ t k _. rw (take_rest c.args.text.now c.space_run-spaces.result) at c.in_default.ensures t k)
+    stuck_at _ _ _ h lt (λ t r k _. rw (take_rest c.args.text.now c.space_run-spaces.result) at c.in_default.ensures t r k)
 
 pub returns-then-is_operand-2 : goal.returns-then-is_operand-2
 returns-then-is_operand-2 c =
@@ -23,7 +23,7 @@ returns-then-is_operand-2 c =
     let lt : n < length c.args.text.now = omega (arith, h.fits, c.if-spaces-text.false) in
     let begins : Begins (drop n c.args.text.now) (token_of c.in-Some.token) c.in-Some.rest.now = rw take_rest at c.in-Some.ensures in
     let bad = joined_bad (token_of c.args.before) (drop n c.args.text.now) (token_of c.in-Some.token) c.in-Some.rest.now (c.if-is_operand.ensures.0 refl) (c.if-is_operand-2.ensures.0 refl) begins in
-    stuck_at _ _ _ h lt (subst (λ m. (u : Token) → BeginsWith (drop n c.args.text.now) u → ¬ MayFollow (token_of c.args.before) m u) (sym c.if-spaces-eq0.true) bad)
+    stuck_at _ _ _ h lt (subst (λ m. (u : Token) (rest : List ℕ) → Begins (drop n c.args.text.now) u rest → ¬ MayFollow (token_of c.args.before) m u) (sym c.if-spaces-eq0.true) bad)
 
 pub returns : goal.returns
 returns c =

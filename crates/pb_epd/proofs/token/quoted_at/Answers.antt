@@ -6,7 +6,7 @@ use Rattle.pb_epd.proofs.token.quoted_at.Goals as goal
 
 pub returns-then-length-gt-LONGEST : goal.returns-then-length-gt-LONGEST
 returns-then-length-gt-LONGEST c =
-    let h = c.text_run-length.ensures in
+    let h = c.quoted_run-length.ensures in
     elim c.then-length-gt-LONGEST.branch [
       | then-length-gt-LONGEST-via-then-length-gt-LONGEST w ↦ no_quoted_run _ _ h (inl w.if-length-gt-LONGEST.true)
       | then-length-gt-LONGEST-via-else-length-gt-LONGEST+then-length-text w ↦ no_quoted_run _ _ h (inr (inl (omega (arith, w.if-length-text.true))))
@@ -16,5 +16,5 @@ returns-then-length-gt-LONGEST c =
 
 pub returns : goal.returns
 returns c =
-    let h = c.text_run-length.ensures in
-    rw (take_rest c.args.text.now (c.text_run-length.result + 1)) (quoted_begins _ _ h (omega (arith, c.if-length-gt-LONGEST.false)) (omega (arith, h.fits, c.if-length-text.false)) c.if-text-length-ne34.false)
+    let h = c.quoted_run-length.ensures in
+    rw (take_rest c.args.text.now (c.quoted_run-length.result + 1)) (quoted_begins _ _ h (omega (arith, c.if-length-gt-LONGEST.false)) (omega (arith, h.fits, c.if-length-text.false)) c.if-text-length-ne34.false)

@@ -17,7 +17,7 @@ loop-m-preserved c =
     let i = c.loop-m.m-index in
     let done = c.loop-m.setups.items in
     let new = c.push-in-loop-m.new.self.items in
-    let played = c.apply.ensures in
+    let played = c.apply.ensures c.m-item.result c.in-Some.ensures in
     let next = sym (played ∙ ap (λ (m : Moved). after s m) c.m-item.is) in
     record {
       key_is = c.key_next-key.ensures.value ∙ ap (key words) (sym played);

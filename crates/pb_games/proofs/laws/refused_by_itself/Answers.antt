@@ -1,4 +1,3 @@
-use Rattle.pb_games.specs.Refusing.{Refuses}
 use Rattle.pb_games.proofs.laws.refused_by_itself.Goals as goal
 
 pub returns : goal.returns

@@ -3,8 +3,7 @@ use Rattle.std.proofs.lemmas.Result.{err_from_is_err_and}
 use Rattle.std.specs.Prelude.{OnOk, IfErr}
 use Rattle.pb_io.specs.Source.{SourceState}
 use Rattle.pb_io.specs.declared.fault.ReadFault.{ReadFault}
-use Rattle.pb_io.specs.LineBuffer.{DrainsTo}
-use Rattle.pb_io.specs.LineTask.{TakesStream, TakesText, TakesUntil, ended}
+use Rattle.pb_io.specs.LineTask.{DrainsTo, TakesStream, TakesText, TakesUntil, ended}
 use Rattle.pb_io.proofs.lines.take_lines.Goals as goal
 
 taken : {S E : Type 0} (takes : S → List ℕ → Bool → Result (Unit {0}) E → S → Type 0) (fills : ℕ) (old new : SourceState) (s m t : S) (buffer : Option (List ℕ))

@@ -1,7 +1,6 @@
 use Rattle.std.proofs.Common.{◌≡◌, ℕ, List, ◌++◌, true, drop}
 use Rattle.std.specs.Io.KnownBytes.{Appends}
-use Rattle.pb_io.specs.Parts.{pieces_joined}
-use Rattle.pb_io.specs.Sink.{Lasts}
+use Rattle.pb_io.specs.Sink.{pieces_joined, Lasts}
 use Rattle.pb_io.proofs.sink.put_pieces.Given as goal
 
 -- the parts before this one have been put and not handed on, and a sink that had failed still has

@@ -1,4 +1,4 @@
-use Rattle.pb_ledger.proofs.Continued.{continued}
+use Rattle.pb_ledger.proofs.SavedLoading.{continued}
 use Rattle.pb_ledger.proofs.laws.continued.Goals as goal
 
 pub returns : goal.returns

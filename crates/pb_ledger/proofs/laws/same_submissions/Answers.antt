@@ -1,7 +1,7 @@
 use Rattle.std.proofs.Common.{[], subst}
 use Rattle.pb_poly.specs.Book.{BookBytes}
 use Rattle.pb_poly.proofs.EntryBytes.{bytes_are_one}
-use Rattle.pb_accepted.specs.Laws.{SameMembers}
+use Rattle.pb_accepted.specs.Accepting.{SameMembers}
 use Rattle.pb_accepted.proofs.Distinct.{Taken-unique}
 use Rattle.pb_accepted.proofs.Steps.{same_books, takes_the_taken}
 use Rattle.pb_export.proofs.ExportLaws.{same_exports}

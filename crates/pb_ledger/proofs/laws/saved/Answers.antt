@@ -1,6 +1,6 @@
 use Rattle.std.proofs.Common.{refl, subst, sym}
 use Rattle.pb_io.specs.Lines.{lines}
-use Rattle.pb_ledger.specs.Loading.{Loads}
+use Rattle.pb_ledger.specs.Saving.{Loads}
 use Rattle.pb_ledger.proofs.SavedLoading.{loaded_whole, loads_only, loads_saved, only_memory}
 use Rattle.pb_ledger.proofs.laws.saved.Goals as goal
 

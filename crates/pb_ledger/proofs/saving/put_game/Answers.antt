@@ -5,7 +5,7 @@ use Rattle.pb_games.specs.Results.{outcome_text}
 use Rattle.pb_games.specs.Submissions.{moves_text}
 use Rattle.pb_io.specs.Sink.{Put}
 use Rattle.pb_io.proofs.PutLemmas.{put_cut, put_then}
-use Rattle.pb_ledger.proofs.SavedForms.{game_line}
+use Rattle.pb_ledger.proofs.SavedLoading.{game_line}
 use Rattle.pb_ledger.proofs.saving.put_game.Goals as goal
 
 pub returns-in_err-put_field : goal.returns-in_err-put_field

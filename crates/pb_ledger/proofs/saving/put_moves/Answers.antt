@@ -2,7 +2,7 @@ use Rattle.std.proofs.Common.{◌∙◌, ◌++◌, ap, subst, sym}
 use Rattle.pb_board.specs.LineEnd.{with_end}
 use Rattle.pb_io.specs.Sink.{Put}
 use Rattle.pb_io.proofs.PutLemmas.{Lasts-trans, front_more, put_cut, put_failed, put_last, put_more}
-use Rattle.pb_ledger.proofs.SavedForms.{further, further_end, further_from, line_from_first}
+use Rattle.pb_ledger.proofs.SavedLoading.{further, further_end, further_from, line_from_first}
 use Rattle.pb_ledger.proofs.saving.put_moves.Goals as goal
 
 pub returns-in_err-put : goal.returns-in_err-put

@@ -3,7 +3,7 @@ use Rattle.std.specs.Io.KnownBytes.{Appends}
 use Rattle.pb_board.specs.LineEnd.{with_end}
 use Rattle.pb_io.specs.Sink.{Lasts}
 use Rattle.pb_games.specs.Submissions.{moves_text}
-use Rattle.pb_ledger.proofs.SavedForms.{further}
+use Rattle.pb_ledger.proofs.SavedLoading.{further}
 use Rattle.pb_ledger.proofs.saving.put_moves.Given as goal
 
 -- the moves before this one have been put, a sink that had failed still has, and nothing was handed

@@ -2,8 +2,7 @@ use Rattle.std.proofs.Common.{◌∙◌, ◌≡◌, ℕ, ◌+◌, List, ◌∷�
 use Rattle.std.specs.Io.KnownBytes.{Appends}
 use Rattle.std.specs.List.{flat_map}
 use Rattle.std.proofs.KnownBytes.{Appends-trans}
-use Rattle.std.proofs.lemmas.List.{take_all}
-use Rattle.std.proofs.lemmas.List.{length-map}
+use Rattle.std.proofs.lemmas.List.{take_all, length-map}
 use Rattle.pb_board.specs.LineEnd.{with_end}
 use Rattle.pb_io.proofs.PutLemmas.{Lasts-trans, front_more, put_cut, put_failed}
 use Rattle.pb_io.proofs.WritesLemmas.{Writes-flushed, Writes-stopped}
@@ -11,7 +10,7 @@ use Rattle.pb_games.specs.Submissions.{submission_text}
 use Rattle.pb_accepted.specs.Replying.{IsNumber}
 use Rattle.pb_accepted.proofs.Places.{game_there}
 use Rattle.pb_ledger.specs.Saving.{header}
-use Rattle.pb_ledger.proofs.SavedForms.{lines_at, lines_more, numbered_text}
+use Rattle.pb_ledger.proofs.SavedLoading.{lines_at, lines_more, numbered_text}
 use Rattle.pb_ledger.proofs.saving.save.Goals as goal
 
 pub returns-in_err-put_pieces : goal.returns-in_err-put_pieces

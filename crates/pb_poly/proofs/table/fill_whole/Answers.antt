@@ -1,11 +1,9 @@
-use Rattle.std.proofs.Common.{◌≡◌, ◌∙◌, ◌+◌, ◌-◌, ◌≤◌, ◌<◌, ◌++◌, ℕ, List, ap, arith, inl, length, length-append, length-take, refl, rules, subst, sym, take}
-use Rattle.std.proofs.Math.Seq.{take-append-add}
-use Rattle.std.proofs.lemmas.List.{take-take}
-use Rattle.std.proofs.lemmas.Slice.{take-put_mid}
-use Rattle.pb_io.specs.Reads.{ReadsOn}
+use Rattle.std.proofs.Common.{◌≡◌, ◌+◌, ◌-◌, ◌≤◌, ◌<◌, ◌++◌, ℕ, List, arith, inl, length, length-append, length-take, rules, subst, sym, take}
+use Rattle.pb_io.specs.Source.{ReadsOn}
 use Rattle.pb_io.proofs.ReadsLemmas.{ReadsOn-more, ReadsSome-more}
 use Rattle.pb_poly.specs.Streams.{just_so_far}
 use Rattle.pb_poly.specs.Table.{table_limit}
+use Rattle.pb_poly.proofs.Feeds.{take-filled}
 use Rattle.pb_poly.proofs.table.fill_whole.Goals as goal
 
 pub returns-in-Ok-clause-err : goal.returns-in-Ok-clause-err
@@ -40,10 +38,7 @@ loop-made-preserved g c =
     (omega (arith, long, now.room)) now.reads count some c.in-Ok-fill.ensures in
     let few : len + count ≤ table_limit = omega (arith, within, long, now.room, now.few) in
     let inside : len ≤ length c.loop-made.room = omega (arith, now.room, now.few) in
-    let shorter : len + count ≤ len + length slice = omega (arith, within) in
-    let whole = take-put_mid len _ c.loop-made.room slice (len + length slice) refl inside in
-    let front = sym (take-take (len + count) (len + length slice) _ shorter) ∙ ap (take (len + count)) whole
-    ∙ subst (λ (m : ℕ). take (m + count) (held ++ slice) ≡ held ++ take count slice) all (take-append-add held slice count) in
+    let front = take-filled len count _ c.loop-made.room slice inside within in
     record {
       reads = subst (λ (bytes : List ℕ). ReadsOn table_limit (c.loop-made._made + 1) (state c.args.source.now) (state c.fill-in-loop-made.new.self) bytes) (sym front) reads;
       few = few;

@@ -1,5 +1,5 @@
 use Rattle.std.proofs.Common.{◌≡◌, ◌≤◌, length, take}
-use Rattle.pb_io.specs.Reads.{ReadsOn}
+use Rattle.pb_io.specs.Source.{ReadsOn}
 use Rattle.pb_poly.specs.Table.{table_limit}
 use Rattle.pb_poly.proofs.table.fill_whole.Given as goal
 

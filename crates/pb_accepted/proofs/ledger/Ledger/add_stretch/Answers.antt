@@ -2,9 +2,9 @@ use Rattle.std.proofs.Common.{◌≡◌, ◌++◌, ◌∙◌, List}
 use Rattle.std.proofs.lemmas.Result.{IfOk-weaker}
 use Rattle.pb_poly.specs.declared.book.Entry.{Entry}
 use Rattle.pb_points.specs.TallyBook.{AddsBookOf, stretch_of}
-use Rattle.pb_accepted.specs.Basis.{Basis}
+use Rattle.pb_accepted.specs.Rules.{Basis}
 use Rattle.pb_accepted.specs.Counting.{IsBook, counted, stretch}
-use Rattle.pb_accepted.specs.Holding.{rowed}
+use Rattle.pb_accepted.specs.Ledger.{rowed}
 use Rattle.pb_accepted.proofs.BookStretches.{stretch_added}
 use Rattle.pb_accepted.proofs.Rowed.{rowed_book}
 use Rattle.pb_accepted.proofs.ledger.Ledger.add_stretch.Goals as goal

@@ -4,9 +4,9 @@ use Rattle.pb_points.specs.Rows.{IsBookOfRows, frequent}
 use Rattle.pb_points.specs.Weight.{Before}
 use Rattle.pb_poly.proofs.EntryBytes.{none_falls}
 use Rattle.pb_points.proofs.Groups.{NeverFall-ordered, ok_unless}
-use Rattle.pb_accepted.specs.Basis.{Basis}
+use Rattle.pb_accepted.specs.Rules.{Basis}
 use Rattle.pb_accepted.specs.Counting.{IsBook, counted}
-use Rattle.pb_accepted.specs.Holding.{rowed}
+use Rattle.pb_accepted.specs.Ledger.{rowed}
 use Rattle.pb_accepted.proofs.Books.{IsBook-rows}
 use Rattle.pb_accepted.proofs.Frequent.{frequent_rows}
 use Rattle.pb_accepted.proofs.Rowed.{rowed_book}

@@ -1,6 +1,6 @@
 use Rattle.std.proofs.Common.{ap, ◌∙◌}
 use Rattle.pb_points.specs.Tally.{Held}
-use Rattle.pb_accepted.specs.Basis.{Basis}
+use Rattle.pb_accepted.specs.Rules.{Basis}
 use Rattle.pb_accepted.specs.Counting.{counted}
 use Rattle.pb_accepted.proofs.Rowed.{rowed_count}
 use Rattle.pb_accepted.proofs.ledger.Ledger.points.Goals as goal

@@ -5,10 +5,9 @@ use Rattle.pb_games.specs.Submissions.{Submission}
 use Rattle.pb_points.specs.Tally.{held}
 use Rattle.pb_accepted.specs.Replying.{IsNewId}
 use Rattle.pb_accepted.specs.Accepting as steps
-use Rattle.pb_accepted.specs.Basis.{Basis}
+use Rattle.pb_accepted.specs.Rules.{Basis}
 use Rattle.pb_accepted.specs.Counting.{counted}
-use Rattle.pb_accepted.specs.Holding.{HoldsCounts, lost, rowed, with_ply_points}
-use Rattle.pb_accepted.specs.Ledger.{LedgerState}
+use Rattle.pb_accepted.specs.Ledger.{HoldsCounts, lost, rowed, with_ply_points, LedgerState}
 use Rattle.pb_accepted.proofs.Arrivals.{is_new, lawful_pair, submitted}
 use Rattle.pb_accepted.proofs.GivenPoints.{counted_ply_points, length-counted_one, moves_back, small_ply_points}
 use Rattle.pb_accepted.proofs.Counts.{Holds-push, points_fit, times_fit}

@@ -1,8 +1,8 @@
 use Rattle.std.proofs.Common.{◌≡◌, ◌+◌, ◌*◌, ◌≤◌, ap, arith, length, ◌∙◌}
 use Rattle.pb_points.specs.Tally.{Held}
-use Rattle.pb_accepted.specs.Basis.{Basis}
+use Rattle.pb_accepted.specs.Rules.{Basis}
 use Rattle.pb_accepted.specs.Counting.{counted, times}
-use Rattle.pb_accepted.specs.Holding.{lost, rowed}
+use Rattle.pb_accepted.specs.Ledger.{lost, rowed}
 use Rattle.pb_accepted.proofs.GivenPoints.{length-counted, times-le, times_parts}
 use Rattle.pb_accepted.proofs.ledger.Ledger.times.Goals as goal
 

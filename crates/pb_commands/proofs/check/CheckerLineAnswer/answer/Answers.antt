@@ -1,5 +1,5 @@
 use Rattle.std.proofs.Common.{refl, subst, true, false, List, ℕ, Ok, Err}
-use Rattle.pb_accepted.specs.Replies.{reply_line}
+use Rattle.pb_accepted.specs.Accepting.{reply_line}
 use Rattle.std.proofs.lemmas.Result.{err_from_is_err_and}
 use Rattle.pb_games.specs.Submissions.{Submits}
 use Rattle.pb_commands.proofs.Answering.{line_shows, put_as, stops_as}

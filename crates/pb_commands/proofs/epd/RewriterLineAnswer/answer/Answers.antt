@@ -19,20 +19,20 @@ returns-in_err-form-in-Ok-clause-puts g c line told =
       refl,
     )
 
-pub returns-in_err-put_line-in-Ok-clause-puts : goal.returns-in_err-put_line-in-Ok-clause-puts
-returns-in_err-put_line-in-Ok-clause-puts g c line told =
-    let p = err_from_is_err_and c.from_residual-in_err-put_line-in-Ok.result c.from_residual-in_err-put_line-in-Ok.ensures.1 in
+pub returns-in_err-put_pieces-in-Ok-clause-puts : goal.returns-in_err-put_pieces-in-Ok-clause-puts
+returns-in_err-put_pieces-in-Ok-clause-puts g c line told =
+    let p = err_from_is_err_and c.from_residual-in_err-put_pieces-in-Ok.result c.from_residual-in_err-put_pieces-in-Ok.ensures.1 in
     rw (p.1, p.2) (stops_as (LineShown c.args.number line) _ _ true _
     (line_full EpdGives c.args.number _ c.in-Some.line _ line c.in-Some.is told c.without_return-text.ensures (λ blank. false≢true (c.if-is_blank.ensures.1 blank)) _
     (Ok c.in-Ok.epd, c.in-Ok.ensures.found, ap (λ w. Ok (true, with_end w)) (append-nil c.as_slice.result.now ∙ c.as_slice.ensures.value ∙ c.in_ok-form-in-Ok.ensures)))
-    _ c.in_err-put_line-in-Ok.ensures)
+    _ c.in_err-put_pieces-in-Ok.ensures)
 
-pub returns-in_ok-put_line-in-Ok-clause-puts : goal.returns-in_ok-put_line-in-Ok-clause-puts
-returns-in_ok-put_line-in-Ok-clause-puts g c line told =
+pub returns-in_ok-put_pieces-in-Ok-clause-puts : goal.returns-in_ok-put_pieces-in-Ok-clause-puts
+returns-in_ok-put_pieces-in-Ok-clause-puts g c line told =
     put_as (LineShown c.args.number line) _ _ true _
     (line_full EpdGives c.args.number _ c.in-Some.line _ line c.in-Some.is told c.without_return-text.ensures (λ blank. false≢true (c.if-is_blank.ensures.1 blank)) _
     (Ok c.in-Ok.epd, c.in-Ok.ensures.found, ap (λ w. Ok (true, with_end w)) (append-nil c.as_slice.result.now ∙ c.as_slice.ensures.value ∙ c.in_ok-form-in-Ok.ensures)))
-    _ c.in_ok-put_line-in-Ok.ensures
+    _ c.in_ok-put_pieces-in-Ok.ensures
 
 pub returns-in-Err-clause-puts : goal.returns-in-Err-clause-puts
 returns-in-Err-clause-puts g c line told =

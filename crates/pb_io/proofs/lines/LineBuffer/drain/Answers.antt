@@ -1,8 +1,7 @@
 use Rattle.std.proofs.Common.{◌<◌, ◌≤◌, ℕ, length, Ok, inr, subst, arith, rules}
 use Rattle.std.proofs.lemmas.Result.{err_from_is_err_and}
 use Rattle.pb_io.specs.declared.source.Failed.{Failed}
-use Rattle.pb_io.specs.Source.{Fill}
-use Rattle.pb_io.specs.Reads.{chunk_len}
+use Rattle.pb_io.specs.Source.{Fill, chunk_len}
 use Rattle.pb_io.specs.LineTask.{ended}
 use Rattle.pb_io.proofs.TaskLemmas.{drained, stops_within}
 use Rattle.pb_io.proofs.lines.LineBuffer.drain.Goals as goal

@@ -1,7 +1,6 @@
 use Rattle.std.proofs.Common.{◌≡◌, ℕ, List, length}
-use Rattle.pb_io.specs.Reads.{ReadsOn, chunk_len}
-use Rattle.pb_io.specs.LineBuffer.{Reached}
-use Rattle.pb_io.specs.LineTask.{ended}
+use Rattle.pb_io.specs.Source.{ReadsOn, chunk_len}
+use Rattle.pb_io.specs.LineTask.{Reached, ended}
 use Rattle.pb_io.proofs.lines.LineBuffer.drain.Given as goal
 
 -- the source reads on, and the lines that an LF ended have been taken

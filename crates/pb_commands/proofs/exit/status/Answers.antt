@@ -1,5 +1,0 @@
-use Rattle.std.proofs.Common.{rules}
-use Rattle.pb_commands.proofs.exit.status.Goals as goal
-
-pub returns-in-Err : goal.returns-in-Err
-returns-in-Err c = search rules

@@ -1,5 +1,0 @@
-use Rattle.pb_commands.proofs.Sentences.{holds_of_runs}
-use Rattle.pb_commands.proofs.run_laws.sentence.Goals as goal
-
-pub returns : goal.returns
-returns c = holds_of_runs

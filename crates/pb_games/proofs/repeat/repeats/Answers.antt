@@ -1,5 +1,0 @@
-use Rattle.std.proofs.Common.{rules}
-use Rattle.pb_games.proofs.repeat.repeats.Goals as goal
-
-pub returns-then-is_text_of : goal.returns-then-is_text_of
-returns-then-is_text_of c = search rules

@@ -1,5 +1,0 @@
-use Rattle.std.proofs.Common.{rules}
-use Rattle.pb_ledger.proofs.collector.put_line.Goals as goal
-
-pub returns : goal.returns
-returns g c = search rules
