@@ -32,7 +32,7 @@ import tempfile
 import time
 
 from lib import libraries
-from lib.specs import TOKEN, Specs, imports
+from lib.specs import TOKEN, Specs, imports, lines_of
 
 CRATES = pathlib.Path("crates")
 SCRIPT = pathlib.Path("scripts/bodies.py")
@@ -46,6 +46,8 @@ ROOM = 3_200_000_000
 # What is said of a text that names what an edit took away, and of an answer that does.
 MISSING = r"has no field|is not in scope|has no `"
 GONE = re.compile(MISSING + "|was not admitted")
+# What shows that a goal is open, by the words of the toolchain.
+SHOWN = {"allow values": "values", "gave up": "a search that gave up"}
 
 
 def rt(word):
@@ -84,7 +86,7 @@ def module_of(path):
 
 
 def modules_of(crate):
-    """Each type and trait of the crate, and the module that declares it: its own methods' module."""
+    """Each type and trait of the crate, and the module that declares it, where its methods are."""
     found = {}
     for file in sorted((CRATES / crate / "src").rglob("*.rt")):
         declared = r"^(?:pub(?:\(\w+\))? )?(?:struct|enum|trait) (\w+)"
@@ -139,22 +141,6 @@ def owner_of(head):
     return to[1] if to else "", "".join(names)
 
 
-def lines_of(lines, indent):
-    """Where the body of the function begins and ends that the first line begins, counted from it.
-    A declaration in a trait has none, which is 0."""
-    body, open_braces = 0, 0
-    for at, line in enumerate(lines, 1):
-        open_braces += line.count("{") - line.count("}")
-        is_own = line.startswith(indent) and not line.startswith(indent + " ")
-        if not body and is_own and line.endswith(("{", "{}")):
-            body = at
-        if body and is_own and line.endswith("}"):
-            return body, at
-        if not body and open_braces == 0 and line.endswith(";"):
-            break
-    return 0, 0
-
-
 @dataclasses.dataclass(frozen=True)
 class Body:
     """An edit: in which line of which file a text takes another's place, and in what functions. It
@@ -165,7 +151,7 @@ class Body:
     pairs: tuple
     functions: frozenset
     is_alone: bool
-    # The path of the function, mostly a law, that refuses a definition.
+    # The path of the function, mostly a law, that refuses a definition or what is tried alone.
     judge: str | None
 
     @staticmethod
@@ -206,8 +192,8 @@ class Body:
             raise BadEdit("it has no lines `file:`, `old:` and `new:`")
         is_alone = (is_alone or not functions) and not is_judged
         body = Body(file.stem, tuple(pairs), frozenset(functions), is_alone, judge)
-        if judge and not body.is_definition:
-            raise BadEdit("only a definition names what judges it")
+        if judge and not (body.is_definition or body.is_alone):
+            raise BadEdit("what turns functions alone is judged by these")
         return body
 
     @property
@@ -254,16 +240,20 @@ class Said:
         return found and not re.search(MISSING, self.text) and f"lemma {found[1]}"
 
     def goals_of(self, function):
-        """The goals of this function that are told as unproved."""
+        """The goals of this function that are told as unproved, each with what shows that."""
         # (a long message goes on in lines that are indented)
         answers = self.answers_of(function) + r"`([^`]+)`: (.*(?:\n  .*)*)"
-        found = [goal for goal, why in re.findall(answers, self.text, re.M) if not GONE.search(why)]
-        at = rf"^note: {re.escape(function.file)}:(\d+):\d+: it is not proved that .*?\(`([^`]+)`\)"
-        for line, goal in re.findall(at, self.text, re.M):
-            found += [goal] if function.first <= int(line) <= function.last else []
+        answered = [it for it in re.findall(answers, self.text, re.M) if not GONE.search(it[1])]
+        found = {goal: "a difference" for goal, _ in answered}
+        at = rf"^note: {re.escape(function.file)}:(\d+):\d+: it is not proved that "
+        for line, why, goal in re.findall(at + r"(.*?\(`([^`]+)`\).*)", self.text, re.M):
+            if function.first <= int(line) <= function.last:
+                shown = (it for word, it in SHOWN.items() if word in why)
+                found.setdefault(goal, next(shown, "a search to its end"))
         searched = re.search(r"`search` did not prove ([^;]+)", self.line_of(function) or "")
-        found += re.findall(r"`([^`]+)`", searched[1] if searched else "")
-        return list(dict.fromkeys(found))
+        for goal in re.findall(r"`([^`]+)`", searched[1] if searched else ""):
+            found.setdefault(goal, "a search")
+        return found
 
     def waits_of(self, function):
         """The names of the functions whose proof this one's goals may wait for."""
@@ -363,17 +353,26 @@ class Crate:
 class Trial:
     """The trial of a crate's bodies: what came of each, and what it took."""
 
-    def __init__(self, crate, kept):
-        self.crate, self.kept, self.lines, self.failed = crate, kept, [], 0
+    def __init__(self, crate):
+        self.crate, self.kept, self.lines, self.failed = crate, None, [], 0
         self.seconds, self.runs, self.specs = 0.0, 0, Specs(CRATES)
         # The functions that judge a body, and what it is not tried beside: wrong bodies of these
         # functions, and edits of these definitions.
         self.judges, self.apart = {}, collections.defaultdict(set)
         # The goals of bodies that broke none with a written answer.
         self.doubts = {}
+        self.read_bodies()
 
-    def tell(self, name, goal, function):
-        self.lines.append(f"{self.crate.name}/{name}: refused at `{goal}` of {function.name}")
+    def cost(self):
+        """How dear it is, about: its runs, by the functions, dearer the more crates are below."""
+        shared = (it for body in self.judges if not body.is_alone for it in body.functions)
+        runs = max(collections.Counter(shared).values(), default=0)
+        runs += sum(body.is_alone for body in self.judges)
+        return runs * len(self.crate.functions()) * (1 + len(self.crate.below()))
+
+    def tell(self, name, goal, function, how):
+        where = f"refused at `{goal}` of {function.name}, by {how}"
+        self.lines.append(f"{self.crate.name}/{name}: {where}")
 
     def fail(self, name, why):
         self.failed += 1
@@ -389,9 +388,9 @@ class Trial:
         return said
 
     def read_bodies(self):
-        """The bodies that can be read, each with what judges it. One that turns more than functions
-        is judged by laws and by its functions, or where it has none, by those of the modules that
-        it turns or that its name begins with."""
+        """Reads the bodies, each with what judges it. One that turns more than functions is judged by
+        what it names, or by laws and its functions, or where it has none, by those of the modules
+        that it turns or that its name begins with."""
         functions = self.crate.functions()
         for file in self.crate.bodies():
             try:
@@ -410,7 +409,6 @@ class Trial:
                     self.judges[body] = [*laws, *(body.functions or of_modules)]
             except (BadEdit, OSError, UnicodeDecodeError) as error:
                 self.fail(file.stem, str(error))
-        return list(self.judges)
 
     def rests(self, law):
         """The definitions on which a law rests."""
@@ -430,7 +428,7 @@ class Trial:
     def try_all(self):
         """Tries bodies of functions in rounds, then definitions that laws of their own judge, and
         then each of the others alone."""
-        bodies = self.read_bodies()
+        bodies = list(self.judges)
         shared = [it for it in bodies if not it.is_alone]
         groups = [[it for it in shared if not it.judge], [it for it in shared if it.judge]]
         for left in (*groups, *([it] for it in bodies if it.is_alone)):
@@ -462,10 +460,11 @@ class Trial:
             judges = self.judges[body]
             beside = {it for other in bodies if other is not body for it in self.turned(other)}
             waits = set().union(*(said.waits_of(it) for it in judges))
-            goals = [(goal, it) for it in judges for goal in said.goals_of(it)]
-            own = [it for it in goals if it[1] not in body.functions or self.crate.has_goal(*it)]
+            goals = [(goal, it, how) for it in judges for goal, how in said.goals_of(it).items()]
+            own = [it for it in goals
+                   if it[1] not in body.functions or self.crate.has_goal(*it[:2])]
             # A definition also breaks a lemma. Beside others it might be theirs.
-            lemmas = [(lemma, it) for it in judges if (lemma := said.lemma_of(it))]
+            lemmas = [(lemma, it, "a lemma") for it in judges if (lemma := said.lemma_of(it))]
             lemmas = lemmas if body.is_definition else []
             if said.unread():
                 self.fail(body.name, f"the prover can't read it: {said.unread()[:300]}")
@@ -488,11 +487,11 @@ class Trial:
     def settle(self):
         """Tells of bodies that broke no goal with a written answer whether they broke one that the
         right body has."""
-        paths = {it.path for goals in self.doubts.values() for _, it in goals}
+        paths = {it.path for goals in self.doubts.values() for _, it, _ in goals}
         with tempfile.TemporaryDirectory(prefix="pbook-goals-") as made:
             self.run([], sorted(paths), made)
             for body, goals in self.doubts.items():
-                own = [it for it in goals if self.crate.has_goal(*it, pathlib.Path(made))]
+                own = [it for it in goals if self.crate.has_goal(*it[:2], pathlib.Path(made))]
                 if own:
                     self.tell(body.name, *own[0])
                 else:
@@ -500,12 +499,11 @@ class Trial:
                     self.fail(body.name, f"NOT REFUSED: {why}")
 
 
-def try_crate(crate):
+def try_crate(trial):
     """Tries a crate's bodies, and keeps it where all have passed. The answer is what to print, how
     many have passed and failed, and the seconds that it took."""
-    kept = crate.kept()
-    with tempfile.TemporaryDirectory(prefix="pbook-kept-") as room:
-        trial = Trial(crate, room)
+    crate, kept = trial.crate, trial.crate.kept()
+    with tempfile.TemporaryDirectory(prefix="pbook-kept-") as trial.kept:
         trial.try_all()
     text = "".join(f"{it}\n" for it in sorted(trial.lines))
     if not trial.failed:
@@ -542,10 +540,10 @@ def try_crates(names, anew):
         passed += len(crate.bodies())
         crates.remove(crate)
     prove([below for it in crates for below in it.below()])
-    crates.sort(key=lambda it: -len(it.bodies()))
+    trials = sorted(map(Trial, crates), key=Trial.cost, reverse=True)
     with concurrent.futures.ThreadPoolExecutor(lanes()) as pool:
-        for trial in concurrent.futures.as_completed([pool.submit(try_crate, it) for it in crates]):
-            text, good, bad, took = trial.result()
+        for done in concurrent.futures.as_completed([pool.submit(try_crate, it) for it in trials]):
+            text, good, bad, took = done.result()
             print(text, end="", flush=True)
             passed, failed, seconds = passed + good, failed + bad, seconds + took
     minutes = (time.time() - begin) / 60

@@ -84,38 +84,29 @@ run() {
     echo "ok: $1, $took s$(sed -n '/ checks hold, /s/^/: /p' "$logs/$1.log")"
 }
 
-# wants NAME: whether this part is wanted
-wants() { case " $parts " in *" $1 "*) ;; *) return 1 ;; esac }
+# wants NAME: whether this part is wanted, or this program for one
+wants() { case " $builds $parts " in *" $1 "*) ;; *) return 1 ;; esac }
 
-# lane NAME..: those of these parts that are wanted, one after the other
-lane() { for part; do ! wants "$part" || run "$part" || true; done; }
-
-# begin_lane COMMAND..: runs this function beside the others
-begin_lane() {
+# lane NAME..: runs those of these that are wanted, one after the other, beside other lanes
+lane() {
     (
         running=
         trap '[ -z "$running" ] || kill "$running"; wait; exit 1' HUP INT TERM
-        "$@"
+        for part; do ! wants "$part" || run "$part" || true; done
     ) &
     lanes="$lanes $!"
 }
 
-rows_lane() { run worked_examples && lane rows; }
-
 echo 'Nothing is proved here: the program is built without proof, with a check in place of each.'
 builds=
-if wants rows; then
-    builds=worked_examples
-    begin_lane rows_lane
-fi
-if [ "$parts" != rows ]; then
-    builds="$builds pbook"
-    if run pbook; then
-        # The slowest part has a lane of its own. With that of the rows there are four.
-        begin_lane lane files
-        begin_lane lane messages demo
-        begin_lane lane replies locks order
-    fi
+! wants rows || builds=worked_examples
+[ "$parts" = rows ] || builds="$builds pbook"
+lane worked_examples rows
+if wants pbook && run pbook; then
+    # The slowest part has a lane of its own. With that of the rows there are four.
+    lane files
+    lane messages demo
+    lane replies locks order
 fi
 wait
 lanes='' failed='' passed=''

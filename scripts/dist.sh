@@ -26,29 +26,17 @@ install -d "$top/tools"
 cp -p tools/* "$top/tools"
 
 # A link to a file or folder of the source, which isn't packed, becomes its text.
-for text in README.md CHANGELOG.md docs/*.md; do
-    folder=$(dirname "$text")
-    awk -v source="$folder" -v packed="$top/$folder" '
-        # Whether a link leads to what is there and is not packed.
-        function is_left(target) {
-            if (target ~ /^([a-z]+:|#)/) return 0
-            sub(/#.*/, "", target)
-            return !system("[ -e \"" source "/" target "\" ] && [ ! -e \"" packed "/" target "\" ]")
-        }
-        {
-            rest = $0
-            line = ""
-            while (match(rest, /\[[^][]*\]\([^() ]*\)/)) {
-                link = substr(rest, RSTART, RLENGTH)
-                line = line substr(rest, 1, RSTART - 1)
-                rest = substr(rest, RSTART + RLENGTH)
-                between = index(link, "](")
-                target = substr(link, between + 2, length(link) - between - 2)
-                line = line (is_left(target) ? substr(link, 2, between - 2) : link)
-            }
-            print line rest
-        }' "$text" > "$top/$text"
-done
+python3 -B - "$top" README.md CHANGELOG.md docs/*.md << 'END'
+import pathlib, re, sys
+for text in map(pathlib.Path, sys.argv[2:]):
+    def packed(link):
+        target = text.parent / link[2].partition("#")[0]
+        is_left = target.exists() and not pathlib.Path(sys.argv[1], target).exists()
+        return link[1] if is_left else link[0]
+    source = text.read_text(encoding="utf-8")
+    linked = re.sub(r"\[([^][]*)\]\(([^() ]*)\)", packed, source)
+    pathlib.Path(sys.argv[1], text).write_text(linked, encoding="utf-8")
+END
 
 tar --sort=name --mode='u+rwX,go+rX,go-w' --mtime=@0 --owner=0 --group=0 --numeric-owner \
     --format=ustar -C "$room" -cf - "$name" | gzip -n -9 > "$to/$name.tar.gz"

@@ -1,33 +1,22 @@
 #!/bin/sh
 # Compares the list of docs/WRONG_BODIES.md under `What nobody may do` with the wrong bodies of
-# crates/*/must-fail and crates/*/bodies: each line of the list names one of its own that is there,
-# and each of must-fail/ has a line.
+# crates/*/bodies: each line of the list names one of its own that is there, and the list has as
+# many lines as it says.
 # Usage: scripts/named_mistakes.sh (at the top of the repository).
 set -eu
-document=docs/WRONG_BODIES.md
-refused=0
-
-# refuse WHAT LINE: says what is wrong, and of which line or edit
-refuse() { printf '%s: %s\n' "$1" "$2" >&2 && refused=1; }
-
-# edits LINES: the edits that these lines name
-edit='crates/[^/]*/(must-fail|bodies)/[^/]*\.edit'
-edits() { printf '%s\n' "$1" | tr '`' '\n' | grep -xE "$edit" || :; }
-
-list=$(sed -n '/^## What nobody may do$/,/^## /p' "$document" | grep '^- ' || :)
-named=$(edits "$list")
-
-[ -n "$list" ] || refuse "$document" 'the list of what nobody may do is empty'
-while IFS= read -r line; do
-    paths=$(edits "$line")
-    [ -n "$paths" ] || refuse 'no edit is named' "$line"
-    for path in $paths; do [ -f "$path" ] || refuse "there is no $path" "$line"; done
-done << END
-$list
+exec python3 -B - << 'END'
+import collections, pathlib, re, sys
+document = pathlib.Path("docs/WRONG_BODIES.md")
+text = document.read_text(encoding="utf-8")
+part = re.search(r"^## What nobody may do\n(.*?)(^## |\Z)", text, re.M | re.S)[1]
+lines = re.findall("^- .*", part, re.M)
+edits = [re.findall("`(crates/[^/`]*/bodies/[^/`]*[.]edit)`", line) for line in lines]
+named = collections.Counter(sum(edits, []))
+wrong = [f"no edit is named: {line}" for line, own in zip(lines, edits) if not own]
+wrong += [f"there is no {path}" for path in named if not pathlib.Path(path).is_file()]
+wrong += [f"it is named twice: {path}" for path in named if named[path] > 1]
+if not lines or f"each of these {len(lines)} for ever" not in part:
+    wrong.append(f"{document}: the list doesn't have as many lines as it says, but {len(lines)}")
+print(*wrong or [f"{len(lines)} named mistakes have their edits"], sep="\n")
+sys.exit(bool(wrong))
 END
-for path in $(printf '%s\n' "$named" | sort | uniq -d); do refuse 'it is named twice' "$path"; done
-for path in crates/*/must-fail/*; do
-    [ ! -e "$path" ] || printf '%s\n' "$named" | grep -qxF "$path" || refuse 'no line names it' "$path"
-done
-[ "$refused" = 0 ] || exit 1
-printf '%s named mistakes have their edits\n' "$(printf '%s\n' "$list" | wc -l)"

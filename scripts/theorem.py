@@ -7,15 +7,16 @@ Usage: python3 -B scripts/theorem.py [--count] [--of CRATE.FILE.NAME]
 It runs at the top of the repository. `make theorem` and `make test` call it.
 
 First comes the contract of the call that the program makes with its words, then the definitions of
-the case that a book is made, then what its laws and the rest of that contract rest on besides. Each is printed as it
-stands in crates/*/specs, with its comments. Then come the types of the code that definitions name,
-and the words of the toolchain's library, where `rt` is to be had. --of begins with another
-definition, without the call and the laws. --count prints the last lines alone, which tell how much
-it is (scripts/lib/specs.py says what counts). --index prints each public call with the first
-sentence of its comment, its clauses, and the definitions that they cite. --check compares
+the case that a book is made, then what its laws and the rest of that contract rest on besides. Each
+is printed as it stands in crates/*/specs, with its comments. Then come the types of the code that
+definitions name, and the words of the toolchain's library, where `rt` is to be had. --of begins
+with another definition, without the call and the laws. --count prints the last lines alone, which
+tell how much it is (scripts/lib/specs.py says what counts). --index prints each public call with
+the first sentence of its comment, its clauses, and the definitions that they cite. --check compares
 docs/THEOREM.md with the counts, also those of the code that it calls trusted.
 """
 import argparse
+import itertools
 import json
 import pathlib
 import re
@@ -28,8 +29,9 @@ from lib.specs import BEFORE, TOKEN, Specs, bodies, calls, count_of, imports
 
 DOCUMENT = pathlib.Path("docs/THEOREM.md")
 HEADLINE = "pb_commands.Headline.HasHeadline"
-# The theorem's sentence as one law, and the answers that the replies say.
-LAW = pathlib.Path("crates/pb_commands/src/run_laws.rt"), "sentence"
+# The theorem's sentence, as one law, and the answers that the replies say.
+SENTENCE = "pb_commands.Sentence"
+LAW = pathlib.Path("crates/pb_commands/src/laws.rt"), "sentence"
 ANSWERS = "pb_commands.Answered", "SayAnswers"
 # The call that the program makes. Its contract is the theorem, and how else it may end.
 PROGRAM = pathlib.Path("crates/pb_program/src/ordered.rt"), "collect"
@@ -42,9 +44,9 @@ ORDER = """
     pb_board.Board pb_board.Piece pb_board.Position
     pb_moves.Attacks pb_moves.Moved pb_moves.Successor pb_moves.Legal pb_moves.Played
     pb_poly.Table pb_poly.Key pb_poly.Code
-    pb_accepted.Counting pb_accepted.Basis pb_points.Weight
+    pb_accepted.Counting pb_accepted.Rules pb_points.Weight
     pb_poly.Book pb_poly.Entry
-    pb_accepted.Rules pb_commands.Ends pb_io.Source pb_io.Count pb_io.Sink
+    pb_commands.Runs pb_io.Source pb_io.Count pb_io.Sink
 """.split()
 
 
@@ -53,8 +55,8 @@ def crate_names():
     return re.findall(r"^(\w+):", pathlib.Path("crates.txt").read_text(encoding="utf-8"), re.M)
 
 
-def by_files(found, first):
-    """Definitions by the paths of their files, in reading order: of this file first."""
+def in_order(found, first):
+    """Definitions in reading order: those of this file first."""
     crates = crate_names()
 
     def place(own):
@@ -62,11 +64,7 @@ def by_files(found, first):
         at = ORDER.index(own.file) if own.file in ORDER else len(ORDER)
         return own.file != first, at, crates.index(crate), name
 
-    files = {}
-    for own in sorted(found, key=place):
-        path = f"crates/{own.file.replace('.', '/specs/')}.antt"
-        files.setdefault(path, []).append(own)
-    return files
+    return sorted(found, key=place)
 
 
 def declared_of(folder, module):
@@ -126,13 +124,13 @@ class Library:
         return file, found[2] + comment if found else name
 
 
-def print_definitions(specs, files):
+def print_definitions(specs, found):
     """Prints definitions below the paths of their files and the comments that they stand under."""
-    for path, found in files.items():
-        print(f"==== {path}\n")
+    for file, of_file in itertools.groupby(found, key=lambda own: own.file):
+        print(f"==== crates/{file.replace('.', '/specs/')}.antt\n")
         told = {""}
-        for own in found:
-            for comment in (specs.heads.get(own.file, ""), own.part):
+        for own in of_file:
+            for comment in (specs.heads.get(file, ""), own.part):
                 if comment not in told:
                     print(f"{comment}\n")
                     told.add(comment)
@@ -203,16 +201,15 @@ def print_index(specs, names):
 
 
 def trusted_lines(cell):
-    """How many lines the bodies of the code have that a cell of the document names: of the functions
-    of a file, or of these alone; or of all files of folders, but of these."""
+    """How many lines the bodies of the code have that a cell of the document names: of the
+    functions of a file, or of these alone; or of all files of folders, but of these."""
     names, count = set(re.findall(r"`([\w:]+)`", cell)), 0
-    for target in re.findall(r"\]\(\.\./([^)]*)\)", cell):
-        path = pathlib.Path(target)
-        for file in sorted(path.glob("*.rt")) if path.is_dir() else [path]:
-            if not path.is_dir() or file.stem not in names:
-                found = bodies(file.read_text(encoding="utf-8"))
-                is_all = path.is_dir() or not names
-                count += sum(n for name, n in found if is_all or name in names)
+    for path in map(pathlib.Path, re.findall(r"\]\(\.\./([^)]*)\)", cell)):
+        is_all = path.is_dir() or not names
+        files = [it for it in path.glob("*.rt") if it.stem not in names] or [path]
+        for file in files:
+            found = bodies(file.read_text(encoding="utf-8"))
+            count += sum(n for name, n in found if is_all or name in names)
     return count
 
 
@@ -229,15 +226,13 @@ def check_trusted(text):
         sys.exit(f"{DOCUMENT}: it has to say '{due}', of which '{of_files} are about files'")
 
 
-def check(found, more, whole):
-    """Says whether the document tells how much these definitions are, alone, with those that laws
-    rest on besides, and of the whole contract of the program's call; and whether the order names no
-    other file."""
+def check(counted, found):
+    """Says whether the document tells how much these definitions are, by what each are, and whether
+    the order names no other file than theirs."""
     told = " ".join(DOCUMENT.read_text(encoding="utf-8").split())
-    due_of = {"the definitions": found, **({"with its laws": found + more} if more else {}),
-              **({"however it ends": whole} if whole else {})}
-    for words, own in due_of.items():
-        due = f"{words}: {len(own)}, on {sum(len(it.tokens) for it in own)} lines"
+    for words, own in counted.items():
+        lines = sum(len(it.tokens) for it in own)
+        due = f"{words.rpartition(', ')[2]}: {len(own)}, on {lines} lines"
         if due not in told:
             sys.exit(f"{DOCUMENT}: it has to say '{due}'")
     left = {*ORDER} - {it.file for it in found}
@@ -265,37 +260,34 @@ def main():
     found = specs.closure([specs.find(file, name)])
     if not found:
         sys.exit(f"scripts/theorem.py: no definition is named {given.of}")
-    law, laws = call_at(specs, *LAW) if given.of == HEADLINE else (None, [])
-    laws += [specs.find(*ANSWERS)] if law else []
-    more = [it for it in specs.closure(laws) if it not in found]
-    call, cited = call_at(specs, *PROGRAM) if given.of == HEADLINE else (None, [])
-    whole = specs.closure(cited)
-    words = [it for it in cited if it not in found + more]
-    rest = [it for it in whole if it not in found + more + words]
+    (law, laws), (call, cited) = ((call_at(specs, *it) if given.of == HEADLINE else (None, []))
+                                  for it in (LAW, PROGRAM))
+    more = specs.closure([*laws, specs.find(*ANSWERS)] if law else [])
+    more, whole = [it for it in more if it not in found], specs.closure(cited)
+    counted = {"the definitions": found, "with its laws": found + more if more else [],
+               "the program's call, however it ends": whole}
+    counted = {words: own for words, own in counted.items() if own}
     if given.check:
-        return check(found, more, whole)
+        return check(counted, found)
     if not given.count:
-        if call:
-            print(f"==== The program's call: {PROGRAM[0]}\n", call.text, "", sep="\n")
-            print("==== The words of its contract; the first case is the theorem\n")
-            print_definitions(specs, by_files(words, cited[0].file))
-        files = by_files(found, file)
-        print_definitions(specs, files)
-        if more:
-            print(f"==== Its law, and what else that rests on: {LAW[0]}\n", law.text, "", sep="\n")
-            print_definitions(specs, by_files(more, "pb_commands.Sentence"))
-        if rest:
-            print("==== What else the call's contract says\n")
-            print_definitions(specs, by_files(rest, cited[0].file))
-        imported = specs.imported([*sum(files.values(), []), *more, *words, *rest])
+        words = [it for it in cited if it not in found + more]
+        rest = [it for it in whole if it not in found + more + words]
+        first = cited[0].file if cited else ""
+        for title, of, own, begun in (
+                (f"The program's call: {PROGRAM[0]}", call, [], ""),
+                ("The words of its contract; the first case is the theorem", None, words, first),
+                ("", None, found, file),
+                (f"Its law, and what else that rests on: {LAW[0]}", law, more, SENTENCE),
+                ("What else the call's contract says", None, rest, first)):
+            print(f"==== {title}\n\n" if title and (of or own) else "", end="")
+            print(f"{of.text}\n\n" if of else "", end="")
+            print_definitions(specs, in_order(own, begun))
+        imported = specs.imported([*in_order(found, file), *more, *words, *rest])
         print_types(specs, imported)
         print_words(specs, imported)
         print()
-    print(count_of(found))
-    if more:
-        print("with its laws:", count_of(found + more))
-    if whole:
-        print("the program's call, however it ends:", count_of(whole))
+    for words, own in counted.items():
+        print(count_of(own) if own is found else f"{words}: {count_of(own)}")
 
 
 main()

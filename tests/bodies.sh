@@ -2,9 +2,8 @@
 # Tries scripts/bodies.py, the judge of wrong bodies, on made-up crates and by a prover that only
 # repeats what the real one said of one of them, and says of the other what its edits tell: no body
 # passes that is proved, that can't be read, or whose function isn't proved for another reason than
-# the body's own. It tries scripts/named_mistakes.sh on a made-up list too, scripts/test.sh and
-# scripts/build.sh over what fails, and scripts/check.sh, scripts/unproved.sh and tests/rows.sh over
-# a program that answers nothing. The first check that doesn't hold ends it.
+# the body's own. It tries scripts/named_mistakes.sh on a made-up list too, and scripts/test.sh
+# over a part that fails.
 # Usage: tests/bodies.sh (at the top of the repository; it needs no toolchain).
 # shellcheck disable=SC2016 # backquotes are what the prover and the list have
 set -eu
@@ -120,13 +119,7 @@ kit=${0%/path/rt}/kit
 case $1 in
     version) echo "rattle-kit logic $(wc -l < "$0")" ;;
     doc) echo "$kit/START-HERE.md" ;;
-    # The last word is a folder, where the words of a program are that is to be built and run.
-    try) for word; do :; done && exec sh "$kit/program" "$(tail -n 1 "$word/waits.args")" ;;
-    ci) exit 1 ;;
 esac
-==== kit/program
-#!/bin/sh
-[ -p "$1" ] && exec 3< "$1" && read -r _ <&3
 ==== kit/bin/rtlib.py
 class Crate:
     def __init__(self, top, name, *deps):
@@ -183,8 +176,8 @@ report_second() {
     if has '    least(a, b)'; then
         not_proved least_of_three returns 12
     elif has '    least(c, b)'; then
-        answer_fails 'record `Rattle.tiny.proofs.least.least_of_three.Lts.After-least` has no field
-`least-2` (nearest: .least): note: that is a name of Rattle'"'"'s own'
+        answer_fails 'record `Rattle.tiny.proofs.least.least_of_three.After-least` (nearest: .least)
+  has no field `least-2`'
     elif has '    least(b, a)'; then
         answer_fails '`c.least.ensures.right` proves another statement'
     elif [ -n "$waits" ]; then
@@ -238,12 +231,15 @@ END
 mkdir -p "$work/scripts/lib"
 cp scripts/bodies.py "$work/scripts"
 cp scripts/lib/libraries.py scripts/lib/specs.py "$work/scripts/lib"
-chmod 755 "$work/path/rt" "$work/kit/bin/rattle" "$work/kit/program"
+chmod 755 "$work/path/rt" "$work/kit/bin/rattle"
 
 cp "$work/crates/tiny/src/least.rt" "$work/least.rt"
 both='if a <= b { a } else { b }'
 wrong='if a <= b { a } else { a }'
 three='    least(least(a, b), c)'
+# What is said of the first wrong body.
+at='refused at `returns-else-a-b-clause-right` of tiny::least::least'
+first="least-first: $at, by values"
 
 # body NAME OLD NEW: gives the crate this wrong body
 body() {
@@ -309,9 +305,10 @@ refused() {
     body three-last "$three" '    least(a, b)'
     body three-turned "$three" '    least(b, a)'
     holds judges 0 '3 passed, 0 failed'
-    holds says 'least-first: refused at `returns-else-a-b-clause-right` of tiny::least::least'
-    holds says 'three-last: refused at `returns` of tiny::least::least_of_three'
-    holds says 'three-turned: refused at `returns` of tiny::least::least_of_three'
+    holds says "$first"
+    at='refused at `returns` of tiny::least::least_of_three, by'
+    holds says "three-last: $at values"
+    holds says "three-turned: $at a difference"
 }
 
 # A body that is proved fails, beside one that is refused too: then a function that calls the wrong
@@ -344,7 +341,7 @@ unread() {
     body three-nowhere '    least(c)' '    least(b)'
     body three-thrice 'result ≤ ' 'result < '
     holds judges 1 '1 passed, 3 failed'
-    holds says 'least-first: refused at `returns-else-a-b-clause-right` of tiny::least::least'
+    holds says "$first"
     twice='FAILED: a text stands %s times in src/least.rt, and not once: %s'
     # shellcheck disable=SC2059 # the format is this text
     holds says "three-nowhere: $(printf "$twice" 0 '    least(c)')"
@@ -445,7 +442,7 @@ elsewhere() {
     more find-two 'file: src/finding.rt' 'old:         1' \
         "new:         2 // fails finding::FinderFind::find returns"
     holds judges 0 '1 passed, 0 failed'
-    holds says 'find-two: refused at `returns` of more::finding::FinderFind::find'
+    holds says 'find-two: refused at `returns` of more::finding::FinderFind::find, by a search'
 }
 
 # A goal that only the wrong body has says nothing of the contract. Where a written answer shows
@@ -456,7 +453,7 @@ own_goals() {
         more first-one 'file: src/more.rt' 'old:     least(a, 1)' \
             "new:     least(1, 1) // fails more::first $goal"
         holds judges 0 '1 passed, 0 failed'
-        holds says "first-one: refused at \`$goal\` of more::more::first"
+        holds says "first-one: refused at \`$goal\` of more::more::first, by a search"
     done
     anew
     more first-same 'file: src/more.rt' 'old:     least(a, 1)' \
@@ -482,7 +479,7 @@ judged() {
     turn Words-odd laws::odd '≡ 1' '≡ 0 -- fails laws::odd returns'
     holds judges 0 '2 passed, 0 failed'
     holds test "$runs" -eq 1
-    holds says 'Words-odd: refused at `returns` of more::laws::odd'
+    holds says 'Words-odd: refused at `returns` of more::laws::odd, by a search'
     # the same law
     turn Words-low laws::low '(n ≤ 2)' '(n ≤ 9) -- fails laws::low returns'
     turn Words-odd laws::low '≡ 1' '≡ 1 + 0'
@@ -507,130 +504,51 @@ judged() {
     more first-one 'judged by: laws::low' 'file: src/more.rt' 'old:     least(a, 1)' 'new:     1'
     holds judges 1 '1 passed, 2 failed'
     holds says 'Words-odd: FAILED: no function has the path laws::none'
-    holds says 'first-one: FAILED: only a definition names what judges it'
+    holds says 'first-one: FAILED: what turns functions alone is judged by these'
 }
 
-# named STATUS LINE..: whether scripts/named_mistakes.sh ends so over a list of these lines
+# named STATUS COUNT LINE..: whether scripts/named_mistakes.sh ends so over a list of these lines that
+# says that it has so many
 named() {
-    due=$1 status=0
-    shift
+    due=$1 status=0 count=$2
+    shift 2
     {
-        printf '## What nobody may do\n\nThe gate tries each.\n\n'
+        printf '## What nobody may do\n\nThe gate tries each of these %s for ever.\n\n' "$count"
         [ $# -eq 0 ] || printf -- '- %s\n' "$@"
-        printf '\n## Something else\n\n- none: `crates/tiny/must-fail/nowhere.edit`\n'
+        printf '\n## Something else\n\n- none: `crates/tiny/bodies/nowhere.edit`\n'
     } > "$work/docs/WRONG_BODIES.md"
     (cd "$work" && sh "$top/scripts/named_mistakes.sh") > "$work/said" 2>&1 || status=$?
     is_status "$due"
 }
 
-# Each mistake of the list has an edit of its own, in must-fail/ or among the bodies, and each of
-# must-fail/ a line.
+# Each mistake of the list has an edit of its own, and none is lost.
 list() {
     anew
-    mkdir -p "$work/docs" "$work/crates/tiny/must-fail"
-    for name in one two; do : > "$work/crates/tiny/must-fail/$name.edit"; done
-    one='first: `crates/tiny/must-fail/one.edit`'
-    two='second: `crates/tiny/must-fail/two.edit`'
-    holds named 0 "$one" "$two"
-    holds named 1 "$one"
-    holds named 1 "$two" "$one" "$two"
-    holds named 1 "$one" "$two" 'third: none'
-    holds named 1 "$one" "$two" 'third: `crates/tiny/must-fail/three.edit`'
-    holds named 1
-    three='third: `crates/tiny/bodies/three.edit`'
-    holds named 1 "$one" "$two" "$three"
-    for name in three four; do : > "$work/crates/tiny/bodies/$name.edit"; done
-    holds named 0 "$one" "$two" "$three"
-    holds named 1 "$one" "$two" "$three" "$three"
+    mkdir -p "$work/docs"
+    for name in one two; do : > "$work/crates/tiny/bodies/$name.edit"; done
+    one='first: `crates/tiny/bodies/one.edit`'
+    two='second: `crates/tiny/bodies/two.edit`'
+    holds named 0 2 "$one" "$two"
+    holds named 1 2 "$one"
+    holds named 1 3 "$two" "$one" "$two"
+    holds named 1 3 "$one" "$two" 'third: none'
+    holds named 1 3 "$one" "$two" 'third: `crates/tiny/bodies/three.edit`'
+    holds named 1 0
 }
 
-# checks_nothing PART..: whether scripts/check.sh tells of each of these parts that it fails over
-# such a program, and ends so
-checks_nothing() {
-    status=0
-    (cd "$work/whole" && env PATH="$work/path:$PATH" TMPDIR="$work" sh scripts/check.sh "$@") \
-        > "$work/said" 2>&1 || status=$?
-    is_status 1 || return 1
-    for part; do
-        grep -q "^FAILED: $part, [0-9]* s$" "$work/said" || { echo "    $part" && return 1; }
-    done
-    grep -qx "FAILED: $*. Nothing was proved." "$work/said" && not grep -q 'All of it' "$work/said"
-}
-
-# A program that does nothing passes no part of `make check`.
-failing() {
-    mkdir -p "$work/whole/crates/pbook" "$work/whole/crates/pb_cli/src"
-    for file in crates.txt HANDLES crates/pbook/stdout crates/pb_cli/src/grammar.rt; do
-        : > "$work/whole/$file"
-    done
-    cp -R "$top/scripts" "$top/tests" "$top/examples" "$top/tools" "$work/whole"
-    holds checks_nothing replies
-    holds checks_nothing files messages demo replies locks order
-}
-
-# rows STATUS COMMAND: whether tests/rows.sh ends so over a program of this command
-rows() {
-    printf '#!/bin/sh\n%s\n' "$2" > "$work/answering"
-    chmod 755 "$work/answering"
-    ends "$1" env PROGRAM="$work/answering" TMPDIR="$work" ROWS="^${row}[[:blank:]]" \
-        sh tests/rows.sh > "$work/said"
-}
-
-# Rows that get no answer, or another status behind it, don't pass.
-answers() {
-    row=$(grep -m 1 '^[a-z]' crates/worked_examples/data/rows.txt | cut -f 1)
-    answer="grep '^$row: ' '$top/crates/worked_examples/stdout'"
-    holds rows 0 "$answer"
-    holds rows 1 "$answer; exit 3"
-    holds rows 1 :
-}
-
-# The gate ends where a part fails, and counts what has.
+# The gate ends where a part fails, or tries nothing, and counts what has.
 gate() {
     mkdir -p "$work/gate/scripts/lib"
     cp scripts/test.sh "$work/gate/scripts"
     cp scripts/lib/total.sh "$work/gate/scripts/lib"
-    echo 'echo "3 passed, 2 failed" && exit 1' > "$work/gate/scripts/named_mistakes.sh"
     cd "$work/gate"
-    holds ends 1 sh scripts/test.sh > "$work/said" 2>&1
-    holds test "$(tail -n 2 "$work/said" | paste -sd ' ')" = 'FAILED: named 3 passed, 2 failed'
+    for part in 'echo "3 passed, 2 failed" && exit 1' : 'echo "0 passed, 0 failed"'; do
+        echo "$part" > scripts/named_mistakes.sh
+        holds ends 1 sh scripts/test.sh > "$work/said" 2>&1
+        tail -n 2 "$work/said" >> "$work/gate.said"
+    done
+    holds test "$(paste -sd ' ' "$work/gate.said")" = \
+        'FAILED: named 3 passed, 2 failed FAILED: named 0 passed, 1 failed FAILED: named 0 passed, 0 failed'
 }
 
-# A crate that isn't proved is told so.
-unproved() {
-    cp scripts/build.sh "$work/scripts"
-    cd "$work"
-    : > HANDLES
-    holds ends 1 env PATH="$work/path:$PATH" sh scripts/build.sh tiny > said 2>&1
-    holds grep -qx 'It failed.' said
-}
-
-# A program that is older than a source isn't shown, nor installed one that doesn't answer.
-stale() {
-    cp Makefile "$work/whole"
-    cd "$work/whole"
-    mkdir build/unproved
-    printf '#!/bin/sh\n: > %s/shown\n' "$work" > build/pbook
-    chmod 755 build/pbook
-    touch -d yesterday build/pbook
-    holds not env -u PROGRAM PATH="$work/path:$PATH" sh examples/demo.sh > "$work/said" 2>&1
-    holds not test -e "$work/shown" -o -e build/unproved/pbook
-}
-
-check 'wrong bodies are refused at goals of their own functions' refused
-check 'a body that is proved is not' proved
-check 'an answer that names what is gone refuses no body' gone
-check 'what no prover has judged is not refused' unread
-check 'what has passed is kept as long as nothing changes' kept
-check 'what has passed stays so when a body below changes' kept_above
-check 'an import that renames is tried alone' imported
-check 'a trait'"'"'s methods are found by the module of their file' elsewhere
-check 'a goal that only the wrong body has refuses none' own_goals
-check 'definitions are judged by laws of their own' judged
-check 'each mistake that nobody may make has its edit' list
-check 'a program that does nothing passes no part of make check' failing
-check 'a row that is not answered does not pass' answers
-check 'the gate ends where a part fails' gate
-check 'a crate that is not proved ends the build' unproved
-check 'a stale program is not shown' stale
-finish
+try_all refused proved gone unread kept kept_above imported elsewhere own_goals judged list gate

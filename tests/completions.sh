@@ -2,9 +2,7 @@
 # Tries the completions for bash, zsh and fish, as far as these are installed. Bash's function is
 # called with the words of a line. Lines are typed into bash and zsh too, with a TAB, and `pbook`
 # stands there for a function that tells what it was given. Fish is asked for what it would offer.
-# The first check that doesn't hold ends it.
-# Usage: tests/completions.sh [SHELL..] (at the top of the repository; all three where none is
-# given).
+# Usage: tests/completions.sh [CHECK..] (at the top of the repository).
 # shellcheck disable=SC2086 # what isn't quoted is more words than one
 set -eu
 unset PROGRAM
@@ -174,28 +172,13 @@ fish_lines() {
     holds fish_offers '' 'pbook check ga'
 }
 
-[ $# -gt 0 ] || set -- bash zsh fish
-for shell; do
-    if ! has "$shell"; then
-        leave_out "$shell is wanted" "what $shell completes"
-        continue
-    fi
-    case $shell in
-        bash)
-            check 'bash completes commands' bash_commands
-            check 'bash completes files' bash_files
-            check 'bash completes files behind < and >' bash_redirections
-            check 'bash completes options' bash_options
-            ;;
-        fish)
-            check 'fish completes commands, files and options' fish_lines
-            continue
-            ;;
-    esac
-    if has script; then
-        check "$shell completes lines that are typed" typed "$shell"
-    else
-        leave_out 'script is wanted' "what is typed into $shell"
-    fi
-done
-finish
+bash_typed() { typed bash; }
+zsh_typed() { typed zsh; }
+can_type() { has "$1" && has script; }
+[ $# -gt 0 ] || {
+    choose 'has bash' 'bash is wanted' bash_commands bash_files bash_redirections bash_options
+    choose 'has fish' 'fish is wanted' fish_lines
+    choose 'can_type bash' 'bash and script are wanted' bash_typed
+    choose 'can_type zsh' 'zsh and script are wanted' zsh_typed
+}
+try_all "$@"

@@ -41,7 +41,7 @@ from lib import crash_disk
 from lib.crash_model import State, World
 from lib.crash_scenarios import (BOOK, ROOM, Progress, Promise, Run, Scenario, command, complaint,
                                  put, read, scenarios)
-from lib.crash_trace import Call, trace
+from lib.calls import Call, trace
 
 # The calls after which crashes are looked at.
 CHANGES = ("open", "write", "resize", "sync", "rename", "unlink", "reply")

@@ -104,17 +104,12 @@ def unfollowed(specs: Specs, followed: dict[str, str]) -> Iterator[str]:
 
 
 def write(specs: Specs) -> None:
-    """Puts down the checksums as they are, and tells which are others than before."""
-    followed = table()
-    now = {name: checksum(own) for name, own in behind_seeds(specs).items()}
+    """Puts down the checksums as they are. By git it is told which are others than before."""
+    now = behind_seeds(specs)
     for name in now:
         if not hasattr(chess, name.rpartition(".")[2]):
             sys.exit(f"{name} isn't run: say it in tests/lib/chess.py first")
-    for name in sorted({*now, *followed}):
-        if now.get(name) != followed.get(name):
-            how = "gone" if name not in now else "changed" if name in followed else "new"
-            print(f"{how}: {name}")
-    TABLE.write_text("".join(f"{name} {now[name]}\n" for name in now), encoding="ascii")
+    TABLE.write_text("".join(f"{name} {checksum(now[name])}\n" for name in now), encoding="ascii")
     print(f"{TABLE} has the checksums of {len(now)} definitions")
 
 
@@ -620,28 +615,23 @@ class Asked:
         answers = self.checked_by_pbook([chess.fen_text(f) for f in self.records])
         return [Checked(f, answer) for f, answer in zip(self.records, answers)]
 
-    def facts(self) -> Iterator[tuple[str, list[Fact]]]:
+    def facts(self) -> dict[str, Sequence[Fact]]:
         """What was asked, by what it is."""
-        yield "setups", list(self.setups)
-        yield "setups with all 16 bits of a code", list(self.codes)
-        yield "successors by their relation", list(self.successors)
-        yield "successors beside Stockfish", list(self.beside)
-        yield f"books, of {len(self.games.games):,} games", [self.games]
-        yield "keys by their relation", list(self.keys)
-        yield "plays", list(self.plays)
-        yield "texts", list(self.texts)
-        yield "starts", list(self.checked)
+        return {
+            "setups": self.setups, "setups with all 16 bits of a code": self.codes,
+            "successors by their relation": self.successors,
+            "successors beside Stockfish": self.beside,
+            f"books, of {len(self.games.games):,} games": [self.games],
+            "keys by their relation": self.keys, "plays": self.plays, "texts": self.texts,
+            "starts": self.checked}
 
     def seers(self) -> dict[str, list[Fact]]:
         """What sees wrong definitions, in an order by chance."""
-        groups: dict[str, list[Fact]] = {
-            "setups": list(self.setups), "codes": list(self.codes),
-            "successors": list(self.successors), "keys": list(self.keys),
-            "plays": self.plays + self.beside, "games": list(self.games.each()),
-            "texts": list(self.texts), "starts": list(self.checked)}
-        for facts in groups.values():
-            self.chance.shuffle(facts)
-        return groups
+        groups: dict[str, Sequence[Fact]] = {
+            "setups": self.setups, "codes": self.codes, "successors": self.successors,
+            "keys": self.keys, "plays": self.plays + self.beside, "games": self.games.each(),
+            "texts": self.texts, "starts": self.checked}
+        return {seer: self.chance.sample(facts, len(facts)) for seer, facts in groups.items()}
 
 
 # ---- all of it
@@ -727,7 +717,7 @@ def main() -> None:
     whole = [f for f in asked.setups if f.all_codes is not None]
     print(f"{len(told_by):,} setups beside Stockfish, {len(whole):,} of {len(asked.setups):,} with"
           f" all {len(chess_programs.CODES):,} moves on the program", flush=True)
-    for name, facts in asked.facts():
+    for name, facts in asked.facts().items():
         count += len(facts)
         failed += tell(name, facts)
     if given.times >= 1:

@@ -1,14 +1,16 @@
 #!/bin/sh
 # Tries what `make dist` packs, as somebody has it who has nothing else: it is unpacked in an empty
 # folder, each link of its documents leads to a file and a heading there, it needs no newer C
-# library than README says, and books are made there by the commands and the scripts that
-# README names. The first check that doesn't hold ends it.
+# library than README says, and books are made there by the commands and the scripts that README
+# names.
 # Usage: PROGRAM=program tests/dist.sh (at the top of the repository).
 set -eu
 PROGRAM=${PROGRAM:-build/pbook}
 . tests/lib/harness.sh
 export PROGRAM
 PATH=$PATH:/usr/games
+# Where the archive is unpacked.
+top=$work/unpacked/top
 
 # packed: the archive is made in $work/dist, and its checksum beside it is right
 packed() {
@@ -35,50 +37,32 @@ unpacked() {
     holds cmp top/bin/pbook "$PROGRAM"
 }
 
-# in_top CHECK: runs a check where the archive is unpacked
-in_top() {
-    cd "$work/unpacked/top"
-    "$1"
-}
-
-# anchors FILE: the names by which a link leads to a heading of this document
-anchors() {
-    sed -n 's/^##* //p' "$1" | tr '[:upper:]' '[:lower:]' | tr ' ' '-' |
-        tr -cd '[:alnum:]_\n-'
-}
-
-# is_led FOLDER TARGET: whether a link of a document in this folder leads somewhere
-is_led() {
-    file=$1/${2%%#*}
-    [ -e "$file" ] || return 1
-    case $2 in
-        *'#'*) anchors "$file" | grep -qxF -e "${2#*#}" ;;
-    esac
-}
-
 # links: each link of the documents leads to a file that is packed, and to a heading of it
 links() {
-    count=0
-    find . -name '*.md' > "$work/documents"
-    while read -r text; do
-        grep -o '](\([^)]*\))' "$text" | sed 's/^](//; s/)$//' | grep -v '^https\{0,1\}:' |
-            sort -u > "$work/links" || true
-        while read -r target; do
-            count=$((count + 1))
-            case $target in
-                '#'*) holds is_led "$(dirname "$text")" "$(basename "$text")$target" ;;
-                *) holds is_led "$(dirname "$text")" "$target" ;;
-            esac
-        done < "$work/links"
-    done < "$work/documents"
-    note "$count links of $(wc -l < "$work/documents") documents"
-    holds test "$count" -gt 0
+    cd "$top"
+    holds python3 -B - > "$work/told" << 'END'
+import pathlib, re, sys
+def anchors(text):
+    headings = re.findall("^#+ (.*)", text, re.M)
+    return {re.sub("[^a-z0-9_-]", "", it.lower().replace(" ", "-")) for it in headings}
+texts = {it: it.read_text(encoding="utf-8") for it in pathlib.Path().rglob("*.md")}
+links = {(it, to) for it in texts for to in re.findall(r"\]\(([^)]*)\)", texts[it])}
+links = [(it, *to.partition("#")) for it, to in sorted(links) if not re.match("https?:", to)]
+for it, name, _, anchor in links:
+    file = it.parent / name if name else it
+    if not file.exists() or anchor and anchor not in anchors(file.read_text(encoding="utf-8")):
+        print(f"{it} leads nowhere by {name}#{anchor}", file=sys.stderr)
+        sys.exit(1)
+print(f"{len(links)} links of {len(texts)} documents")
+sys.exit(not links)
+END
+    note "$(cat "$work/told")"
 }
 
 # needs: the program asks for no newer C library than README says
 needs() {
     due=$(grep -o 'glibc 2\.[0-9]*' README.md | cut -d' ' -f2)
-    found=$(objdump -T "$work/unpacked/top/bin/pbook" | grep -o 'GLIBC_[0-9.]*' | cut -d_ -f2 |
+    found=$(objdump -T "$top/bin/pbook" | grep -o 'GLIBC_[0-9.]*' | cut -d_ -f2 |
         sort -u -V | tail -n 1)
     holds test -n "$found"
     holds test "$(printf '%s\n' "$due" "$found" | sort -V | tail -n 1)" = "$due"
@@ -88,6 +72,7 @@ needs() {
 # first_run: the first commands of README print what stands there. Standard error is no terminal
 # here, so the line of the summary doesn't come.
 first_run() {
+    cd "$top"
     awk '/^    / { print substr($0, 5); found = 1; next } found { exit }' README.md > "$work/block"
     sed -n 's/^\$ //p' "$work/block" > "$work/commands"
     grep -v '^\$ \|^pbook: ' "$work/block" > "$work/due"
@@ -99,20 +84,9 @@ first_run() {
 
 # workers: the example of two workers makes the bundled book by the packed program
 workers() {
+    cd "$top"
     PROGRAM=bin/pbook sh examples/workers.sh > "$work/told" 2>&1
     holds grep -q '^the book is examples/book.bin$' "$work/told"
-}
-
-# printed_games: the games of examples/games.txt as PGN
-printed_games() {
-    awk -F'\t' '{ printf "[Event \"?\"]\r\n[Result \"%s\"]\r\n\r\n", $2 }
-        { sub(/ $/, ""); printf "%s%s%s\r\n\r\n", $4, $4 == "" ? "" : " ", $2 }' examples/games.txt
-}
-
-# refuses COMMAND..: whether this command ends with status 1, and says why in one line
-refuses() {
-    ends 1 "$@" > "$work/printed" 2> "$work/errors"
-    [ ! -s "$work/printed" ] && [ "$(wc -l < "$work/errors")" -eq 1 ]
 }
 
 # steps: the command from PGN to a book, as README has it, is in $work/commands, and what it tells
@@ -127,6 +101,7 @@ steps() {
 
 # from_bundled_pgn: this command makes a book of the bundled games, and tells what stands there
 from_bundled_pgn() {
+    cd "$top"
     steps
     env PATH="$PWD/bin:$PATH" sh -eu "$work/commands" 2> "$work/errors"
     holds same_lines "$work/due" "$work/errors"
@@ -136,8 +111,11 @@ from_bundled_pgn() {
 
 # from_pgn: over other games the same command makes PolyGlot's own entries
 from_pgn() {
+    cd "$top"
     steps
-    printed_games | tr -d '\r' > "$work/moves.pgn"
+    tr -d '\r' < examples/games.txt |
+        awk -F'\t' '{ printf "[Event \"?\"]\n[Result \"%s\"]\n\n%s %s\n\n", $2, $4, $2 }' \
+            > "$work/moves.pgn"
     pgn-extract -s -Wsan "$work/moves.pgn" > games.pgn 2> "$work/errors"
     sed -i 's| examples/games.pgn | games.pgn |' "$work/commands"
     env PATH="$PWD/bin:$PATH" sh -eu "$work/commands" 2>> "$work/errors"
@@ -163,8 +141,8 @@ runs() {
 
 # guide: the commands of GUIDE, run as they stand there over the bundled games
 guide() {
-    mkdir "$work/unpacked/top/guide"
-    cd "$work/unpacked/top/guide"
+    mkdir "$top/guide"
+    cd "$top/guide"
     ln -s ../examples ../tools .
     cp ../examples/table.txt .
     for name in lines tonight.txt a.journal; do cp ../examples/games.txt "$name"; done
@@ -196,6 +174,7 @@ figures() {
 # shared: each of tools/ is packed twice, also where `make install` puts it, and what is to be run
 # may be
 shared() {
+    cd "$top"
     for file in tools/*; do
         holds cmp "$file" "share/pbook/${file#*/}"
         case $file in
@@ -236,40 +215,9 @@ no_toolchain() {
     done
 }
 
-# table_refused: other numbers than PolyGlot's are refused, and so are a file of another kind and
-# none
-table_refused() {
-    sed 's/^/0x/' examples/table.txt > "$work/random.c"
-    for file in "$work/random.c" README.md missing; do
-        holds refuses sh tools/table_from_polyglot "$file"
-    done
-}
-
-check 'an archive is packed' packed
-check 'a second one has the same bytes' packed_again
-check 'it is unpacked in an empty folder' unpacked
-check 'each link of its documents leads somewhere' in_top links
-if has objdump; then
-    check 'it needs no newer C library than README says' needs
-else
-    leave_out 'objdump is wanted' 'the C library'
-fi
-check "README's first commands print what stands there" in_top first_run
-check "README's figures are those of PERFORMANCE" figures
-check 'two workers make the bundled book' in_top workers
-check 'another table is refused' in_top table_refused
-check 'what converts games lies in share/pbook too' in_top shared
-check 'where no program stands, none is made' no_program
-if no_rt_there; then
-    check 'goals say that they need the toolchain' no_toolchain
-else
-    leave_out 'rt is in /usr/bin' 'goals say that they need the toolchain'
-fi
-if has pgn-extract && has polyglot && has tkscid; then
-    check 'from PGN to a book by the command of README' in_top from_bundled_pgn
-    check "over other games it makes PolyGlot's entries" in_top from_pgn
-    check 'the commands of GUIDE' guide
-else
-    leave_out 'scid, pgn-extract and polyglot are wanted' 'from PGN to a book'
-fi
-finish
+can_book_pgn() { has pgn-extract && has polyglot && has tkscid; }
+choose true '' packed packed_again unpacked links first_run figures workers shared no_program
+choose 'has objdump' 'objdump is wanted' needs
+choose no_rt_there 'rt is in /usr/bin' no_toolchain
+choose can_book_pgn 'scid, pgn-extract and polyglot are wanted' from_bundled_pgn from_pgn guide
+try_all

@@ -1,10 +1,9 @@
 #!/bin/sh
 # Tries the scripts of tools/, which users run on their own games, as `make install` puts them in
-# place: pgn_to_book, pgn_to_lines, client.py, serve.py and nightly, and what they do at faults. The first
-# check that doesn't hold ends it. Those that want another program are left out where it is missing.
-# KILLS=number kills so many nights and services, where 12 and 4 are killed else.
-# Usage: PROGRAM=program tests/examples.sh [CHECK..] (at the top of the repository; all checks where
-# none is given).
+# place: pgn_to_book, pgn_to_lines, client.py, serve.py and nightly, and what they do at faults.
+# Those that want another program are left out where it is missing. KILLS=number kills so many
+# nights and services, where 12 and 4 are killed else.
+# Usage: PROGRAM=program tests/examples.sh [CHECK..] (at the top of the repository).
 set -eu
 PROGRAM=${PROGRAM:-build/pbook}
 . tests/lib/harness.sh
@@ -279,6 +278,7 @@ own_table() {
     holds ends 1 "$from" other.c > printed 2> told
     holds grep -q '^table_from_polyglot: the numbers of other.c give the initial array' told
     holds test ! -s printed
+    holds ends 1 "$from" missing.c > printed 2> told
     sed 780q random.c > few.c
     { cat random.c && sed -n 1p random.c; } > many.c
     for count in 780 782; do
@@ -515,7 +515,7 @@ nights() {
     holds test ! -e srv/replies.failed
     # A folder may have a name like an option's.
     mv srv ./-srv
-    holds ends 0 in_place "$shared/nightly" -srv
+    holds ends 0 "$shared/nightly" -srv
     mv ./-srv srv
     # The script may be named from its own folder.
     holds ends 0 in_shared env PATH=/usr/bin:/bin ./nightly "$place/srv"
@@ -534,8 +534,6 @@ nights() {
     night 0 '' --plies 2 --least 3
     holds cmp srv/book.bin "$top/tests/data/few.bin"
 }
-
-in_place() (cd "$place" && exec "$@")
 
 # A last line without an end isn't taken. The whole game is, a night later.
 cut_night() {

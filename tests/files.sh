@@ -3,9 +3,8 @@
 # devices, links, folders, missing permissions, full disks, files that are no journal, calls of the
 # system that fail, runs that are killed at each call. As root it tries more, on file systems that
 # it mounts. It also tries that options say what counts, and what `pbook games` takes of torn
-# journals. The first check that doesn't hold ends it.
-# Usage: PROGRAM=program tests/files.sh [CHECK..] (at the top of the repository; all checks where
-# none is given).
+# journals.
+# Usage: PROGRAM=program tests/files.sh [CHECK..] (at the top of the repository).
 # shellcheck disable=SC2046,SC2086 # what isn't quoted is more words than one
 set -eu
 PROGRAM=${PROGRAM:-build/pbook}
@@ -17,15 +16,8 @@ grep "^${start% 0 1} " examples/export.epd > "$work/first.epd"
 head -n 9 "$work/games" > "$work/nine"
 sed -n 10,14p "$work/games" > "$work/few"
 
-# Games of pawns in two ranks, whose book has more than 64 kilobytes.
-awk 'BEGIN {
-    for (n = 0; n < 5000; n++) {
-        pawns = ""
-        for (bit = 1; bit <= 4096; bit *= 2) pawns = pawns (int(n / bit) % 2 ? "P" : "p")
-        setup = "4k3/8/8/" substr(pawns, 1, 8) "/" substr(pawns, 9) "3/8/8/4K3 w - - 0 1"
-        printf "long-%d\t1/2-1/2\t%s\te1d1\n", n, setup
-    }
-}' > "$work/long"
+# Games whose book has more than 64 kilobytes.
+pawn_setups 5000 | awk -F'\t' '{ printf "long-%d\t1/2-1/2\t%s\te1d1\n", $1, $2 }' > "$work/long"
 
 # makes BOOK [FILE]: a run makes the new book of BOOK, which is this file, and leaves no draft
 makes() {
@@ -146,8 +138,7 @@ cannot_make() {
     holds awaits is_line_told
     cp told "$work/errors"
     holds tells_name "$blamed"
-    holds say_ok 1
-    holds end 3
+    holds says_all 3 1
     holds test "$(cat rest)" = 'fault open'
     cp told "$work/errors"
     holds is_told 3
@@ -483,12 +474,13 @@ cut_in_three() {
     : > whole
     : > parts
     chmod 640 parts
-    "$PROGRAM" collect --ledger whole "$table" whole.bin < "$work/games" > whole.replies 2> told
+    holds collects 0 whole.bin "$work/games" --ledger whole
+    mv "$work/replies" whole.replies
     for part in 1,90 91,200 '201,$'; do
-        sed -n "${part}p" "$work/games" |
-            "$PROGRAM" collect --ledger parts "$table" parts.bin 2>> told
-    done > parts.replies
-    holds test ! -s told
+        sed -n "${part}p" "$work/games" > lines
+        holds collects 0 parts.bin lines --ledger parts
+        cat "$work/replies" >> parts.replies
+    done
     holds cmp whole.replies parts.replies
     holds cmp whole.bin parts.bin
     holds cmp whole parts
@@ -592,8 +584,7 @@ broken_ledger() {
     for broken in 'head -c -3' "sed 5s/.*/no/"; do
         $broken first > "$ledger"
         cp "$ledger" found
-        holds ends 1 "$PROGRAM" collect -q --ledger "$ledger" "$table" "$book" \
-            < "$work/few" > "$work/replies" 2> "$work/errors"
+        holds collects 1 "$book" "$work/few" -q --ledger "$ledger"
         [ "$broken" = 'head -c -3' ] && line=$(wc -l < first) || line=5
         holds says_only "refused ledger line $line"
         holds tells "$ledger: line $line isn't a game that can be taken"
@@ -696,8 +687,7 @@ first_lines() {
     for zeros in 30 9000; do
         for rest in "$work/nine" /dev/null; do
             { head -c "$zeros" /dev/zero && cat "$rest"; } > kept
-            holds ends 0 "$PROGRAM" collect -q --journal kept "$table" "$book" < /dev/null
-            holds ends 0 "$PROGRAM" collect -q --journal kept "$table" "$book" < /dev/null
+            for _ in 1 2; do holds collects 0 "$book" /dev/null -q --journal kept; done
         done
     done
 }

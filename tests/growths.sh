@@ -18,30 +18,16 @@ PROGRAM=${WORKED_EXAMPLES:-$examples/out/worked_examples}
 . tests/lib/shim.sh
 . tests/lib/refusals.sh
 
+tab=$(printf '\t')
 describe() { describe_refusals; }
 
 # take_rows: makes the file of the rows and what is due of them, in the order of tests/growths.rows
 take_rows() {
-    awk -F '\t' -v rows="$work/old/rows.txt" -v due="$work/due" '
-        FILENAME == ARGV[1] {
-            if ($0 !~ /^#/ && $0 != "") name[++count] = $1
-            next
-        }
-        FILENAME == ARGV[2] { row[$1] = $0; next }
-        {
-            first = substr($0, 1, index($0, ": ") - 1)
-            answer[first] = answer[first] $0 "\n"
-        }
-        END {
-            for (i = 1; i <= count; i++) {
-                if (!(name[i] in row) || !(name[i] in answer)) {
-                    print "    no such row: " name[i]
-                    exit 1
-                }
-                print row[name[i]] > rows
-                printf "%s", answer[name[i]] > due
-            }
-        }' tests/growths.rows "$examples/data/rows.txt" "$examples/stdout"
+    sed -n "s/^\([^#$tab]*\)$tab.*/\1/p" tests/growths.rows > "$work/names"
+    while read -r name; do
+        holds grep "^$name$tab" "$examples/data/rows.txt" >> "$work/old/rows.txt"
+        holds grep "^$name: " "$examples/stdout" >> "$work/due"
+    done < "$work/names"
     note "$(wc -l < "$work/old/rows.txt")"
 }
 
@@ -84,20 +70,10 @@ changes_seen() {
 
 # are_seen HOW: whether each row was seen to want memory, as it may tell that
 are_seen() {
-    awk -F '\t' -v how="$1" '
-        FILENAME == ARGV[1] {
-            split($0, word, " ")
-            if (word[1] == how) seen[word[3], word[4]]
-            next
-        }
-        /^#/ || /^$/ { next }
-        # Where all that follow are refused too there is no second time.
-        { told = $2 == "alone" || $2 == "again" && how == "all" ? "failed" : "own" }
-        !(($1, told) in seen) {
-            print "    a row is not seen to want memory: " $1
-            failed = 1
-        }
-        END { exit failed }' "$work/log" tests/growths.rows
+    awk -F '\t' '/^[^#]/ { print $1, $2 == "alone" ? "failed" : "own" }' tests/growths.rows |
+        sort > "$work/wanted"
+    sed -n "s/^$1 [0-9]* //p" "$work/log" | sort -u | comm -13 - "$work/wanted" > "$work/unseen"
+    [ ! -s "$work/unseen" ] || fails "rows are not seen to want memory" /dev/null "$work/unseen"
 }
 
 # refused_in HOW: refuses each call in turn

@@ -205,9 +205,11 @@ hit_each() {
     is_same || fails 'no call was hit, and the output is another' "$work/ample.put" "$work/put"
 }
 
-# see_calls WORD..: writes to $work/seen what strace sees of the calls of a run that no shim hits,
-# in their order, `read`, `write` or `sync`, but for those by which the program was loaded
-see_calls() {
+# all_hit WORD..: the calls that failed, and as many that moved one byte, have to be those that
+# strace sees of a run that no shim hits, in their order, but for those by which the program was
+# loaded
+all_hit() {
+    sed -n 's/^FAIL_AT //p' "$work/log" > "$work/failed"
     rm -rf "$work/counted"
     cp -Rd "$work/old" "$work/counted"
     (
@@ -215,18 +217,9 @@ see_calls() {
         exec strace -f -y -s 0 -e signal=none -o "$work/calls" \
             -e trace=read,pread64,readv,write,pwrite64,writev,fsync,fdatasync "$PROGRAM" "$@"
     ) < "$input" > "$work/counted.put" 2> "$work/counted.errors" || true
-    awk '
-        # Lines of calls begin with the number of the process.
-        $2 !~ /^(p?(read|write)|f(data)?sync)/ || /\.so[.0-9]*>|<\/proc\// { next }
-        { print $2 ~ /read/ ? "read" : $2 ~ /write/ ? "write" : "sync" }' \
-        "$work/calls" > "$work/seen"
-}
-
-# all_hit WORD..: the calls that failed, and as many that moved one byte, have to be those that
-# strace sees
-all_hit() {
-    sed -n 's/^FAIL_AT //p' "$work/log" > "$work/failed"
-    see_calls "$@"
+    # Lines of calls begin with the number of the process.
+    sed -nE '/\.so[.0-9]*>|<\/proc\//d
+        s/^[0-9]+ +(p?(read|write)|f(data)?(sync)).*/\2\4/p' "$work/calls" > "$work/seen"
     cmp -s "$work/seen" "$work/failed" ||
         fails 'strace sees other calls (<) than those that failed' "$work/seen" "$work/failed"
     [ "$(logged SHORT_AT)" -eq "$(wc -l < "$work/seen")" ] ||

@@ -3,7 +3,7 @@
 # resend games through a fifo, and starts it again on the journal each time: each game that was
 # ever answered `ok` has to have its number in the last run, and BOOK has to be that of one run
 # that nothing interrupted. Then the same with --sync, at fewer moments, and, as root, on a disk
-# that fills up. The first check that doesn't hold ends it.
+# that fills up.
 # Usage: PROGRAM=program KILLS=number tests/journal.sh (at the top of the repository; 200 kills
 # where KILLS isn't given).
 set -eu
@@ -14,17 +14,12 @@ kills=${KILLS:-200}
 cd "$work"
 mkfifo games
 
-# Each number has a game of its own, of two ranks of pawns and kings that walk to and fro. Two workers
-# have one half of them each; each sends 60 in a run, of which 30 are those of the run before.
-awk -v games=$((60 * (kills + 1))) 'BEGIN {
-    for (i = 0; i < games; i++) {
-        moves = "e1d1"
-        for (turn = i % 30; turn > 0; turn--) moves = moves " e8d8 d1e1 d8e8 e1d1"
-        pawns = ""
-        for (bit = 1; bit <= 32768; bit *= 2) pawns = pawns (int(i / bit) % 2 ? "P" : "p")
-        setup = "4k3/8/8/" substr(pawns, 1, 8) "/" substr(pawns, 9) "/8/8/4K3 w - - 0 1"
-        printf "w%d-%d\t1-0\t%s\t%s\n", i % 2, i, setup, moves
-    }
+# Each number has a game of its own, in which kings walk to and fro. Two workers have one half of them
+# each; each sends 60 in a run, of which 30 are those of the run before.
+pawn_setups $((60 * (kills + 1))) | awk -F'\t' '{
+    moves = "e1d1"
+    for (turn = $1 % 30; turn > 0; turn--) moves = moves " e8d8 d1e1 d8e8 e1d1"
+    printf "w%d-%d\t1-0\t%s\t%s\n", $1 % 2, $1, $2, moves
 }' > all
 grep '^w0' all > half0
 grep '^w1' all > half1
@@ -92,32 +87,22 @@ killed_runs() {
     holds grep -q '^ok' answered
 }
 
-# The last run takes all games, and nothing interrupts it, and tells no error. That a kill has cut a
-# line is a warning, which -q leaves out.
-whole_run() {
+# goes_on OPTION..: a last run with these options, which nothing interrupts, takes all games, and
+# tells no error. That a kill has cut a line is a warning, which -q leaves out.
+goes_on() {
     "$PROGRAM" collect -q --journal journal "$@" table book < all > last 2> errors
     holds test ! -s errors
-}
-
-# Each whole `ok` line that was ever written stands among the replies of the last run.
-all_are_kept() {
+    # Each whole `ok` line that was ever written stands among its replies.
     grep '^ok [^ ]* [0-9]*$' answered | sort -u > acknowledged
     sort -u last > numbered
     comm -23 acknowledged numbered > lost
     holds test ! -s lost
-}
-
-# No number was given to two games, and no game has two.
-one_number_each() {
-    cat acknowledged numbered | sort -u > both
+    # No number was given to two games, and no game has two.
     for field in 2 3; do
-        cut -d ' ' -f "$field" both | sort | uniq -d > twice
+        sort -u acknowledged numbered | cut -d ' ' -f "$field" | sort | uniq -d > twice
         holds test ! -s twice
     done
-}
-
-# The book is that of one run over all games without a journal, and so is that of the journal alone.
-book_of_one_run() {
+    # The book is that of one run over all games without a journal, and so is that of the journal.
     "$PROGRAM" collect table whole < all > one 2> errors
     holds cmp book whole
     "$PROGRAM" collect table again < journal > two 2>> errors
@@ -125,7 +110,17 @@ book_of_one_run() {
     holds cmp again whole
 }
 
-# full_disk: a run on a disk that fills up, and then one elsewhere on the journal that it leaves
+killed() {
+    killed_runs "$kills"
+    goes_on
+}
+
+killed_synced() {
+    killed_runs $((kills / 10)) --sync
+    goes_on --sync
+}
+
+# A run is on a disk that fills up, and the last one elsewhere on the journal that it leaves.
 full_disk() {
     mkdir small
     mount -t tmpfs -o size=64k tmpfs "$work/small"
@@ -136,25 +131,9 @@ full_disk() {
     holds test "$(cat errors)" = 'pbook: small/journal: no space left on device'
     cp small/journal journal
     holds grep -q '^ok' answered
+    goes_on
 }
 
-check 'runs are killed' killed_runs "$kills"
-check 'the last run takes all games' whole_run
-check 'each game that was answered has its number' all_are_kept
-check 'each game has one number' one_number_each
-check 'the book is that of one run' book_of_one_run
-
-check 'the same with --sync: runs are killed' killed_runs $((kills / 10)) --sync
-check 'the same with --sync: the last run takes all games' whole_run --sync
-check 'the same with --sync: numbers' all_are_kept
-check 'the same with --sync: the book' book_of_one_run
-
-if [ "$(id -u)" -eq 0 ]; then
-    check 'a full disk ends the run' full_disk
-    check 'the last run after it takes all games' whole_run
-    check 'each game that was answered before it was full has its number' all_are_kept
-    check 'the book after it is that of one run' book_of_one_run
-else
-    leave_out 'root is wanted' 'a full disk' 'the last run after it' 'its numbers' 'its book'
-fi
-finish
+choose true '' killed killed_synced
+choose is_root 'root is wanted' full_disk
+try_all

@@ -1,11 +1,10 @@
 #!/bin/sh
-# Tries that two runs don't spoil each other's files, and one run doesn't spoil its own: a FILE, and
-# what makes a BOOK, are held from a run's start on, and what a killed run left isn't; the files of
-# a run, its drafts, standard input and output are different ones. Other programs change the files
-# of a run meanwhile: no game is answered by a journal that one has changed, and what one has put
-# into the FILE of `--ledger` is kept. The first check that doesn't hold ends it.
-# Usage: PROGRAM=program tests/locks.sh [CHECK..] (at the top of the repository; all checks where
-# none is given).
+# Tries that two runs don't spoil each other's files, and one run doesn't spoil its own: a FILE,
+# and what makes a BOOK, are held from a run's start on, and what a killed run left isn't; the
+# files of a run, its drafts, standard input and output are different ones. Other programs change
+# the files of a run meanwhile: no game is answered by a journal that one has changed, and what one
+# has put into the FILE of `--ledger` is kept.
+# Usage: PROGRAM=program tests/locks.sh [CHECK..] (at the top of the repository).
 # shellcheck disable=SC2086 # what isn't quoted is more words than one
 set -eu
 PROGRAM=${PROGRAM:-build/pbook}
@@ -34,8 +33,7 @@ held() {
     for name in "$file" "link$1"; do
         for option in --journal --ledger; do holds is_in_use "$name" "$option" "$name"; done
     done
-    holds say_ok 2
-    holds end 0
+    holds says_all 0 2
     holds cmp "$2" "$file"
     # Nobody holds it any more.
     holds collects 0 "$book" "$work/games" "$1" "$file"
@@ -87,8 +85,7 @@ one_book() {
             holds tells "$name: it is in use by another run"
             holds test "$(wc -l < "$work/replies")" -eq $(($(wc -l < "$work/games") + 1))
         done
-        holds say_ok 2
-        holds end 0
+        holds says_all 0 2
         games_of 1,2 | "$PROGRAM" collect "$table" "$state.bin" > /dev/null
         holds cmp book.bin "$state.bin"
         holds no_draft
@@ -230,8 +227,7 @@ book_is_held() {
             holds says 'fault open'
             holds tells "$name: it is in use by another run"
         done
-        holds say_ok 1
-        holds end 0
+        holds says_all 0 1
         holds no_draft
     done
     whole_ledger 1 > whole

@@ -55,16 +55,14 @@ same_files() {
     is_of "$1" file || fails "FILE is not as it is due (that of the folder $1)"
 }
 
-# is_untouched: whether the files are the old ones
-is_untouched() { is_of old book && is_of old file; }
-
 # is_usual: whether the run is as with ample memory, or ended with nothing but the fault; then the
 # files are as due too
 is_usual() {
     if is_same_output; then
         came=same
         same_files ample
-    elif [ "$status" -eq 3 ] && cmp -s "$work/fault" "$work/put" && is_untouched; then
+    elif [ "$status" -eq 3 ] && cmp -s "$work/fault" "$work/put" &&
+        is_of old book && is_of old file; then
         wanted 1
         came=fault
         untouched=true
@@ -75,10 +73,7 @@ is_usual() {
 
 # due_after OUTPUT: what is due is the fault after so many lines of this output as were put before
 # it
-due_after() {
-    head -n $(($(wc -l < "$work/put") - 1)) "$1" > "$work/due"
-    cat "$work/fault" >> "$work/due"
-}
+due_after() { head -n $(($(wc -l < "$work/put") - 1)) "$1" | cat - "$work/fault" > "$work/due"; }
 
 # shown: what a command that takes no submissions may put
 shown() {
@@ -156,22 +151,25 @@ replies_due() {
 
 # judge_replies WORD..: reads what was put as replies, sets `fault`, `replies` and `mask`, which
 # has a 1 for each submission that was answered `ok`, and makes the folder $work/made-MASK of a
-# run with ample memory over those
+# run with ample memory over those. The files are those of that run, and BOOK after a fault is the
+# old one.
 judge_replies() {
     replies_due > "$work/choices"
     read -r fault replies wants mask < "$work/choices"
-    make_masked "$mask" "$@"
+    if [ ! -e "$work/made-$mask" ]; then
+        awk -v mask="$mask" 'substr(mask, NR, 1) == "1"' "$input" > "$work/taken"
+        make_of "$mask" "$@"
+        if grep -v '^ok ' "$work/made.put"; then fails 'a game that was answered ok is refused'; fi
+    fi
     wanted $((wants + fault))
     ends_as_due $((3 * fault))
-}
-
-# make_masked MASK WORD..: makes the folder of a run with ample memory over the submissions that
-# MASK has a 1 for
-make_masked() {
-    [ ! -e "$work/made-$1" ] || return 0
-    awk -v mask="$1" 'substr(mask, NR, 1) == "1"' "$input" > "$work/taken"
-    make_of "$@"
-    if grep -v '^ok ' "$work/made.put"; then fails 'a game that was answered ok is refused'; fi
+    if [ "$fault" -eq 0 ]; then
+        came=games
+        same_files "made-$mask"
+    else
+        came=fault
+        is_of old book || fails 'BOOK is not the old one'
+    fi
 }
 
 # collected WORD..: what a command that takes submissions may put, `refused <id> memory` in place of
@@ -180,13 +178,7 @@ make_masked() {
 collected() {
     if is_usual; then return; fi
     judge_replies "$@"
-    if [ "$fault" -eq 0 ]; then
-        same_files "made-$mask"
-        came=games
-        return
-    fi
-    is_of old book || fails 'BOOK is not the old one'
-    came=fault
+    [ "$fault" -eq 1 ] || return 0
     if is_of "made-$mask" file; then
         if [ "$replies" -eq ${#mask} ] && ! is_of old file; then saved=true; fi
         return
@@ -211,13 +203,6 @@ journaled() {
     judge_replies "$@"
     is_of "made-$mask" file || fails 'the journal is not that of the games answered ok' \
         "$work/made-$mask/file" "$work/run/file"
-    if [ "$fault" -eq 0 ]; then
-        same_files "made-$mask"
-        came=games
-    else
-        is_of old book || fails 'BOOK is not the old one'
-        came=fault
-    fi
 }
 
 # sum_of FILE: a name for what the file holds
@@ -347,12 +332,12 @@ short_of_space() {
         holds test "$least" -lt 40000
     done
     for space in $(seq "$least" 100 $((least + 4000))); do
-        in_space "$space" collect ../table book
-        holds test "$status" -le 3
-        in_space "$space" collect --journal file ../table book
-        holds test "$status" -le 3
-        in_space "$space" export ../table
-        holds test "$status" -le 3
+        for words in 'collect ../table book' 'collect --journal file ../table book' \
+            'export ../table'; do
+            # shellcheck disable=SC2086 # each is a word
+            in_space "$space" $words
+            holds test "$status" -le 3
+        done
     done
 }
 

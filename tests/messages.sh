@@ -1,9 +1,8 @@
 #!/bin/sh
 # Tries what `pbook` tells on standard error: each fault, refused file and warning by the name of
-# the file and its cause, a summary and how far it is in a terminal alone; and that a standard error
-# that is closed or full changes nothing else. The first check that doesn't hold ends it.
-# Usage: PROGRAM=program tests/messages.sh [CHECK..] (at the top of the repository; all checks where
-# none is given).
+# the file and its cause, a summary and how far it is in a terminal alone; and that a standard
+# error that is closed or full changes nothing else.
+# Usage: PROGRAM=program tests/messages.sh [CHECK..] (at the top of the repository).
 # shellcheck disable=SC2046,SC2086,SC2254 # what isn't quoted is more words than one, or a pattern
 set -eu
 PROGRAM=${PROGRAM:-build/pbook}
@@ -262,11 +261,7 @@ wrong_use() {
     # A word has no line of its own, nor what a terminal would do.
     holds tells_of 2 "unexpected argument 'b\\npbook: fake\\u{1b}[31m' found" \
         show book.bin "$(printf 'b\npbook: fake\033[31m')"
-}
-
-# Which arguments are wanted is told too, in one line.
-arguments_wanted() {
-    input=/dev/null
+    # Which arguments are wanted is told too, in one line.
     while IFS='|' read -r words wanted; do
         holds tells_of 2 "the following required arguments were not provided: $wanted" $words
     done << 'END'
@@ -294,9 +289,11 @@ lookup table.txt book.bin x.txt|positions
 END
 }
 
-# A terminal of 80 columns shows each line of help whole.
+# A terminal of 80 columns shows each line of help whole. Help that was asked for is no fault, nor
+# is the help that is put where no word is given.
 help_width() {
     input=/dev/null
+    each_tells 2 '' '?*' --help --version 'collect --help' ''
     commands=$("$PROGRAM" --help | sed -n '/^Commands:/,/^$/s/^  \([a-z]*\) .*/\1/p')
     holds test "$(echo "$commands" | sort | tr '\n' ' ')" = \
         'check collect epd export fen games help lookup probe show tree '
@@ -312,12 +309,6 @@ help_width() {
         holds tells_of 2 '' "$command" --help
         holds grep -q "^Usage: pbook $command .*< [A-Z]* > [A-Z]*$" "$work/replies"
     done
-}
-
-# Help that was asked for is no fault, nor is the help that is put where no word is given.
-asked_help() {
-    input=/dev/null
-    each_tells 2 '' '?*' --help --version 'collect --help' ''
 }
 
 # after_bytes COMMAND..: runs the command over what is left behind the first bytes of its input
@@ -459,10 +450,6 @@ text is text
 cut.bin is neither text nor a book
 falling is neither text nor a book
 END
-    for file in /dev/null book.bin; do
-        cp "$file" other.bin
-        holds tells_of 0 '' collect table.txt other.bin
-    done
 }
 
 # A name with control characters is told in one line, which has none.
@@ -607,10 +594,11 @@ run_of() (
     printf '[Event "one game"]\nno game\n' > pgn
     status=0
     case $how in
-        file) "$PROGRAM" "$@" < pgn > put 2> ../told || status=$? ;;
-        closed) "$PROGRAM" "$@" < pgn > put 2>&- || status=$? ;;
-        full) "$PROGRAM" "$@" < pgn > put 2> /dev/full || status=$? ;;
+        file) exec 2> ../told ;;
+        closed) exec 2>&- ;;
+        full) exec 2> /dev/full ;;
     esac
+    "$PROGRAM" "$@" < pgn > put || status=$?
     echo "$status" > status
 )
 
@@ -673,6 +661,7 @@ terminal() {
 summaries() {
     input=$work/games
     all=$(echo "$summary" | sed 's/^pbook: //')
+    again=$(echo "$all" | sed 's/300 new, 20/0 new, 320/')
     for option in '' -q; do
         holds tells_of 0 "$all; book.bin: 367 entries" collect $option --summary table.txt book.bin
         holds is_new book.bin
@@ -700,7 +689,6 @@ summaries() {
     holds tells_of 3 'no.txt: no such file or directory' export --summary no.txt
     holds tells_of 3 '/dev/full: no space left on device' collect --summary table.txt /dev/full
 }
-again='322 lines: 320 ok (0 new, 320 again), 2 refused (1 illegal, 1 conflict)'
 
 # numbered COUNT FORMAT: so many lines of this format of `printf`, with the number of each as its
 # word
@@ -772,28 +760,19 @@ lost_games() {
 kept: at most 1,000,000 games are held" collect --ledger kept table.txt book.bin
 }
 
-# What FILE holds is told from new games, where no new one comes too.
-terminal_again() {
-    for option in ledger journal; do
-        : > "$option"
-        for told in "$summary; book.bin: 367 entries" "pbook: $again; book.bin: 367 entries"; do
-            holds in_terminal \
-                "pbook collect --$option $option table.txt book.bin < '$work/games' > replies"
-            holds grep -qxF "$told" shown
-        done
-    done
-}
-
-# Of 320 lines with 300 games, those are new that FILE didn't hold. Its first line is none.
+# Of 320 lines with 300 games, those are new that FILE didn't hold. Its first line is none. So it is
+# told where no new one comes too.
 terminal_some_new() {
     head -n 200 "$work/games" > games
     for option in ledger journal; do
         : > "$option"
         holds tells_of 0 '' collect "--$option" "$option" table.txt book.bin
-        new=$((300 - $(grep '^ok' "$work/replies" | sort -u | wc -l)))
-        holds in_terminal \
-            "pbook collect --$option $option table.txt book.bin < '$work/games' > replies"
-        holds grep -qF "pbook: 322 lines: 320 ok ($new new, $((320 - new)) again), 2 refused" shown
+        for new in $((300 - $(grep '^ok' "$work/replies" | sort -u | wc -l))) 0; do
+            holds in_terminal \
+                "pbook collect --$option $option table.txt book.bin < '$work/games' > replies"
+            told="322 lines: 320 ok ($new new, $((320 - new)) again), 2 refused"
+            holds grep -qxF "pbook: $told (1 illegal, 1 conflict); book.bin: 367 entries" shown
+        done
     done
 }
 
@@ -809,9 +788,9 @@ terminal_torn() {
 
 progress='^pbook: [0-9,]+ lines?, [0-9,]+ games?, [0-9,]+ refused'
 terminal_progress() {
-    slowly="for n in 1 2 3 4 5 6; do sed -n \${n}p '$work/games'; sleep 1.5; done"
+    slowly="for n in 1 2 3 4 5 6; do sed -n \${n}p games; sleep 1.5; done"
     holds in_terminal "{ $slowly; } | pbook collect table.txt book.bin > replies"
-    slowly="for n in 1 2 3 4 5 6; do sed -n \${n}p '$work/games'; sleep 0.5; done"
+    slowly=$(echo "$slowly" | sed 's/1\.5/0.5/')
     # Each second one, and the one that tells of the book.
     holds test "$(grep -E "$progress" shown | grep -vc 'making the book')" -ge 2
     holds grep -qF 'pbook: 6 lines: 6 ok (6 new' shown
@@ -884,15 +863,15 @@ terminal_use() {
 
 [ $# -gt 0 ] || {
     choose true '' missing_files failed_reads closed_pipe refused_tables refused_books \
-        refused_ledger refused_words wrong_use arguments_wanted words_too_many help_width \
-        asked_help begun_input no_game bad_journal_line told_at_once other_book odd_names \
-        left_out_lines no_games games_to_themselves cut_input reasons counted
+        refused_ledger refused_words wrong_use words_too_many help_width begun_input no_game \
+        bad_journal_line told_at_once other_book odd_names left_out_lines no_games \
+        games_to_themselves cut_input reasons counted
     choose 'test -c /dev/full' '/dev/full is wanted' full_output quiet_faults \
         without_errors summaries
     choose is_proved 'a program without proof is slow' lost_games
     choose 'has gzip' 'gzip is wanted' other_input
     choose can_trace 'strace is wanted' no_more_files
-    choose 'has script' 'script is wanted' terminal terminal_again terminal_some_new \
-        terminal_torn terminal_progress terminal_shared terminal_typed terminal_use
+    choose 'has script' 'script is wanted' terminal terminal_some_new terminal_torn \
+        terminal_progress terminal_shared terminal_typed terminal_use
 }
 try_all "$@"

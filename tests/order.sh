@@ -1,10 +1,9 @@
 #!/bin/sh
 # Compares the order of the system's calls with the one that keeps what was answered: a journal's
 # line is written whole and synced before its reply, what an earlier run left is written and synced
-# again before it is read, a draft is on the disk before it takes its name, FILE is made anew before
-# BOOK. strace tells the calls. The first check that doesn't hold ends it.
-# Usage: PROGRAM=program tests/order.sh [CHECK..] (at the top of the repository; all checks where
-# none is given).
+# again before it is read, a draft is on the disk before it takes its name, FILE is made anew
+# before BOOK. strace tells the calls.
+# Usage: PROGRAM=program tests/order.sh [CHECK..] (at the top of the repository).
 # shellcheck disable=SC2086 # what isn't quoted is more words than one
 set -eu
 PROGRAM=${PROGRAM:-build/pbook}
@@ -36,7 +35,7 @@ rewritten() {
 }
 
 # reply_of NUMBER: the number of bytes of that reply
-reply_of() { echo "ok $(id_of "$1") $1" | wc -c | tr -d ' '; }
+reply_of() { echo "ok $(id_of "$1") $1" | wc -c; }
 
 # size_of FILE: how many bytes it has
 size_of() { stat -c %s "$1"; }
@@ -48,25 +47,24 @@ begun() {
         'fsync games.journal' 'open . r' 'fsync .' 'read games.journal'
 }
 
-# kept NUMBER: the calls that keep a new game and answer it
-kept() {
-    printf '%s\n' "write games.journal $(bytes_of "$1")" 'fdatasync games.journal' \
-        "write replies $(reply_of "$1")"
-}
+# kept NUMBER: the calls by which a new game is on the disk
+kept() { printf '%s\n' "write games.journal $(bytes_of "$1")" 'fdatasync games.journal'; }
 
 # Each new game is written whole by one call, and is on the disk before its reply goes out; a game
 # that comes again is answered at once.
 synced_journal() {
     : > games.journal
     begin $journaled --sync "$table" books/book.bin
-    for number in 1 2 1 3; do holds say_ok "$number"; done
-    holds end 0
+    holds says_all 0 1 2 1 3
     holds of_journal rewritten << END
 $(begun)
 $(kept 1)
+write replies $(reply_of 1)
 $(kept 2)
+write replies $(reply_of 2)
 write replies $(reply_of 1)
 $(kept 3)
+write replies $(reply_of 3)
 END
     games_of 1,3 > whole
     holds cmp whole games.journal
@@ -79,13 +77,10 @@ synced_at_once() {
     holds ran 0 $journaled --sync "$table" books/book.bin < games
     holds of_journal rewritten << END
 $(begun)
-write games.journal $(bytes_of 1)
-fdatasync games.journal
-write games.journal $(bytes_of 2)
-fdatasync games.journal
-write games.journal $(bytes_of 3)
-fdatasync games.journal
-write replies $(wc -c < "$work/replies" | tr -d ' ')
+$(kept 1)
+$(kept 2)
+$(kept 3)
+write replies $(size_of "$work/replies")
 END
 }
 
@@ -93,9 +88,7 @@ END
 unsynced_journal() {
     : > games.journal
     begin $journaled "$table" books/book.bin
-    holds say_ok 1
-    holds say_ok 2
-    holds end 0
+    holds says_all 0 1 2
     holds of_journal << END
 open games.journal rw
 flock games.journal LOCK_EX
@@ -116,8 +109,7 @@ repeat_of_unsynced() {
     holds collects 0 "$place/books/book.bin" "$place/games" --journal games.journal
     mv games whole
     begin $journaled --sync "$table" books/book.bin
-    holds say_ok 2
-    holds end 0
+    holds says_all 0 2
     holds of_journal rewritten << END
 $(begun "rewrite games.journal $(size_of whole)")
 write replies $(reply_of 2)
@@ -130,8 +122,7 @@ repeat_unsynced() {
     games_of 1,2 > games.journal
     cp games.journal whole
     begin $journaled "$table" books/book.bin
-    holds say_ok 2
-    holds end 0
+    holds says_all 0 2
     holds of_journal << END
 open games.journal rw
 flock games.journal LOCK_EX
@@ -158,8 +149,7 @@ torn_journal() {
     games_of 2 | head -c 50 >> games.journal
     cp games.journal whole
     begin $journaled --sync "$table" books/book.bin
-    holds say_ok 1
-    holds end 0
+    holds says_all 0 1
     holds of_journal rewritten << END
 $(begun "rewrite games.journal $(size_of whole)")
 write games.journal 5
@@ -179,42 +169,33 @@ journal_elsewhere() {
         : > far/games.journal
         holds ran 0 traced calls \
             "$PROGRAM" collect --journal "$name" --sync "$table" books/book.bin < games
-        holds far_in_order
-    done
-}
-far_in_order() {
-    in_order calls '^(fsync|write|fdatasync) (far|replies|\.)' << END
+        holds in_order calls '^(fsync|write|fdatasync) (far|replies|\.)' << END
 fsync far/games.journal
 fsync far
 write far/games.journal $(bytes_of 1)
 fdatasync far/games.journal
-write replies $(wc -c < "$work/replies" | tr -d ' ')
+write replies $(size_of "$work/replies")
 fdatasync far/games.journal
 END
+    done
 }
 
 # A book is on the disk before it takes its name, and then its name is, also where BOOK stands in
 # another folder than that of the run.
-draft_order='^(write|fsync|fdatasync|rename) \S*book|^fsync '
-new_draft() {
-    holds ran 0 traced calls "$PROGRAM" collect "$table" book.bin < "$work/games"
-    holds in_order calls "$draft_order" << END
-write .book.bin.pbook $(size_of book.bin)
-fdatasync .book.bin.pbook
-rename .book.bin.pbook to book.bin
-fsync .
+draft_in() {
+    at=${1:+$1/}
+    holds ran 0 traced calls "$PROGRAM" collect "$table" "${at}book.bin" < "$work/games"
+    holds in_order calls '^(write|fsync|fdatasync|rename) \S*book|^fsync ' << END
+write ${at}.book.bin.pbook $(size_of "${at}book.bin")
+fdatasync ${at}.book.bin.pbook
+rename ${at}.book.bin.pbook to ${at}book.bin
+fsync ${1:-.}
 END
 }
-
+new_draft() { draft_in ''; }
 draft_elsewhere() {
     mkdir far
-    holds ran 0 traced calls "$PROGRAM" collect "$table" far/book.bin < "$work/games"
-    holds in_order calls "$draft_order" << END
-write far/.book.bin.pbook $(size_of far/book.bin)
-fdatasync far/.book.bin.pbook
-rename far/.book.bin.pbook to far/book.bin
-fsync far
-END
+    draft_in far
 }
 
 # Before a submission is read BOOK is looked at, and FILE and BOOK are held with their drafts, which
@@ -279,7 +260,8 @@ fsync far
 END
 }
 
-choose can_trace 'strace is wanted' synced_journal synced_at_once unsynced_journal \
-    repeat_of_unsynced torn_journal repeat_unsynced long_journal journal_elsewhere new_draft \
-    draft_elsewhere saved_ledger behind_links
+can_read_traces() { can_trace && has python3; }
+choose can_read_traces 'strace and python3 are wanted' synced_journal synced_at_once \
+    unsynced_journal repeat_of_unsynced torn_journal repeat_unsynced long_journal \
+    journal_elsewhere new_draft draft_elsewhere saved_ledger behind_links
 try_all "$@"

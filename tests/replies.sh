@@ -6,62 +6,42 @@
 set -eu
 PROGRAM=${PROGRAM:-build/pbook}
 . tests/lib/harness.sh
+. tests/lib/places.sh
+. tests/lib/collector.sh
+"$PROGRAM" collect "$table" "$work/book" < "$work/games" > "$work/due"
 
-# is_answered LINE: whether an answer comes before another line is sent
-is_answered() {
-    timeout "$patience" head -n 1 <&4 > "$work/answer"
-    cat "$work/answer" >> "$work/answers"
-    [ -s "$work/answer" ]
-}
-
-# ask: sends each line of standard input to the run, and takes what it answers before the next one
-ask() {
+# asks STATUS WORD..: a run with these words gives the answers of $work/due, each before it has
+# another line, and ends with this status. It has nothing to tell on standard error.
+asks() {
+    wanted=$1
+    shift
+    begin "$PROGRAM" "$@"
     while IFS= read -r line; do
         printf '%s\n' "$line" >&3
-        holds is_answered "$line"
-    done
+        timeout "$patience" head -n 1 <&4 > answer
+        holds test -s answer
+        cat answer >> answers
+    done < "$work/games"
+    holds end "$wanted"
+    holds test ! -s told
+    holds cmp answers "$work/due"
 }
 
-# talk_with STATUS WORD..: asks a run that is started with these words, and ends with this status.
-# Its answers are in $work/answers. It has nothing to tell on standard error.
-talk_with() {
-    wanted_status=$1
-    shift
-    : > "$work/answers"
-    "$PROGRAM" "$@" < "$work/games" > "$work/replies" 2> "$work/errors" &
-    running=$!
-    trap 'kill -9 "$running"' EXIT
-    exec 3> "$work/games" 4< "$work/replies"
-    ask < examples/games.txt
-    exec 3>&- 4<&-
-    status=0
-    wait "$running" || status=$?
-    trap - EXIT
-    holds test "$status" -eq "$wanted_status"
-    holds test ! -s "$work/errors"
+# collects_with OPTION..: so it is of `collect`, and its book is the new one
+collects_with() {
+    : > kept
+    asks 0 collect "$@" "$table" "$book"
+    holds is_new "$book"
 }
+collect() { collects_with; }
+with_ledger() { collects_with --ledger kept; }
+with_journal() { collects_with --journal kept; }
 
-# converse WORD..: asks a collector that is started with these words before TABLE and BOOK, and
-# compares its replies and its book
-converse() {
-    : > "$work/kept"
-    talk_with 0 collect "$@" examples/table.txt "$work/book"
-    holds cmp "$work/answers" "$work/wanted"
-    holds cmp "$work/book" examples/book.bin
-}
-
-# judged: asks `check`. It holds no game, so the line that has the id of another one is a game too.
+# A run of `check` holds no game, so the line that has the id of another one is a game too.
 judged() {
-    talk_with 1 check
     awk -F'\t' '$1 == "worker9-001" { print "refused", $1, "illegal 3"; next } { print "ok", $1 }' \
-        examples/games.txt > "$work/due"
-    holds cmp "$work/answers" "$work/due"
+        "$work/games" > "$work/due"
+    asks 1 check
 }
 
-mkfifo "$work/games" "$work/replies"
-"$PROGRAM" collect examples/table.txt "$work/book" < examples/games.txt > "$work/wanted"
-check 'collect answers each line before it waits for the next' converse
-check 'so does collect --ledger' converse --ledger "$work/kept"
-check 'so does collect --journal' converse --journal "$work/kept"
-check 'so does check' judged
-finish
+try_all collect with_ledger with_journal judged

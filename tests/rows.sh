@@ -5,8 +5,8 @@
 # below without their slow rows.
 # Usage: PROGRAM=program ROWS=pattern PATIENCE=seconds tests/rows.sh (at the top of the repository;
 # scripts/check.sh builds the program). ROWS takes the rows in which that extended expression is
-# found, in the place of the topics. Those that count sequences of moves take minutes, those of
-# seventy thousand games an hour; PATIENCE is 300 where it isn't given.
+# found, and runs, in the place of the topics. Those that count sequences of moves take minutes,
+# those of seventy thousand games an hour; PATIENCE is 300 where it isn't given.
 set -eu
 : "${PROGRAM:?scripts/check.sh rows builds it}"
 . tests/lib/harness.sh
@@ -50,6 +50,8 @@ answers() {
         return 1
     fi
     diff "$work/due" "$work/put" > "$work/differs" || true
+    # What runs of the program tell on standard error isn't compared.
+    ! grep -q "^[^$tab]*${tab}run$tab" "$work/run/rows.txt" || : > "$work/errors"
     if [ "$status" -eq 0 ] && [ ! -s "$work/errors" ] && [ ! -s "$work/differs" ]; then return; fi
     echo "    the status is $status; what is due (<), what was answered (>), and errors:"
     head -n 20 "$work/differs" "$work/errors"
@@ -57,9 +59,11 @@ answers() {
 }
 
 if [ -n "${ROWS:-}" ]; then
-    check "rows of $ROWS" answers "$ROWS"
+    rows_of "$ROWS" > /dev/null || { echo "rows: none has $ROWS"; exit 1; }
+    # Runs find the files of those before them.
+    check "rows of $ROWS" answers "$ROWS|^[^$tab]*${tab}run$tab"
 else
-    for topic in record epd moves table book stream game points ledger words command surface; do
+    for topic in record epd moves table book stream game points ledger words command surface run; do
         check "$topic" answers "^[^$tab]*$tab$topic($tab|\$)" "$slow"
     done
 fi

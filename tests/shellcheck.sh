@@ -12,6 +12,5 @@ silent() {
     note "$(wc -l < "$work/scripts") scripts"
 }
 
-says='shellcheck says nothing'
-if has shellcheck; then check "$says" silent; else leave_out 'shellcheck is wanted' "$says"; fi
-finish
+choose 'has shellcheck' 'shellcheck is wanted' silent
+try_all

@@ -1,6 +1,6 @@
 #!/bin/sh
-# Tries scripts/theorem.py on made-up crates: what it prints, in what order, and what it counts. The
-# numbers due were counted by hand. The first check that doesn't hold ends it.
+# Tries scripts/theorem.py on made-up crates: in what order it prints definitions and what it
+# counts. The numbers due were counted by hand.
 # Usage: tests/theorem.sh (at the top of the repository).
 set -eu
 . tests/lib/harness.sh
@@ -9,13 +9,6 @@ top=$PWD
 # theorem OPTION..: what the script prints of these crates, where the toolchain isn't on PATH
 theorem() {
     (cd "$work" && PATH=/usr/bin:/bin python3 -B "$top/scripts/theorem.py" "$@")
-}
-
-# prints OPTION..: whether the script prints the lines of standard input
-prints() {
-    cat > "$work/due"
-    theorem "$@" > "$work/printed"
-    same_lines "$work/due" "$work/printed"
 }
 
 put_all << 'END'
@@ -117,96 +110,13 @@ least = 0
 
 abbrev pub Sentence : ℕ
 Sentence = headline + least
-==== crates/pb_commands/src/run_laws.rt
+==== crates/pb_commands/src/laws.rt
 ghost use Rattle.pb_commands.specs.Sentence.{Sentence};
 
 /// Sums up.
 pub fn sentence()
     ensures { Sentence ≡ Sentence }
 {}
-==== crates/upper/src/shade.rt
-/// A shade.
-pub enum Shade {
-    /// As at night.
-    Dark,
-}
-==== crates/upper/src/colour.rt
-//! Colours.
-
-use crate::tone::Tone;
-
-/// A colour.
-#[derive(Clone, Copy)]
-pub enum Colour {
-    /// Like blood.
-    #[error("it is red")]
-    Red,
-    /// Like the sky, in a tone (Doubled).
-    Blue(Tone),
-}
-
-impl Colour {
-    ghost use Rattle.lower.specs.Parts.{unused};
-
-    fn tone(self) -> u32
-        ensures { result ≡ unused }
-    {
-        0
-    }
-}
-==== crates/upper/src/tone.rt
-//! Tones.
-
-ghost use Rattle.std.specs.Prelude.{◌≡◌};
-ghost use Rattle.lower.specs.Parts.{Pair, hidden, plain, twice, unused};
-
-/// A tone.
-pub struct Tone {
-    depth: u8,
-}
-
-impl Model for Tone {
-    ghost Value = { Pair };
-}
-
-impl Model for Doubled {
-    ghost Value = { ℕ };
-}
-
-pub trait Doubles {
-    fn double(&self) -> u32
-        ensures { result ≡ twice self.now };
-}
-
-impl Doubles for Tone {
-    fn double(&self) -> u32
-        ensures { result ≡ hidden }
-    {
-        unused(self)
-    }
-}
-
-/// Says how deep it
-/// is. It takes its time.
-#[inline]
-pub fn public(tone: &Tone) -> u32
-    ensures { result ≡ plain }
-    ensures again { result ≡ record {
-      three = unused;
-    } }
-{
-    unused(tone)
-}
-
-pub fn empty()
-    ensures { plain ≡ plain }
-{}
-
-pub(crate) fn inner() -> u32
-    ensures { result ≡ unused }
-{
-    0
-}
 ==== crates/pb_program/src/ordered.rt the call that the program makes
 ghost use Rattle.upper.specs.Top.{Promise};
 
@@ -241,12 +151,15 @@ counts() {
 # laws: the theorem comes with its call and its laws, and what these rest on besides stands
 # behind them
 laws() {
-    holds prints --count << 'END'
+    theorem > "$work/theorem"
+    tail -n 3 "$work/theorem" > "$work/printed"
+    cat > "$work/due" << 'END'
 2 definitions, 4 lines, 12 tokens, 1 files
 with its laws: 4 definitions, 8 lines, 24 tokens, 2 files
 the program's call, however it ends: 7 definitions, 20 lines, 126 tokens, 4 files
 END
-    theorem | grep '^====\|^abbrev\|^///\|^    ensures' | head -n 16 > "$work/printed"
+    holds diff "$work/due" "$work/printed"
+    grep '^====\|^abbrev\|^///\|^    ensures' "$work/theorem" | head -n 16 > "$work/printed"
     cat > "$work/due" << 'END'
 ==== The program's call: crates/pb_program/src/ordered.rt
 /// Collects.
@@ -257,7 +170,7 @@ abbrev pub Promise : Colour → Type 0
 ==== crates/pb_commands/specs/Headline.antt
 abbrev pub headline : List ℕ
 abbrev pub HasHeadline : ℕ
-==== Its law, and what else that rests on: crates/pb_commands/src/run_laws.rt
+==== Its law, and what else that rests on: crates/pb_commands/src/laws.rt
 /// Sums up.
     ensures { Sentence ≡ Sentence }
 ==== crates/pb_commands/specs/Sentence.antt
@@ -268,69 +181,30 @@ END
     holds diff "$work/due" "$work/printed"
 }
 
-# listed: each public call comes with the first sentence of its comment, its clauses and what they
-# cite
-listed() {
-    holds prints --index upper << 'END'
-==== upper
-
-tone::double: (no comment)
-    ensures { result ≡ twice self.now }
-    by twice (lower.Parts)
-
-tone::public: Says how deep it is.
-    ensures { result ≡ plain }
-    ensures again { result ≡ record { three = unused; } }
-    by plain (lower.Parts), unused (lower.Parts)
-
-tone::empty: (no comment)
-    ensures { plain ≡ plain }
-    by plain (lower.Parts)
-
-END
-    holds test "$(theorem --index | head -n 1)" = '==== pb_commands'
-}
-
-# stands FILE LINES..: what is printed of a file: its name, and these of its lines, as sed has them
-stands() {
-    printf '==== %s\n\n' "$1"
-    file=$work/$1
-    shift
-    for lines; do sed -n "${lines}p" "$file" | grep -v '#\[' && echo; done
-}
-
-# printed: the definitions come as they stand, by their files, then types and words
+# printed: the definitions of a file come as they stand, with the comments over them and over their
+# part
 printed() {
+    theorem --of upper.Passed.turned_round | sed '/^==== What/,$d' > "$work/printed"
     {
-        stands crates/upper/specs/Top.antt 1 '/^-- the promise/,$'
-        stands crates/pb_commands/specs/Headline.antt 3,4
-        stands crates/lower/specs/Parts.antt 1,2 '/^-- two/,/^      →/'
-        stands crates/aside/specs/Extra.antt '/^abbrev/,$'
-        stands crates/upper/src/colour.rt '/^\/\/\/ A colour/,/^}/'
-        stands crates/upper/src/shade.rt '1,$'
-        cat << 'END'
-==== What definitions see in the place of types of fields
+        printf '==== crates/lower/specs/Parts.antt\n\n'
+        sed -n '1,2p; /^-- two/,/^-- kept/p' "$work/crates/lower/specs/Parts.antt" |
+            sed '2s/$/\n/; /^-- their sum/,/^$/d; /^-- kept/d'
+    } > "$work/due"
+    holds same_lines "$work/due" "$work/printed"
+}
 
-Tone (crates/upper/src/tone.rt): Pair
+# listed: a public call comes with its sentence, its clauses and what they cite
+listed() {
+    theorem --index pb_commands > "$work/printed"
+    cat > "$work/due" << 'END'
+==== pb_commands
 
-==== Words of the toolchain's library
+laws::sentence: Sums up.
+    ensures { Sentence ≡ Sentence }
+    by Sentence (pb_commands.Sentence)
 
-Rattle.std.specs.Prelude
-    ◌≡◌
-    ℕ
-    List
-    []
-    ◌∷◌
-    ◌+◌
-
-7 definitions, 20 lines, 126 tokens, 4 files
 END
-    } > "$work/stands"
-    holds prints --of upper.Top.Promise < "$work/stands"
-    stands crates/lower/specs/Parts.antt 1,2 '/^-- ---- what else/' '/^plain/' |
-        sed '$d' > "$work/stands"
-    theorem --of lower.Parts.plain | sed '/^plain = /q' > "$work/printed"
-    holds same_lines "$work/stands" "$work/printed"
+    holds diff "$work/due" "$work/printed"
 }
 
 # refuses MESSAGE OPTION..: whether the script ends with status 1, and says this alone
@@ -356,21 +230,4 @@ told() {
     holds refuses "docs/THEOREM.md: it has to say 'however it ends: 7, on 20 lines'" --check
 }
 
-# unknown: a name that nothing has is refused
-unknown() {
-    for name in lower.Parts.other lower.Other.sum other; do
-        holds refuses "scripts/theorem.py: no definition is named $name" --of "$name"
-    done
-}
-
-check 'what a definition rests on is counted' counts
-check 'the theorem comes with its laws' laws
-check 'public calls are listed with their contracts' listed
-if no_rt_there; then
-    check 'it is printed as it stands' printed
-else
-    leave_out 'rt is in /usr/bin' 'it is printed as it stands'
-fi
-check 'a document that tells another count is refused' told
-check 'a name that nothing has is refused' unknown
-finish
+try_all counts laws printed listed told

@@ -4,10 +4,10 @@
 # mistakes names. The program without a mistake passes them all; a mistake whose check isn't tried
 # over that one, for want of a tool, is left out.
 #
-# A mistake is a file tests/wrong_programs/PROGRAM-MISTAKE.edit: lines that tell what it does, a
-# line `seen by: SCRIPT CHECK`, a line `file: NAME` for each file below crates/ that it
-# changes, and pairs of lines `old: TEXT` and `new: TEXT` below it. Each old TEXT stands there
-# once. All mistakes of one PROGRAM are made at once.
+# A mistake is a file tests/wrong_programs/PROGRAM-MISTAKE.edit: a line `seen by SCRIPT CHECK: WHAT`
+# that tells what it does too, a line `file: NAME` for each file below crates/ that it changes, and
+# pairs of lines `old: TEXT` and `new: TEXT` below it. Each old TEXT stands there once. All mistakes
+# of one PROGRAM are made at once.
 #
 # The programs are built from a copy of the tree without proof, a minute or two each. Of tests/io.sh,
 # which takes such a program some minutes, a mistake names a run.
@@ -35,32 +35,23 @@ has_seer() {
 # make_mistake FILE: makes this mistake in the copy
 make_mistake() {
     has_seer "$1" || return 1
-    awk -v crates="$work/tree/crates/" '
-        # The text with its only place of the old text changed.
-        function changed(text, old, to,    at) {
-            at = index(text, old)
-            if (!at || index(substr(text, at + 1), old)) {
-                print "    the old text does not stand once in " path ": " old
-                failed = 1
-                exit 1
-            }
-            return substr(text, 1, at - 1) to substr(text, at + length(old))
-        }
-        function finish() {
-            if (path == "") return
-            printf "%s", text > path
-            close(path)
-        }
-        /^file: / {
-            finish()
-            path = crates substr($0, 7)
-            text = ""
-            while ((getline line < path) > 0) text = text line "\n"
-            close(path)
-        }
-        /^old: / { old = substr($0, 6) }
-        /^new:/ { text = changed(text, old, substr($0, 6)); made++ }
-        END { if (!failed) finish(); exit failed || !made }' "$1"
+    python3 -B - "$1" "$work/tree/crates" << 'END'
+import pathlib, sys
+made = 0
+for line in pathlib.Path(sys.argv[1]).read_text(encoding="utf-8").splitlines():
+    word, _, rest = line.partition(":")
+    rest = rest.removeprefix(" ")
+    if word == "file":
+        path = pathlib.Path(sys.argv[2], rest)
+    elif word == "old":
+        old = rest
+    elif word == "new":
+        text, made = path.read_text(encoding="utf-8"), made + 1
+        if text.count(old) != 1:
+            sys.exit(f"    the old text does not stand once in {path}: {old}")
+        path.write_text(text.replace(old, rest), encoding="utf-8")
+sys.exit(not made)
+END
 }
 
 # make_mistakes PROGRAM: makes its mistakes in a copy of the tree, or none for `right`
@@ -106,7 +97,7 @@ is_seen() {
 }
 
 # seen_by FILE..: the script and the check that see each of these mistakes
-seen_by() { sed -n 's/^seen by: //p' "$@"; }
+seen_by() { sed -n 's/^seen by \([^:]*\): .*/\1/p' "$@"; }
 
 # programs: the names of all that have mistakes
 programs() {

@@ -13,8 +13,7 @@ the stamp goes, and `rt check` makes the library again.
 import contextlib
 import fcntl
 import functools
-import importlib.machinery
-import importlib.util
+import importlib
 import json
 import os
 import pathlib
@@ -29,11 +28,8 @@ NOTED = pathlib.Path("build/made-of.json")
 def read_all():
     """The repository's libraries as the toolchain's command reads them, by name, lowest first."""
     page = subprocess.run(["rt", "doc"], capture_output=True, text=True, check=True).stdout.strip()
-    file = str(pathlib.Path(page).parent / "bin/rtlib.py")
-    loader = importlib.machinery.SourceFileLoader("rtlib", file)
-    rtlib = importlib.util.module_from_spec(importlib.util.spec_from_loader("rtlib", loader))
-    sys.modules["rtlib"] = rtlib
-    loader.exec_module(rtlib)
+    sys.path.append(str(pathlib.Path(page).parent / "bin"))
+    rtlib = importlib.import_module("rtlib")
     rtlib.Crate.stamp = functools.cache(rtlib.Crate.stamp)
     return {it.name: it for it in rtlib.crates_below(os.getcwd()) if it.makes_rlib()}
 

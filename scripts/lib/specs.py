@@ -59,6 +59,22 @@ def calls(source):
                        [" ".join(it.split()) for it in clauses], found[0].rstrip())
 
 
+def lines_of(lines, indent):
+    """Where the body of the function begins and ends that the first line begins, counted from it.
+    A declaration in a trait has none, which is 0."""
+    body, open_braces = 0, 0
+    for at, line in enumerate(lines, 1):
+        open_braces += line.count("{") - line.count("}")
+        is_own = line.startswith(indent) and not line.startswith(indent + " ")
+        if not body and is_own and line.endswith(("{", "{}")):
+            body = at
+        if body and is_own and line.endswith("}"):
+            return body, at
+        if not body and open_braces == 0 and line.endswith(";"):
+            break
+    return 0, 0
+
+
 def bodies(source):
     """The functions of a file that have a body, by the layout of `rt fmt`: their names, behind that
     of their type, and how many lines of the body are no comment."""
@@ -68,17 +84,9 @@ def bodies(source):
             to = re.match(r"impl(?:<.*?>)? (?:.* for )?(\w+)", first)
             owner = to[1] + "::" if to else ""
         begun = re.match(r"( *)(?:pub(?:\(\w+\))? )?(?:const )?fn (\w+)", first)
-        body = None
-        for end in range(at, len(lines)) if begun else ():
-            line = lines[end].removeprefix(begun[1])
-            if lines[end].startswith(begun[1] + " ") or not line:
-                continue
-            if body is None and line.endswith("{"):
-                body = end + 1
-            elif body is not None or end > at and line[0] not in ")>":
-                break
+        body, last = lines_of(lines[at:], begun[1]) if begun else (0, 0)
         if body:
-            inner = (it.strip() for it in lines[body:end])
+            inner = (it.strip() for it in lines[at + body : at + last - 1])
             yield owner + begun[2], sum(1 for it in inner if it and not it.startswith("//"))
 
 

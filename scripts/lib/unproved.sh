@@ -57,14 +57,10 @@ copy_built() {
 copy_tree() {
     rm -rf "$2"
     mkdir "$2"
-    cp "$1/crates.txt" "$1/HANDLES" "$2"
-    for folder in "$1"/crates/*/; do
-        made=$2/crates/$(basename "$folder")
-        mkdir -p "$made"
-        for part in "$folder"*; do
-            [ "${part##*/}" = out ] || cp -R "$part" "$made"
-        done
-    done
+    tar -C "$1" --anchored --no-wildcards-match-slash --exclude='crates/*/out' -cf "$2.tar" \
+        crates.txt HANDLES crates
+    tar -C "$2" -xf "$2.tar"
+    rm "$2.tar"
 }
 
 # build_unproved TREE PROGRAM: builds `pbook` of this tree so, with a version that says it. It waits

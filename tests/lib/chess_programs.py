@@ -31,11 +31,8 @@ def processor_time() -> float:
 
 def stockfish(orders: Iterable[str]) -> str:
     assert STOCKFISH
-    run = subprocess.run([STOCKFISH], input="\n".join([*orders, "quit\n"]), text=True,
-                         stdout=subprocess.PIPE, timeout=PATIENCE, check=False)
-    if run.returncode:
-        raise ValueError(f"Stockfish ends with status {run.returncode}")
-    return run.stdout
+    return subprocess.run([STOCKFISH], input="\n".join([*orders, "quit\n"]), text=True,
+                          stdout=subprocess.PIPE, timeout=PATIENCE, check=True).stdout
 
 
 def moves_by_stockfish(fens: Sequence[str]) -> list[set[str]]:
@@ -62,8 +59,7 @@ def records_by_stockfish(fens: Sequence[str]) -> list[str]:
 
 def pbook(*words: bytes | str, lines: Iterable[bytes] = (), place: str = ".") -> bytes:
     run = subprocess.run([PROGRAM, *words], input=b"".join(line + b"\n" for line in lines),
-                         stdout=subprocess.PIPE, stderr=subprocess.PIPE, cwd=place,
-                         timeout=PATIENCE, check=False)
+                         capture_output=True, cwd=place, timeout=PATIENCE, check=False)
     if run.returncode not in (0, 1):
         raise ValueError(f"pbook {words[0]!r} ends with status {run.returncode}:"
                          f" {run.stderr.decode(errors='replace')}")

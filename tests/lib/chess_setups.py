@@ -231,43 +231,43 @@ def changed_byte(chance: random.Random, text: bytes) -> bytes:
     return text[:at] + new + text[at + chance.randrange(2):]
 
 
-def changed_fields(chance: random.Random, text: bytes) -> bytes:
-    """Drops, doubles or swaps fields."""
-    parts = text.split(b" ")
+def moved_parts(chance: random.Random, parts: list[bytes]) -> list[bytes]:
+    """Drops, doubles or swaps parts."""
     a, b = chance.randrange(len(parts)), chance.randrange(len(parts))
-    how = chance.randrange(4)
+    how = chance.randrange(3)
     if how == 0:
         parts[a], parts[b] = parts[b], parts[a]
     elif how == 1:
         del parts[a]
     else:
-        parts.insert(a, b"" if how == 2 else parts[b])
-    return b" ".join(parts)
+        parts.insert(a, parts[b])
+    return parts
+
+
+def changed_fields(chance: random.Random, text: bytes) -> bytes:
+    """Drops, doubles or swaps fields, or adds an empty one."""
+    parts = text.split(b" ")
+    if chance.random() < 0.25:
+        parts.insert(chance.randrange(len(parts)), b"")
+        return b" ".join(parts)
+    return b" ".join(moved_parts(chance, parts))
 
 
 def changed_ranks(chance: random.Random, text: bytes) -> bytes:
     """Changes the ranks of a placement: their order, their number, and how empty squares stand."""
     placement, _, others = text.partition(b" ")
     ranks = placement.split(b"/")
-    a, b = chance.randrange(len(ranks)), chance.randrange(len(ranks))
-    how = chance.randrange(6)
-    if how == 0:
-        ranks[a], ranks[b] = ranks[b], ranks[a]
-    elif how == 1:
-        ranks[a] = chance.choice((b"8", b"44", b"9", b"7", b"0", b"08", b"", b"kK6", b"pppppppp",
-                                  b"PPPPPPPPP", b"3PP3", b"1111Q3", b"71", b"8p"))
-    elif how == 2:
-        del ranks[a]
-    elif how == 3:
-        ranks.insert(a, ranks[b])
-    elif how == 4:
-        ranks[a] = ranks[a].replace(b"k", b"K") if chance.random() < 0.5 else ranks[a].replace(
-            b"K", b"q")
+    if chance.random() < 0.5:
+        ranks = moved_parts(chance, ranks)
     else:
-        ranks[a] = ranks[a].swapcase()
+        a = chance.randrange(len(ranks))
+        ranks[a] = chance.choice((chance.choice(RANK_TEXTS), ranks[a].swapcase(), chance.choice((
+            ranks[a].replace(b"k", b"K"), ranks[a].replace(b"K", b"q")))))
     return b"/".join(ranks) + b" " + others
 
 
+RANK_TEXTS = (b"8", b"44", b"9", b"7", b"0", b"08", b"", b"kK6", b"pppppppp", b"PPPPPPPPP", b"3PP3",
+              b"1111Q3", b"71", b"8p")
 SQUARE_TEXTS = tuple(b"%c%c" % (a, b) for a in b"abcdefgh" for b in b"3645")
 NUMBER_TEXTS = (b"00", b"01", b"+1", b"-1", b"65535", b"65536", b"65537", b"99999", b"100000", b"",
                 b"1.", b"x", b"0x1", b"4294967297", b"18446744073709551617", b"6553", b"0", b"1")

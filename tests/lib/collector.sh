@@ -3,101 +3,27 @@
 # calls the system. It is read by `.` after tests/lib/places.sh. All of it is called in a check,
 # in the folder of that check.
 : "${place=}" "${work:?tests/lib/harness.sh is read first}" "${patience:?}" "${PROGRAM:?}"
+top=$PWD
 
 # Games of three workers, and the number of bytes of each line with its LF.
 games_of() { sed -n "$1p" "$work/games"; }
-bytes_of() { games_of "$1" | wc -c | tr -d ' '; }
+bytes_of() { games_of "$1" | wc -c; }
 id_of() { games_of "$1" | cut -f 1; }
 
 # traced FILE COMMAND..: runs the command, and writes its calls that open, read, write, sync, lock,
-# cut and rename files to this file. One call is a line.
+# cut, permit and rename files to this file
 traced() {
     to=$1
     shift
-    strace -y -s 0 -e signal=none -o "$to" -e trace=openat,flock,read,write,pwrite64,writev,\
-fsync,fdatasync,ftruncate,fchmod,rename,renameat,renameat2,unlink,exit_group "$@"
+    strace -f -y -xx -s 0 -e signal=none -o "$to" -e trace=openat,flock,read,write,pwrite64,\
+writev,fsync,fdatasync,ftruncate,fchmod,rename,renameat,renameat2,unlink "$@"
 }
 
-# events FILE [FOLDER]: the calls of such a file in short, a line each: what was done, the name of
-# the file as seen from this folder, or from that of the check, and what came of it. Standard input
-# is `games`, and standard output `replies`. Calls that fail aren't told, but for those of `flock`.
-events() {
-    awk -v here="${2:-$place}/" -v folder="${2:-$place}" '
-        # The name that a path has from here.
-        function name_of(path) {
-            sub(/ \(deleted\)$/, "", path)
-            if (path == folder) return "."
-            if (index(path, here) == 1) return substr(path, length(here) + 1)
-            return path
-        }
-        # The name of the open file that the text begins with, such as 4</folder/name>.
-        function opened(text,    number) {
-            number = text + 0
-            if (number == 0 && done != "openat") return "games"
-            if (number == 1 && done != "openat") return "replies"
-            sub(/^[0-9]+</, "", text)
-            return name_of(substr(text, 1, index(text, ">") - 1))
-        }
-        # The text between two quotes that comes at this place.
-        function quoted(text, at,    part) {
-            split(text, part, "\"")
-            return name_of(part[at * 2])
-        }
-        # The last argument of a call.
-        function last_of(given) {
-            sub(/\) = .*/, "", given)
-            sub(/.*, /, "", given)
-            return given
-        }
-        {
-            done = $0
-            sub(/\(.*/, "", done)
-            given = substr($0, length(done) + 2)
-            came = $0
-            sub(/.* = /, "", came)
-            if (done == "flock") {
-                how = given
-                sub(/^[^,]*, /, "", how)
-                sub(/[|)].*/, "", how)
-                print "flock", opened(given), how (came + 0 < 0 ? " in vain" : "")
-            }
-            if (came + 0 < 0) next
-            if (done == "openat") {
-                how = given ~ /O_RDWR/ ? "rw" : given ~ /O_WRONLY/ ? "w" : "r"
-                if (given ~ /O_CREAT/) how = "new"
-                if (given ~ /O_TRUNC/) how = how " emptied"
-                if (how == "new") how = how " " last_of(given)
-                print "open", opened(came), how
-            }
-            if (done == "fchmod") print "fchmod", opened(given), last_of(given)
-            if (done ~ /^p?writev?(64)?$/) print "write", opened(given), came + 0
-            if (done == "read") print "read", opened(given)
-            if (done ~ /^(fsync|fdatasync|ftruncate)$/) print done, opened(given)
-            if (done ~ /^rename/) print "rename", quoted(given, 1), "to", quoted(given, 2)
-            if (done == "unlink") print "unlink", quoted(given, 1)
-        }' "$1"
-}
-
-# joined: the events of standard input, where a text that is read, or one that is written to
-# another file than a journal or standard output, counts as one call
-joined() {
-    awk '
-        function tell() { if (last != "") print last, bytes; last = ""; bytes = "" }
-        $1 == "read" || ($1 == "write" && $2 !~ /journal$|^replies$/) {
-            if (last != $1 " " $2) tell()
-            last = $1 " " $2
-            if ($1 == "write") bytes += $3
-            next
-        }
-        { tell(); print }
-        END { tell() }' | sed 's/ $//'
-}
-
-# in_order FILE PATTERN [FILTER]: whether the events of the calls in the file that have this
-# pattern, as the filter gives them, are the lines of standard input
+# in_order FILE PATTERN [FILTER]: whether the calls in the file that have this pattern, in short and
+# as the filter gives them, are the lines of standard input
 in_order() {
     cat > due
-    events "$1" | joined | ${3:-cat} | grep -E "$2" > seen || true
+    python3 -B "$top/tests/lib/calls.py" "$1" "$place" | ${3:-cat} | grep -E "$2" > seen || true
     same_lines due seen
 }
 
@@ -160,6 +86,15 @@ say() {
 
 # say_ok NUMBER: so it is for the game of this number, which is its number in the reply too
 say_ok() { say "$1" "ok $(id_of "$1") $1"; }
+
+# says_all STATUS NUMBER..: so it is for these games in turn, and then the collector ends with this
+# status
+says_all() {
+    due_at_end=$1
+    shift
+    for number; do say_ok "$number" || return 1; done
+    end "$due_at_end"
+}
 
 # end STATUS: ends the submissions, and whether the collector then ends with this status; the other
 # lines of its output are in `rest`

@@ -13,7 +13,7 @@ from collections.abc import Iterator, Sequence
 from dataclasses import dataclass, field
 from typing import ClassVar
 
-from lib.crash_trace import Call
+from lib.calls import Call
 
 # Of what size the pieces are that a disk or a file system writes as one.
 UNITS = (1, 512, 4096)

@@ -10,7 +10,7 @@ from collections.abc import Iterator
 from dataclasses import dataclass, field
 
 from lib.crash_model import Entry, State
-from lib.crash_trace import PATIENCE
+from lib.calls import PATIENCE
 
 PROGRAM = os.path.abspath(os.environ.get("PROGRAM", "build/pbook"))
 TABLE = os.path.abspath("examples/table.txt")

@@ -1,7 +1,7 @@
 # shellcheck shell=sh
 # Shared by the scripts of the folder above. It is read by `.` at the top of the repository, and
-# makes the folder $work, which goes when the script ends, unless a check has failed. PROGRAM, where
-# it was set, is then a copy of that program in $work.
+# makes the folder $work, which goes when the script ends, unless a check has failed. The first one
+# that fails ends it. PROGRAM, where it was set, is then a copy of that program in $work.
 #
 # These scripts are for Linux alone, as the program is: they need GNU's coreutils (`date +%s%N`,
 # `stat -c`, `timeout`) and /proc/mounts. A check that needs more, such as flock, strace, setpriv
@@ -34,7 +34,7 @@ if [ -n "${PROGRAM:-}" ]; then
 fi
 
 # check NAME COMMAND..: runs a check and tells whether it holds. It runs in a subshell, in which
-# any command that fails ends it. The first check that fails ends the script.
+# any command that fails ends it.
 check() {
     name=$1
     shift
@@ -71,6 +71,18 @@ put_all() {
         { print > file }'
 }
 
+# pawn_setups COUNT: so many numbers from 0, each with a TAB and a setup of its own, of two ranks of
+# pawns, in which a king may go from e1 to d1 and e8 to d8
+pawn_setups() {
+    awk -v count="$1" 'BEGIN {
+        for (n = 0; n < count; n++) {
+            pawns = ""
+            for (bit = 1; bit <= 32768; bit *= 2) pawns = pawns (int(n / bit) % 2 ? "P" : "p")
+            printf "%d\t4k3/8/8/%s/%s/8/8/4K3 w - - 0 1\n", n, substr(pawns, 1, 8), substr(pawns, 9)
+        }
+    }'
+}
+
 # note TEXT: what the line of the running check tells beside its name
 note() { echo "$1" > "$work/note"; }
 
@@ -85,6 +97,7 @@ holds() {
 not() { if "$@"; then return 1; fi; }
 
 has() { command -v "$1" > /dev/null; }
+is_root() { [ "$(id -u)" -eq 0 ]; }
 # Without what is in /usr/bin there is no toolchain.
 no_rt_there() { ! env PATH=/usr/bin:/bin sh -c 'command -v rt' > /dev/null; }
 
@@ -124,7 +137,27 @@ leave_out() {
     echo "not tried, $why: $*"
 }
 
-# finish: tells how many checks hold. It fails where none was tried, nor left out for want of a tool.
+# choose CONDITION WHY CHECK..: has these checks tried where the condition holds, and else tells
+# why they are not
+chosen=
+choose() {
+    condition=$1 why=$2
+    shift 2
+    if $condition; then chosen="$chosen $*"; else leave_out "$why" "$@"; fi
+}
+
+# try_all CHECK..: tries these checks, or where none is given those that were chosen, each by its
+# own name. Where $around is a command, that runs each.
+around=
+try_all() {
+    # shellcheck disable=SC2086 # each name is a word
+    [ $# -gt 0 ] || set -- $chosen
+    for name; do check "$name" $around "$name"; done
+    finish
+}
+
+# finish: tells how many checks hold. It fails where none was tried, nor left out for want of a
+# tool.
 finish() {
     echo "$held checks hold, $untried were not tried"
     [ $((held + untried)) -gt 0 ]

@@ -14,6 +14,8 @@ prepare() { :; }
 
 # in_folder CHECK: runs a check in a new folder of its own, $place, in which BOOK, FILE and the
 # journal have these names
+# shellcheck disable=SC2034 # `try_all` reads it
+around=in_folder
 in_folder() {
     place=$work/$1
     # shellcheck disable=SC2034 # the checks read these names
@@ -23,8 +25,6 @@ in_folder() {
     prepare
     "$1"
 }
-
-is_root() { [ "$(id -u)" -eq 0 ]; }
 
 # as_other COMMAND..: runs the command as a user who isn't root
 as_other() {
@@ -117,23 +117,5 @@ can_mount() {
     mount -t tmpfs tmpfs "$work/probe" 2> /dev/null && umount "$work/probe"
 }
 can_be_other() { ! is_root || has setpriv; }
-can_own() { is_root && has setpriv; }
 # Where a container lets nobody trace, strace is there and fails.
 can_trace() { has strace && strace -o /dev/null true 2> /dev/null; }
-
-# choose CONDITION WHY CHECK..: has these checks tried where the condition holds, and else tells
-# why they are not
-chosen=
-choose() {
-    condition=$1 why=$2
-    shift 2
-    if $condition; then chosen="$chosen $*"; else leave_out "$why" "$@"; fi
-}
-
-# try_all CHECK..: tries these checks, or where none is given those that were chosen
-try_all() {
-    # shellcheck disable=SC2086 # each name is a word
-    [ $# -gt 0 ] || set -- $chosen
-    for name; do check "$name" in_folder "$name"; done
-    finish
-}

@@ -68,6 +68,8 @@ told_as_due() {
     cause=
     : > "$work/due.errors"
     case "$ample_status $*" in
+        '0 collect -q '*) ;;
+        '0 collect '* | '0 export '* | '1 check'*) echo "$unended" > "$work/due.errors" ;;
         '1 show '*) cause="../cut_book: .*" ;;
         '1 fen '*) cause="move 3: it isn't legal there" ;;
         '1 probe '*) cause="FEN: it doesn't have six fields, one space between each two" ;;
@@ -77,14 +79,7 @@ told_as_due() {
         '3 probe '*) cause='../no_book: no such file or directory' ;;
     esac
     cp "$work/ample.errors" "$work/errors"
-    if [ -n "$cause" ]; then
-        one_line_told "pbook: $cause"
-        return
-    fi
-    case "$ample_status $*" in
-        '0 collect -q '*) ;;
-        '0 collect '* | '0 export '* | '1 check'*) echo "$unended" > "$work/due.errors" ;;
-    esac
+    [ -z "$cause" ] || { one_line_told "pbook: $cause" && return; }
     cmp -s "$work/due.errors" "$work/errors" ||
         fails 'another text is on standard error' "$work/due.errors" "$work/errors"
 }

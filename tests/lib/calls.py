@@ -1,11 +1,16 @@
-"""Tells the calls of a run that change files, as strace has seen them."""
+"""Tells the calls of a run that change files, as strace has seen them.
+
+Usage: calls.py LOG FOLDER   prints those of a log in short, by names as seen from this folder
+"""
 from __future__ import annotations
 
 import itertools
 import os
+import pathlib
 import re
 import subprocess
-from collections.abc import Sequence
+import sys
+from collections.abc import Iterator, Sequence
 from dataclasses import dataclass
 
 # The calls that are followed, and what they are called here.
@@ -14,7 +19,8 @@ FOLLOWED = {
     "dup2": "dup", "dup3": "dup", "fcntl": "dup", "read": "read", "readv": "read", "lseek": "seek",
     "write": "write", "writev": "write", "pwrite64": "write", "pwritev": "write",
     "ftruncate": "resize", "fsync": "sync", "fdatasync": "sync", "rename": "rename",
-    "renameat": "rename", "unlink": "unlink", "unlinkat": "unlink"}
+    "renameat": "rename", "unlink": "unlink", "unlinkat": "unlink", "flock": "lock",
+    "fchmod": "permit"}
 # Those that change files in ways that the model doesn't know.
 UNKNOWN = (
     "truncate", "link", "linkat", "symlink", "symlinkat", "renameat2", "mkdir", "mkdirat", "rmdir",
@@ -82,14 +88,44 @@ def call_of(name: str, given: str, value: int, opened: str, place: str) -> Call 
     return Call(kind, fd, (path,), value, written[:max(value, 0)], at, flags)
 
 
-def calls_of(log: str, place: str) -> list[Call]:
-    """The calls that are followed, in their order."""
+def named_calls(log: str, place: str) -> Iterator[tuple[str, str, Call]]:
+    """The calls that are followed, in their order, with their names and arguments."""
     if "<unfinished" in log:
         raise ValueError("a program of several threads, which the model of crashes doesn't know")
-    lines = (LINE.fullmatch(line) for line in log.splitlines())
-    calls = (call_of(line[1], line[2], int(line[3], 0), line[4] or "", place)
-             for line in lines if line)
-    return [call for call in calls if call]
+    for line in filter(None, map(LINE.fullmatch, log.splitlines())):
+        call = call_of(line[1], line[2], int(line[3], 0), line[4] or "", place)
+        if call:
+            yield line[1], line[2], call
+
+
+def short(name: str, given: str, call: Call) -> list[str]:
+    """A call in short: what was done, of which file, and what came of it."""
+    path, last = str(call.paths[0]), given.rpartition(", ")[2]
+    match call.name:
+        case "open":
+            how = "rw" if "O_RDWR" in call.flags else "w" if "O_WRONLY" in call.flags else "r"
+            how = f"new {last}" if "O_CREAT" in call.flags else how
+            return ["open", path, how + " emptied" * ("O_TRUNC" in call.flags)]
+        case "write" | "reply":
+            return ["write", path if call.name == "write" else "replies", str(call.value)]
+        case "rename":
+            return ["rename", path, f"to {call.paths[1]}"]
+        case "lock" | "permit":
+            return [name, path, last.partition("|")[0]]
+    return [name, path]
+
+
+def in_short(log: str, place: str) -> list[str]:
+    """The calls in short. Reads of one file in a row count as one, and so do writes of one that is
+    neither a journal nor standard output."""
+    lines: list[list[str]] = []
+    for words in itertools.starmap(short, named_calls(log, place)):
+        is_text = words[0] == "write" and not words[1].endswith(("journal", "replies"))
+        if (is_text or words[0] == "read") and lines and lines[-1][:2] == words[:2]:
+            words[2:] = [str(sum(int(it[2]) for it in (words, lines[-1])))] if is_text else []
+            lines.pop()
+        lines.append(words)
+    return [" ".join(words) for words in lines]
 
 
 def converse(run: subprocess.Popen[bytes], lines: Sequence[bytes]) -> bytes:
@@ -120,6 +156,10 @@ def trace(command: Sequence[str], lines: Sequence[bytes], place: str,
         converse(run, lines)
         run.communicate()
     with open(log, encoding="ascii") as told:
-        calls = calls_of(told.read(), place)
+        calls = [call for _, _, call in named_calls(told.read(), place)]
     os.unlink(log)
     return calls, run.returncode
+
+
+if __name__ == "__main__":
+    print(*in_short(pathlib.Path(sys.argv[1]).read_text(encoding="ascii"), sys.argv[2]), sep="\n")
